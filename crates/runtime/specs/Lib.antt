@@ -1,0 +1,5 @@
+pub mod Bytes
+pub mod CallsLaws
+pub mod FieldName
+pub mod Reads
+pub mod ReadsLaws

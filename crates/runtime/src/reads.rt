@@ -1,0 +1,61 @@
+ghost use mathlib.Core.Path.{_≡_};
+ghost use Rattle.util.specs.Segments.{fileOffset, segmentsOf, offsetOf};
+ghost use Rattle.util.specs.Cstr.{textOf};
+ghost use Rattle.runtime.specs.Reads.{bytesPlace, textPlace};
+ghost use Rattle.runtime.specs.Bytes.{placeOf, bytesRead};
+use util::FileOffset;
+use util::Text;
+
+// Where bytes lie in the image.
+pub enum Bytes {
+    At(usize),
+    Nothing,
+}
+
+pub fn vm_to_file_offset(segments: &[u64], vmaddr: u64) -> FileOffset
+    ensures { λ r. ⌜ offsetOf r ≡ fileOffset (segmentsOf (now (segments .entry))) vmaddr ⌝ }
+{
+    util::vm_to_file_offset_in(segments, vmaddr)
+}
+
+// Where `len` bytes at an address lie. Only the first address is translated: the rest follows in the image, which alone bounds it.
+pub fn find_bytes(image: &[u8], segments: &[u64], vmaddr: u64, len: usize) -> Bytes
+    ensures { λ r. ⌜ placeOf r ≡ bytesPlace (now (image .entry)) (now (segments .entry)) vmaddr len ⌝ }
+{
+    match vm_to_file_offset(segments, vmaddr) {
+        FileOffset::At(offset) => {
+            let off = offset as usize;
+            if image.len() < off {
+                return Bytes::Nothing;
+            }
+            if image.len() - off < len {
+                return Bytes::Nothing;
+            }
+            Bytes::At(off)
+        }
+        FileOffset::Nothing => Bytes::Nothing,
+    }
+}
+
+// The bytes themselves, as that part of the image: empty where there are none.
+pub fn read_bytes<'a>(image: &'a [u8], segments: &[u64], vmaddr: u64, len: usize) -> &'a [u8]
+    ensures { λ r. ⌜ now r ≡ bytesRead (now (image .entry)) (now (segments .entry)) vmaddr len ⌝ }
+{
+    match find_bytes(image, segments, vmaddr, len) {
+        Bytes::At(off) => util::part(image, off, len),
+        Bytes::Nothing => &image[..0],
+    }
+}
+
+// The text at an address. There is none at address 0.
+pub fn read_cstr(image: &[u8], segments: &[u64], vmaddr: u64) -> Text
+    ensures { λ r. ⌜ textOf r ≡ textPlace (now (image .entry)) (now (segments .entry)) vmaddr ⌝ }
+{
+    if vmaddr == 0 {
+        return Text::Nothing;
+    }
+    match vm_to_file_offset(segments, vmaddr) {
+        FileOffset::At(offset) => util::read_cstr_at(image, offset as usize),
+        FileOffset::Nothing => Text::Nothing,
+    }
+}

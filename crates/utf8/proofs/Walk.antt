@@ -1,0 +1,129 @@
+-- Where a walk over the bytes stands, how it goes on by a byte, and how it ends: the laws of `scan_text`. Assumes nothing.
+use Prim.Native.Nat.{ℕ, zero, suc, _+_, _-_, _≤_, _<_}
+use native.Mathlib.Nat.{not-suc-le-zero}
+use native.Mathlib.Numerals.{add-one}
+use native.Mathlib.Decide.{decLt}
+use native.Mathlib.Omega.{arith}
+use mathlib.Core.Path.{_≡_, refl, sym, ap, subst, _∙_}
+use mathlib.Core.List.{List, [], _∷_, List·Memᴰ, List·Memᴰ·head, List·Memᴰ·tail}
+use mathlib.Core.Bool.{Bool, true, false}
+use mathlib.Core.Option.{Option, some, none}
+use lib.ListN.{length, getD, drop, replicate, drop-of-length-le}
+use lib.Seq.{drop-cons}
+use Rattle.utf8.specs.Table.{Range, table, _to_}
+use Rattle.utf8.specs.Text.{following, goesOn, untilNul, textLength, tailRanges}
+use Rattle.utf8.specs.Utf8Laws.{within-true, within-false, following-starts}
+use Rattle.utf8.proofs.Rows.{in-row}
+
+-- no row lets a NUL be the second byte
+abbrev SecondHigh : List Range → Type 0
+SecondHigh [] = Unit {0}
+SecondHigh (r ∷ []) = Unit {0}
+SecondHigh (r ∷ q ∷ rs) = 0 < q .low
+
+abbrev Each : List (List Range) → Type 0
+Each [] = Unit {0}
+Each (row ∷ rows) = SecondHigh row × Each rows
+
+second-high : {row : List Range} {rows : List (List Range)} → List·Memᴰ row rows → Each rows → SecondHigh row
+second-high (List·Memᴰ·head e) all = subst SecondHigh (sym e) (all .0)
+second-high (List·Memᴰ·tail m) all = second-high m (all .1)
+
+pub least-positive : (n low high b : ℕ) → some (tailRanges n low high) ≡ following table b → 0 < n → 0 < low
+unfolding table
+least-positive zero low high b e h = absurd (not-suc-le-zero h)
+least-positive (suc n) low high b e h = second-high (following-starts table b _ (sym e) .row) (omega arith)
+
+-- the walk is at i, with these ranges pending: the text is well-formed if what is left goes on in them, and is i bytes longer than that
+pub record Walk (s : List ℕ) (i : ℕ) (rs : List Range) : Type 0 where
+  pub formed : goesOn (untilNul s) [] ≡ goesOn (untilNul (drop i s)) rs
+  pub size : length (untilNul s) ≡ i + length (untilNul (drop i s))
+
+pub start : (s : List ℕ) → Walk s 0 []
+start s = record { formed = refl; size = omega arith }
+
+until-nul-cons : (b : ℕ) (t : List ℕ) → (b ≡ 0 → ⊥) → untilNul (b ∷ t) ≡ b ∷ untilNul t
+unfolding untilNul
+until-nul-cons zero t h = absurd (h refl)
+until-nul-cons (suc b) t h = refl
+
+later : (n : ℕ) → replicate n (0x80 to 0xbf) ≡ tailRanges n 0x80 0xbf
+later zero = refl
+later (suc n) = refl
+
+pub tail-done : (s : List ℕ) (i n low high : ℕ) → n ≤ 0 → Walk s i (tailRanges n low high) → Walk s i []
+tail-done s i zero low high h w = w
+tail-done s i (suc n) low high h w = absurd (not-suc-le-zero h)
+
+module _ (s : List ℕ) (i : ℕ) (inside : i < length s) where
+  here : (getD s i 0 ≡ 0 → ⊥) → untilNul (drop i s) ≡ getD s i 0 ∷ untilNul (drop (i + 1) s)
+  here h = rw (add-one, drop-cons s i 0 inside) (until-nul-cons _ _ h)
+
+  -- on by a byte that is no NUL
+  step : (rs rs′ : List Range) → (getD s i 0 ≡ 0 → ⊥) → ((t : List ℕ) → goesOn (getD s i 0 ∷ t) rs ≡ goesOn t rs′) → Walk s i rs → Walk s (i + 1) rs′
+  step rs rs′ h g w =
+      record {
+        formed = w .formed ∙ ap (λ t. goesOn t rs) (here h) ∙ g _;
+        size = omega (arith, w .size, ap length (here h));
+      }
+
+  pub lead-step : (rs : List Range) → (getD s i 0 ≡ 0 → ⊥) → some rs ≡ following table (getD s i 0) → Walk s i [] → Walk s (i + 1) rs
+  unfolding goesOn
+  lead-step rs h e = step [] rs h (λ t. rw (← e, goesOn))
+
+  pub ascii-step : (getD s i 0 ≡ 0 → ⊥) → getD s i 0 < 0x80 → Walk s i [] → Walk s (i + 1) []
+  unfolding table
+  ascii-step h l = lead-step [] h (in-row 0 table (getD s i 0) (omega arith))
+
+  pub tail-step : (n low high : ℕ) → 0 < n → 0 < low → low ≤ getD s i 0 → getD s i 0 ≤ high → Walk s i (tailRanges n low high) → Walk s (i + 1) (tailRanges (n - 1) 0x80 0xbf)
+  unfolding goesOn
+  tail-step zero low high p q l h w = absurd (not-suc-le-zero p)
+  tail-step (suc n) low high p q l h w =
+      let less : suc n - 1 ≡ n = omega arith in
+      step _ _ (λ e. omega arith) (λ t. rw (within-true (low to high) _ l h, less) (ap (goesOn t) (later n))) w
+
+  pub no-lead : (getD s i 0 ≡ 0 → ⊥) → none ≡ following table (getD s i 0) → goesOn (untilNul (drop i s)) [] ≡ false
+  unfolding goesOn
+  no-lead h e = rw (here h, ← e, goesOn)
+
+  pub at-nul : getD s i 0 ≡ 0 → untilNul (drop i s) ≡ []
+  unfolding untilNul
+  at-nul e = rw (drop-cons s i 0 inside, e)
+
+pub at-end : (s : List ℕ) (i : ℕ) → length s ≤ i → untilNul (drop i s) ≡ []
+unfolding untilNul
+at-end s i h = rw (drop-of-length-le s h)
+
+-- ranges are pending, and no byte is there for them
+none-left : (n low high : ℕ) → 0 < n → goesOn [] (tailRanges n low high) ≡ false
+unfolding goesOn
+none-left zero low high h = absurd (not-suc-le-zero h)
+none-left (suc n) low high h = refl
+
+refused : (b : ℕ) (t : List ℕ) (n low high : ℕ) → 0 < n → (low ≤ b → b ≤ high → ⊥) → goesOn (untilNul (b ∷ t)) (tailRanges n low high) ≡ false
+unfolding goesOn untilNul
+refused b t zero low high h out = absurd (not-suc-le-zero h)
+refused zero t (suc n) low high h out = refl
+refused (suc b) t (suc n) low high h out = rw (within-false (low to high) (suc b) out)
+
+pub no-tail : (s : List ℕ) (i n low high : ℕ) → 0 < n → (i < length s → low ≤ getD s i 0 → getD s i 0 ≤ high → ⊥) → goesOn (untilNul (drop i s)) (tailRanges n low high) ≡ false
+no-tail s i n low high h out =
+    elim (decLt i (length s)) [
+      | yes l ↦ rw (drop-cons s i 0 l) (refused _ _ n low high h (out l))
+      | no l ↦ rw (at-end s i (omega arith)) (none-left n low high h)
+    ]
+
+-- what a walk that was left at i answers
+abbrev pub outcome : Bool → ℕ → Option ℕ
+outcome true i = some i
+outcome false i = none
+
+pub ends : (s : List ℕ) {i j : ℕ} {formed : Bool} → j ≡ i → formed ≡ true → Walk s i [] → untilNul (drop i s) ≡ [] → outcome formed j ≡ textLength s
+unfolding goesOn textLength
+ends s {i} p f w e =
+    let g : goesOn (untilNul s) [] ≡ true = w .formed ∙ ap (λ t. goesOn t []) e in
+    rw (f, g, textLength) (ap some (omega (arith, w .size, ap length e)))
+
+pub ill-formed : (s : List ℕ) (j : ℕ) {i : ℕ} {rs : List Range} {formed : Bool} → formed ≡ false → Walk s i rs → goesOn (untilNul (drop i s)) rs ≡ false → outcome formed j ≡ textLength s
+unfolding textLength
+ill-formed s j f w e = rw (f, w .formed ∙ e, textLength)

@@ -1,0 +1,145 @@
+-- `utf8::scan_text` meets its contract. Both loops carry where the walk stands (`Walk`): the outer one with nothing pending, the inner one with
+-- the ranges of the bytes that the sequence still has to have. `formed` is true in both, since each way that makes it false leaves at once. Assumes nothing.
+use Prim.Native.Nat.{_≤_, _<_, _-_}
+use native.Mathlib.Omega.{arith}
+use borrow.Author.Needs.{needs}
+use borrow.Author.Tests.{ltb-false, ltb-true}
+use mathlib.Core.Path.{_≡_, refl, sym, ap, _∙_}
+use mathlib.Core.Logic.{⊎-elim}
+use mathlib.Core.Bool.{true}
+use mathlib.Core.List.{[]}
+use lib.ListN.{length}
+use Rattle.utf8.specs.Text.{tailRanges, textLength, leads}
+use Rattle.utf8.proofs.Walk.{Walk, start, least-positive, lead-step, ascii-step, tail-step, tail-done, no-lead, no-tail, at-nul, at-end, outcome, ends, ill-formed}
+use Rattle.utf8.proofs.scan_text.Statement.{statement}
+use Rattle.utf8.proofs.scan_text.Tie as tie
+
+abbrev Inv-loop : tie.InvT-loop
+Inv-loop s i₀ formed₀ b count low high left₀ least₀ most₀ i formed left least most =
+    (i₀ ≤ i) × (i ≤ length s) × (formed ≡ true) × (0 < left → 0 < least) × Walk s i (tailRanges left least most)
+
+abbrev μ-loop : tie.MeasureT-loop
+μ-loop s i₀ formed₀ b count low high left₀ least₀ most₀ i formed left least most = left
+
+abbrev Inv-scan : tie.InvT-scan
+Inv-scan s i₀ formed₀ i formed = (i ≤ length s) × (formed ≡ true) × Walk s i []
+
+abbrev μ-scan : tie.MeasureT-scan
+μ-scan s i₀ formed₀ i formed = length s - i
+
+scan-holds : tie.Need-scan-holds Inv-loop μ-loop Inv-scan μ-scan
+scan-holds c = (omega arith, refl, start _)
+
+shared-slice-read-b : tie.Need-shared-slice-read-b Inv-loop μ-loop Inv-scan μ-scan
+shared-slice-read-b c = search needs
+
+add-i : tie.Need-add-i Inv-loop μ-loop Inv-scan μ-scan
+add-i c = search needs
+
+lead-limits-requires : tie.Need-lead-limits-requires Inv-loop μ-loop Inv-scan μ-scan
+lead-limits-requires c κs = search needs
+
+enum-known-l : tie.Need-enum-known-l Inv-loop μ-loop Inv-scan μ-scan
+enum-known-l c = search needs
+
+enum-told : tie.Need-enum-told Inv-loop μ-loop Inv-scan μ-scan
+enum-told c = search needs
+
+loop-holds : tie.Need-loop-holds Inv-loop μ-loop Inv-scan μ-scan
+loop-holds c =
+    let called = c .before .before .before in
+    let byte = called .before .before in
+    let at = byte .before .before .before .scan in
+    let asked = sym (ap leads (c .before .l .given .1)) ∙ called .lead-limits .ensures in
+    let walk = lead-step _ _ (byte .before .before .scan-test .taken) _ (byte .if1 .left) asked (at .inv .2) in
+    (omega arith, omega arith, at .inv .1, least-positive _ _ _ _ asked, walk)
+
+scan-less : tie.Need-scan-less Inv-loop μ-loop Inv-scan μ-scan
+scan-less c = search needs
+
+scan-again : tie.Need-scan-again Inv-loop μ-loop Inv-scan μ-scan
+scan-again c =
+    let at = c .before .loop in
+    (at .inv .1, at .inv .2, tail-done _ _ _ _ _ (c .loop-test .left) (at .inv .4))
+
+shared-slice-read-c : tie.Need-shared-slice-read-c Inv-loop μ-loop Inv-scan μ-scan
+shared-slice-read-c c = search needs
+
+sub-left : tie.Need-sub-left Inv-loop μ-loop Inv-scan μ-scan
+sub-left c = search needs
+
+add-i-2 : tie.Need-add-i-2 Inv-loop μ-loop Inv-scan μ-scan
+add-i-2 c = search needs
+
+loop-less : tie.Need-loop-less Inv-loop μ-loop Inv-scan μ-scan
+loop-less c = search needs
+
+loop-again : tie.Need-loop-again Inv-loop μ-loop Inv-scan μ-scan
+loop-again c =
+    let inside = c .before .before .before in
+    let at = inside .before .before .loop in
+    let more = inside .before .loop-test .taken in
+    let walk = tail-step _ _ (inside .if3 .left) _ _ _ more (at .inv .3 more) (c .before .if4 .left) (ltb-false _ _ (c .if5 .left)) (at .inv .4) in
+    (omega arith, omega arith, at .inv .2, omega arith, walk)
+
+scan-less-2 : tie.Need-scan-less-2 Inv-loop μ-loop Inv-scan μ-scan
+scan-less-2 c = search needs
+
+scan-again-2 : tie.Need-scan-again-2 Inv-loop μ-loop Inv-scan μ-scan
+scan-again-2 c =
+    let inside = c .before .before .before in
+    let at = inside .before .scan in
+    (omega arith, at .inv .1, ascii-step _ _ (inside .scan-test .taken) (c .before .if1 .left) (c .if2 .left) (at .inv .2))
+
+-- the five ways out: the bytes' end, a NUL, a byte that starts no sequence, the end in a sequence, and a byte that does not go on with it
+left-scan : (c : tie.Left-scan Inv-loop μ-loop Inv-scan μ-scan) → outcome (c .scan-test .formed) (c .scan-test .i) ≡ textLength (c .before .before .before .args .s .now)
+left-scan c =
+    let s = c .before .before .before .args .s .now in
+    let at = c .before .scan in
+    let i = c .scan-test .i in
+    ⊎-elim
+    (λ w. ends s (w .1) (w .2 ∙ at .inv .1) (at .inv .2) (at-end s _ (w .0 .left)))
+    (⊎-elim
+    (λ w. ends s (w .3) (w .4 ∙ at .inv .1) (at .inv .2) (at-nul s _ (w .0 .taken) (w .2 .taken)))
+    (⊎-elim
+    (λ w. ill-formed s i (w .8) (at .inv .2) (no-lead s _ (w .0 .taken) (w .2 .left) (sym (ap leads (w .6 .given .1)) ∙ w .4 .ensures)))
+    (⊎-elim
+    (λ w. ill-formed s i (w .12) (w .8 .inv .4) (no-tail s (w .8 .i) _ _ _ (w .9 .taken) (λ l low high. omega arith)))
+    (λ w.
+    ill-formed s i (w .14) (w .8 .inv .4)
+    (no-tail s (w .8 .i) _ _ _ (w .9 .taken)
+    (λ l low high. ⊎-elim (λ v. omega arith) (λ v. omega (arith, ltb-true)) (w .12 .came)))))))
+    (c .scan-test .came)
+
+returns : tie.Need-returns Inv-loop μ-loop Inv-scan μ-scan
+returns c = rw (c .if6 .taken) at (left-scan (c .before))
+
+returns-2 : tie.Need-returns-2 Inv-loop μ-loop Inv-scan μ-scan
+returns-2 c = rw (c .if6 .left) at (left-scan (c .before))
+
+pub scan-text-spec : {M : Type 1} → statement M
+scan-text-spec =
+    tie.close
+    (tie.spec
+    Inv-loop
+    μ-loop
+    Inv-scan
+    μ-scan
+    scan-holds
+    shared-slice-read-b
+    add-i
+    lead-limits-requires
+    enum-known-l
+    enum-told
+    loop-holds
+    scan-less
+    scan-again
+    shared-slice-read-c
+    sub-left
+    add-i-2
+    loop-less
+    loop-again
+    scan-less-2
+    scan-again-2
+    returns
+    returns-2)

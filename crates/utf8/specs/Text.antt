@@ -1,0 +1,55 @@
+-- A text in a list of bytes, as a computation: up to the first NUL or to the end, and there only if it is well-formed.
+use Prim.Native.Nat.{ℕ, zero, suc}
+use mathlib.Core.List.{List, [], _∷_}
+use mathlib.Core.Bool.{Bool, true, false, _&&_}
+use mathlib.Core.Option.{Option, some, none}
+use lib.ListN.{length, replicate}
+use lib.Dec.{leb}
+use Rattle.utf8.specs.Table.{Range, table, _to_}
+use Rattle.utf8.specs.declared.Scan.{Scan}
+use Rattle.utf8.specs.declared.Lead.{Lead}
+use Rattle.utf8.specs.declared.Lead.the-variants.{Tail, Invalid}
+use Rattle.utf8.specs.declared.Scan.the-variants.{Text, IllFormed}
+
+abbrev pub within : Range → ℕ → Bool
+within r b = leb (r .low) b && leb b (r .high)
+
+-- what has to follow a byte that starts a sequence of one of the rows
+unfoldable pub following : List (List Range) → ℕ → Option (List Range)
+following [] b = none
+following ([] ∷ rows) b = following rows b
+following ((r ∷ rs) ∷ rows) b = elim (within r b) [ true ↦ some rs | false ↦ following rows b ]
+
+-- whether bytes that have to start in the pending ranges, and then go on with whole sequences, do so.
+-- `Utf8Laws.sound` and `Utf8Laws.complete` say that with nothing pending this is `WellFormed`.
+unfoldable pub goesOn : List ℕ → List Range → Bool
+goesOn [] [] = true
+goesOn [] (r ∷ rs) = false
+goesOn (b ∷ bs) [] = elim (following table b) [ none ↦ false | some rs ↦ goesOn bs rs ]
+goesOn (b ∷ bs) (r ∷ rs) = within r b && goesOn bs rs
+
+abbrev pub wellFormed : List ℕ → Bool
+wellFormed s = goesOn s []
+
+-- the bytes before the first NUL, all where there is none
+unfoldable pub untilNul : List ℕ → List ℕ
+untilNul [] = []
+untilNul (zero ∷ s) = []
+untilNul (suc b ∷ s) = suc b ∷ untilNul s
+
+-- document 01, "Bytes and texts at an address": the length of the text at the start of these bytes, if it is well-formed
+unfoldable pub textLength : List ℕ → Option ℕ
+textLength s = elim (wellFormed (untilNul s)) [ true ↦ some (length (untilNul s)) | false ↦ none ]
+
+abbrev pub scanned : Scan → Option ℕ
+scanned (Text n) = some n
+scanned IllFormed = none
+
+-- `n` continuation bytes, the first of them between `low` and `high`
+abbrev pub tailRanges : ℕ → ℕ → ℕ → List Range
+tailRanges zero low high = []
+tailRanges (suc n) low high = _to_ low high ∷ replicate n (_to_ 0x80 0xbf)
+
+abbrev pub leads : Lead → Option (List Range)
+leads (Tail n low high) = some (tailRanges n low high)
+leads Invalid = none

@@ -1,0 +1,164 @@
+-- What `wellFormed` accepts is well-formed by Table 3-7 (`sound`), and what is well-formed it accepts (`complete`).
+-- And which bytes `untilNul` and `textLength` speak of. Assumes nothing.
+use Prim.Native.Nat.{ℕ, zero, suc, _≤_}
+use native.Mathlib.Omega.{arith}
+use mathlib.Core.Path.{_≡_, refl, ap, subst}
+use mathlib.Core.List.{List, [], _∷_, _++_, List·Memᴰ, List·Memᴰ·head, List·Memᴰ·tail, List·Memᴰ·cases-cons, List·Memᴰ·not-nil}
+use mathlib.Core.Bool.{Bool, true, false, and-eq-true-iff, false≢true}
+use mathlib.Core.Option.{Option, some, none}
+use mathlib.Core.Logic.{⊎-elim}
+use lib.ListN.{length, take}
+use borrow.Author.Tests.{le-leb, leb-true}
+use Rattle.utf8.specs.Table.{Range, table, Sequence, WellFormed}
+use Rattle.utf8.specs.Text.{within, following, goesOn, wellFormed, untilNul, textLength}
+
+-- rows in the order of their lead bytes, the first of which is at least n
+abbrev Ordered : ℕ → List (List Range) → Type 0
+Ordered n [] = Unit {0}
+Ordered n ([] ∷ rows) = ⊥
+Ordered n ((r ∷ rs) ∷ rows) = (n ≤ r .low) × (r .low ≤ r .high) × Ordered (suc (r .high)) rows
+
+table-ordered : Ordered 0 table
+unfolding table
+table-ordered = omega arith
+
+pub within-true : (r : Range) (b : ℕ) → r .low ≤ b → b ≤ r .high → within r b ≡ true
+within-true r b l h = rw (le-leb _ _ l, le-leb _ _ h)
+
+pub within-bounds : (r : Range) (b : ℕ) → within r b ≡ true → (r .low ≤ b) × (b ≤ r .high)
+within-bounds r b w = let both = and-eq-true-iff _ _ .0 w in (leb-true _ _ (both .0), leb-true _ _ (both .1))
+
+pub within-false : (r : Range) (b : ℕ) → (r .low ≤ b → b ≤ r .high → ⊥) → within r b ≡ false
+within-false r b out = go (within r b) refl
+  where
+    go : (t : Bool) → within r b ≡ t → within r b ≡ false
+    go true w = let bounds = within-bounds r b w in absurd (out (bounds .0) (bounds .1))
+    go false w = w
+
+-- a byte that starts a sequence of a row, and what the row asks after it
+pub record Starts (rows : List (List Range)) (b : ℕ) (rs : List Range) : Type 0 where
+  pub lead : Range
+  pub row : List·Memᴰ (lead ∷ rs) rows
+  pub bounds : (lead .low ≤ b) × (b ≤ lead .high)
+
+starts-later : {row : List Range} {rows : List (List Range)} {b : ℕ} {rs : List Range} → Starts rows b rs → Starts (row ∷ rows) b rs
+starts-later s = record { lead = s .lead; row = List·Memᴰ·tail (s .row); bounds = s .bounds }
+
+pub following-starts : (rows : List (List Range)) (b : ℕ) (rs : List Range) → following rows b ≡ some rs → Starts rows b rs
+unfolding following
+following-starts [] b rs e = let z : _≡_ {A = ℕ} 0 1 = cc in absurd (omega arith)
+following-starts ([] ∷ rows) b rs e = starts-later (following-starts rows b rs e)
+following-starts ((r ∷ rs′) ∷ rows) b rs e = go (λ k. following-starts rows b rs k) (within r b) refl
+  where
+    go : (following rows b ≡ some rs → Starts rows b rs) → (t : Bool) → within r b ≡ t → Starts ((r ∷ rs′) ∷ rows) b rs
+    go later true w =
+        let f : some rs′ ≡ some rs = rw (w, following) at e in
+        record { lead = r; row = List·Memᴰ·head {x = r ∷ rs′} (cc); bounds = within-bounds r b w }
+    go later false w = starts-later (later (rw (w, following) at e))
+
+-- the rows are apart by their lead bytes, so the row of a lead byte is the one that is found
+starts-following : (n : ℕ) (rows : List (List Range)) (b : ℕ) (rs : List Range) → Ordered n rows → Starts rows b rs → (n ≤ b) × (following rows b ≡ some rs)
+unfolding following
+starts-following n [] b rs o s = absurd (List·Memᴰ·not-nil (s .row))
+starts-following n ([] ∷ rows) b rs o s = absurd o
+starts-following n ((r ∷ rs′) ∷ rows) b rs o s =
+    ⊎-elim
+    (λ (e : s .lead ∷ rs ≡ r ∷ rs′).
+    let l : s .lead ≡ r = cc in
+    let t : rs′ ≡ rs = cc in
+    let bounds : (r .low ≤ b) × (b ≤ r .high) = rw l at (s .bounds) in
+    (omega arith, rw (within-true r b (bounds .0) (bounds .1), following) (ap some t)))
+    (λ m.
+    let later = starts-following (suc (r .high)) rows b rs (o .2) (record { lead = s .lead; row = m; bounds = s .bounds }) in
+    (omega arith, rw (within-false r b (λ l h. omega arith), following) (later .1)))
+    (List·Memᴰ·cases-cons (s .row))
+
+-- where a text goes on in the pending ranges: a sequence of these, and then a well-formed text
+record Split (rs : List Range) (s : List ℕ) : Type 0 where
+  now : List ℕ
+  then : List ℕ
+  whole : now ++ then ≡ s
+  sequence : Sequence rs now
+  rest : WellFormed then
+
+split : (s : List ℕ) (rs : List Range) → goesOn s rs ≡ true → Split rs s
+unfolding goesOn
+split [] [] e = record { now = []; then = []; whole = refl; sequence = Sequence.none; rest = WellFormed.empty }
+split [] (r ∷ rs) e = absurd (false≢true e)
+split (b ∷ bs) [] e = go (λ rs k. split bs rs k) (following table b) refl
+  where
+    go : ((rs : List Range) → goesOn bs rs ≡ true → Split rs bs) → (o : Option (List Range)) → following table b ≡ o → Split [] (b ∷ bs)
+    go later none f = absurd (false≢true (rw (f, goesOn) at e))
+    go later (some rs) f =
+        let l = later rs (rw (f, goesOn) at e) in
+        let s = following-starts table b rs f in
+        let q = Sequence.byte (s .bounds .0) (s .bounds .1) (l .sequence) in
+        record {
+          now = [];
+          then = b ∷ bs;
+          whole = refl;
+          sequence = Sequence.none;
+          rest = subst WellFormed (ap (λ t. b ∷ t) (l .whole)) (WellFormed.sequence (s .row) q (l .rest));
+        }
+split (b ∷ bs) (r ∷ rs) e =
+    let both = and-eq-true-iff (within r b) (goesOn bs rs) .0 e in
+    let bounds = within-bounds r b (both .0) in
+    let l = split bs rs (both .1) in
+    record {
+      now = b ∷ l .now;
+      then = l .then;
+      whole = ap (λ t. b ∷ t) (l .whole);
+      sequence = Sequence.byte (bounds .0) (bounds .1) (l .sequence);
+      rest = l .rest;
+    }
+
+pub sound : (s : List ℕ) → wellFormed s ≡ true → WellFormed s
+sound s e = let l = split s [] e in go (l .sequence) (l .rest) (l .whole)
+  where
+    go : {t u : List ℕ} → Sequence [] t → WellFormed u → t ++ u ≡ s → WellFormed s
+    go Sequence.none w e = subst WellFormed e w
+
+goes-on : {rs : List Range} {s : List ℕ} (t : List ℕ) → Sequence rs s → goesOn t [] ≡ true → goesOn (s ++ t) rs ≡ true
+unfolding goesOn
+goes-on t Sequence.none e = e
+goes-on t (Sequence.byte l h q) e = rw (within-true _ _ l h) (goes-on t q e)
+
+pub complete : (s : List ℕ) → WellFormed s → wellFormed s ≡ true
+unfolding goesOn
+complete _ WellFormed.empty = refl
+complete _ (WellFormed.sequence {t = t} m q w) = go m q (complete t w)
+  where
+    go : {row : List Range} {s : List ℕ} → List·Memᴰ row table → Sequence row s → wellFormed t ≡ true → wellFormed (s ++ t) ≡ true
+    go m Sequence.none e = e
+    go m (Sequence.byte {r = r} {rs = rs} {b = b} l h q) e =
+        rw (starts-following 0 table b rs table-ordered (record { lead = r; row = m; bounds = (l, h) }) .1, goesOn) (goes-on t q e)
+
+pub until-nul-length : (s : List ℕ) → length (untilNul s) ≤ length s
+unfolding untilNul
+until-nul-length [] = omega arith
+until-nul-length (zero ∷ s) = omega arith
+until-nul-length (suc b ∷ s) = omega (arith, until-nul-length s)
+
+pub take-until-nul : (s : List ℕ) → take (length (untilNul s)) s ≡ untilNul s
+unfolding untilNul
+take-until-nul [] = refl
+take-until-nul (zero ∷ s) = refl
+take-until-nul (suc b ∷ s) = ap (λ t. suc b ∷ t) (take-until-nul s)
+
+-- a text is all the bytes before the first NUL, and they are well-formed
+pub text-length : (s : List ℕ) (n : ℕ) → textLength s ≡ some n → (n ≡ length (untilNul s)) × (wellFormed (untilNul s) ≡ true)
+unfolding textLength
+text-length s n e = go (wellFormed (untilNul s)) refl
+  where
+    go : (t : Bool) → wellFormed (untilNul s) ≡ t → (n ≡ length (untilNul s)) × (wellFormed (untilNul s) ≡ true)
+    go true w = let f : some (length (untilNul s)) ≡ some n = rw (w, textLength) at e in (cc, w)
+    go false w = let f : none ≡ some n = rw (w, textLength) at e in let z : _≡_ {A = ℕ} 0 1 = cc in absurd (omega arith)
+
+pub text-length-le : (s : List ℕ) (n : ℕ) → textLength s ≡ some n → n ≤ length s
+text-length-le s n e = omega (arith, text-length s n e, until-nul-length s)
+
+pub text-bytes : (s : List ℕ) (n : ℕ) → textLength s ≡ some n → take n s ≡ untilNul s
+text-bytes s n e = rw (text-length s n e .0) (take-until-nul s)
+
+pub text-well-formed : (s : List ℕ) (n : ℕ) → textLength s ≡ some n → WellFormed (take n s)
+text-well-formed s n e = rw (text-bytes s n e) (sound _ (text-length s n e .1))

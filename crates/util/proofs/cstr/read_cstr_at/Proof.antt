@@ -1,0 +1,53 @@
+-- `util::cstr::read_cstr_at` meets its contract: the text of the slice from the offset on.
+-- Assumes nothing.
+use native.Mathlib.Omega.{arith}
+use Rattle.utf8.specs.Text.{scanned}
+use Rattle.util.specs.Answers.{told}
+use Rattle.util.specs.CstrLaws.{text-past, text-scanned}
+use borrow.Author.Needs.{needs}
+use Rattle.util.proofs.cstr.read_cstr_at.Statement.{statement}
+use Rattle.util.proofs.cstr.read_cstr_at.Tie as tie
+use Rattle.util.proofs.cstr.read_cstr_at.Reads as reads
+use Rattle.util.proofs.cstr.read_cstr_at.Lts as lts
+use Rattle.utf8.proofs.scan_text.Reads as scan-text-reads
+
+returns : tie.Need-returns
+returns c = text-past _ _ (omega arith)
+
+sub-scan-text : tie.Need-sub-scan-text
+sub-scan-text c = search needs
+
+part-scan-text-start : tie.Need-part-scan-text-start
+part-scan-text-start c = search needs
+
+part-scan-text-end : tie.Need-part-scan-text-end
+part-scan-text-end c = search needs
+
+scan-text-requires : tie.Need-scan-text-requires
+scan-text-requires c κs = search needs
+
+enum-known-length : tie.Need-enum-known-length
+enum-known-length c = search needs
+
+enum-told : tie.Need-enum-told
+enum-told c = search needs
+
+returns-2 : tie.Need-returns-2
+returns-2 c = text-scanned _ _ _ (told scanned (c .before .before .before .scan-text .ensures) (c .before .length .given .1)) (omega arith)
+
+returns-3 : tie.Need-returns-3
+returns-3 c = text-scanned _ _ _ (told scanned (c .before .before .scan-text .ensures) (c .enum-told .given .1)) (omega arith)
+
+pub read-cstr-at-spec : {M : Type 1} → statement M
+read-cstr-at-spec =
+    tie.close
+    (tie.spec
+    returns
+    sub-scan-text
+    part-scan-text-start
+    part-scan-text-end
+    scan-text-requires
+    enum-known-length
+    enum-told
+    returns-2
+    returns-3)

@@ -1,0 +1,48 @@
+-- `util::pointer::relative_pointer` meets its contract: both ways round are the sum modulo 2^64.
+-- Assumes nothing.
+use native.Mathlib.Omega.{arith}
+use Rattle.util.proofs.Signed.{forward-cast, forward, widened, negated-fits, back-cast, back}
+use borrow.Author.Needs.{needs}
+use Rattle.util.proofs.pointer.relative_pointer.Statement.{statement}
+use Rattle.util.proofs.pointer.relative_pointer.Tie as tie
+use Rattle.util.proofs.pointer.relative_pointer.Reads as reads
+use Rattle.util.proofs.pointer.relative_pointer.Lts as lts
+use Rattle.std.proofs.num.wrapping_add_u64.Reads as wrapping-add-u64-reads
+use Rattle.std.proofs.num.wrapping_sub_u64.Reads as wrapping-sub-u64-reads
+
+cast-wrapping-add-u64 : tie.Need-cast-wrapping-add-u64
+cast-wrapping-add-u64 c = forward-cast _ (c .before .fits .offset) (c .if1 .taken)
+
+wrapping-add-u64-requires : tie.Need-wrapping-add-u64-requires
+wrapping-add-u64-requires c κs = search needs
+
+cast-wrapping-sub-u64 : tie.Need-cast-wrapping-sub-u64
+cast-wrapping-sub-u64 c = widened _ (c .before .fits .offset)
+
+sub-wrapping-sub-u64 : tie.Need-sub-wrapping-sub-u64
+sub-wrapping-sub-u64 c = negated-fits _ (c .before .fits .offset) (c .if1 .left)
+
+cast-wrapping-sub-u64-2 : tie.Need-cast-wrapping-sub-u64-2
+cast-wrapping-sub-u64-2 c = back-cast _ (c .before .fits .offset) (c .if1 .left)
+
+wrapping-sub-u64-requires : tie.Need-wrapping-sub-u64-requires
+wrapping-sub-u64-requires c κs = search needs
+
+returns : tie.Need-returns
+returns c = forward _ (c .before .before .fits .offset) (c .before .if1 .taken) _ _ (c .wrapping-add-u64 .ensures)
+
+returns-2 : tie.Need-returns-2
+returns-2 c = back _ (c .before .before .fits .offset) (c .before .if1 .left) _ _ (c .wrapping-sub-u64 .ensures) (omega arith) (omega (arith, c .wrapping-sub-u64 .ok))
+
+pub relative-pointer-spec : {M : Type 1} → statement M
+relative-pointer-spec =
+    tie.close
+    (tie.spec
+    cast-wrapping-add-u64
+    wrapping-add-u64-requires
+    cast-wrapping-sub-u64
+    sub-wrapping-sub-u64
+    cast-wrapping-sub-u64-2
+    wrapping-sub-u64-requires
+    returns
+    returns-2)

@@ -1,0 +1,54 @@
+-- `util::segment::look_up` meets its contract: each `return` is a case of `decides`.
+-- Assumes nothing.
+use borrow.Author.Needs.{needs}
+use native.Mathlib.Omega.{arith}
+use Rattle.util.specs.SegmentsLaws.{wraps, below, above, no-bytes, held, past-file, offset-wraps, in-file}
+use Rattle.util.proofs.segment.look_up.Statement.{statement}
+use Rattle.util.proofs.segment.look_up.Tie as tie
+use Rattle.util.proofs.segment.look_up.Reads as reads
+use Rattle.util.proofs.segment.look_up.Lts as lts
+
+sub-if1 : tie.Need-sub-if1
+sub-if1 c = search needs
+
+returns : tie.Need-returns
+returns c = wraps _ _ (omega arith)
+
+returns-2 : tie.Need-returns-2
+returns-2 c = below _ _ (omega arith) (omega arith)
+
+returns-3 : tie.Need-returns-3
+returns-3 c = above _ _ (omega arith) (omega arith) (omega arith)
+
+returns-4 : tie.Need-returns-4
+returns-4 c = no-bytes _ _ (omega arith) (omega arith) (omega arith) (omega arith)
+
+returns-5 : tie.Need-returns-5
+returns-5 c = held _ _ (omega arith) (omega arith) (omega arith) _ (omega arith) (past-file _ _ (omega arith))
+
+sub-if6 : tie.Need-sub-if6
+sub-if6 c = search needs
+
+returns-6 : tie.Need-returns-6
+returns-6 c = held _ _ (omega arith) (omega arith) (omega arith) _ (omega arith) (offset-wraps _ _ (omega arith) (omega arith))
+
+add-t7 : tie.Need-add-t7
+add-t7 c = search needs
+
+returns-7 : tie.Need-returns-7
+returns-7 c = held _ _ (omega arith) (omega arith) (omega arith) _ (omega arith) (in-file _ _ (omega arith) (omega arith))
+
+pub look-up-spec : {M : Type 1} → statement M
+look-up-spec =
+    tie.close
+    (tie.spec
+    sub-if1
+    returns
+    returns-2
+    returns-3
+    returns-4
+    returns-5
+    sub-if6
+    returns-6
+    add-t7
+    returns-7)

@@ -1,0 +1,5 @@
+-- What the case of an answer says, where the answer's meaning `f` is known.
+use mathlib.Core.Path.{_≡_, sym, _∙_, ap}
+
+pub told {ℓ κ} : {A : Type ℓ} {B : Type κ} (f : A → B) {r k : A} {x : B} → f r ≡ x → r ≡ k → f k ≡ x
+told f e t = sym (ap f t) ∙ e

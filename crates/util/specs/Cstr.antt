@@ -1,0 +1,35 @@
+-- A text at an offset: document 01, "Bytes and texts at an address".
+use Prim.Native.Nat.{ℕ, _+_}
+use mathlib.Core.List.{List, []}
+use mathlib.Core.Bool.{cond}
+use mathlib.Core.Option.{Option, some, none, Option·map}
+use lib.ListN.{length, take, drop}
+use lib.Dec.{leb}
+use Rattle.utf8.specs.Text.{textLength}
+use Rattle.util.specs.declared.cstr.Text.{Text}
+use Rattle.util.specs.declared.cstr.Text.the-variants.{At, Nothing}
+
+-- a part of a list of bytes
+pub record Place : Type 0 where
+  pub start : ℕ
+  pub size : ℕ
+
+abbrev pub place : ℕ → ℕ → Place
+place o n = record { start = o; size = n }
+
+-- where the text is; an offset past the end has none, one at the end the empty text
+unfoldable pub textAt : List ℕ → ℕ → Option Place
+textAt s off = cond (leb off (length s)) (Option·map (place off) (textLength (drop off s))) none
+
+-- the bytes of a part, none where it does not lie within
+unfoldable pub partOf : List ℕ → Place → List ℕ
+partOf s p = cond (leb (p .start + p .size) (length s)) (take (p .size) (drop (p .start) s)) []
+
+abbrev pub textOf : Text → Option Place
+textOf (At o n) = some (place o n)
+textOf Nothing = none
+
+-- the bytes of a text, none where there is none
+abbrev pub textPart : List ℕ → Option Place → List ℕ
+textPart s none = []
+textPart s (some p) = partOf s p
