@@ -61,7 +61,7 @@ module _ (image segments : List ℕ) (a n : ℕ) where
 
   module _ {A : Type 0} (k : List ℕ → Reads A) (r : List ℕ) (e : r ≡ bytesRead image segments a n) where
     -- as many bytes as were asked for: the program goes on with them
-    pub run-bytes : 0 < n → length r ≡ n → run image segments (bytes a n k) ≡ run image segments (k r)
+    pub run-bytes : 0 < n → n ≤ length r → run image segments (bytes a n k) ≡ run image segments (k r)
     unfolding run bytesRead
     run-bytes h l = go (bytesPlace image segments a n) e
       where

@@ -4,5 +4,6 @@ pub mod CstrLaws
 pub mod LittleEndian
 pub mod LittleEndianLaws
 pub mod Pointer
+pub mod PointerLaws
 pub mod Segments
 pub mod SegmentsLaws

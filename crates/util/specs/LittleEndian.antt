@@ -3,7 +3,7 @@ use Prim.Native.Nat.{ℕ, _+_, _-_, _*_, _^_, _<_}
 use mathlib.Core.Path.{_≡_}
 use mathlib.Core.List.{List, [], _∷_}
 use mathlib.Core.Bool.{cond}
-use mathlib.Core.Option.{Option, some, none, Option·map}
+use mathlib.Core.Option.{Option, some, none, Option·map, Option·getD}
 use lib.ListN.{length, take, drop}
 use lib.IntN.{ℤ, pos, _-ℤ_}
 use lib.Dec.{leb, ltb}
@@ -30,6 +30,13 @@ twosComplement bits n = cond (ltb n (2 ^ (bits - 1))) (pos n) (pos n -ℤ pos (2
 
 unfoldable pub signedAt : ℕ → List ℕ → ℕ → Option ℤ
 signedAt n s off = Option·map (twosComplement (8 * n)) (littleAt n s off)
+
+-- the numbers in the bytes of a header, 0 where they would run past it
+unfoldable pub unsignedIn : ℕ → List ℕ → ℕ → ℕ
+unsignedIn n header off = Option·getD (littleAt n header off) 0
+
+unfoldable pub signedIn : ℕ → List ℕ → ℕ → ℤ
+signedIn n header off = Option·getD (signedAt n header off) (pos 0)
 
 abbrev pub u16Value : ReadU16 → Option ℕ
 u16Value (ReadU16.Value n) = some n

@@ -5,12 +5,12 @@ use native.Mathlib.Decide.{decLe}
 use native.Mathlib.Omega.{arith}
 use mathlib.Core.Path.{_≡_, refl, sym, _∙_, ap}
 use mathlib.Core.List.{List, [], _∷_, _++_}
-use mathlib.Core.Option.{Option, some, none, Option·map}
+use mathlib.Core.Option.{Option, some, none, Option·map, Option·getD}
 use lib.ListN.{length, take, drop, getD, length-drop}
-use lib.IntN.{ℤ}
+use lib.IntN.{ℤ, pos}
 use lib.Seq.{drop-cons, drop-drop, take-add, length-take-le}
 use borrow.Author.Tests.{le-leb, lt-leb}
-use Rattle.util.specs.LittleEndian.{littleEndian, littleAt, bytesAt, signedAt, twosComplement}
+use Rattle.util.specs.LittleEndian.{littleEndian, littleAt, bytesAt, signedAt, twosComplement, unsignedIn, signedIn}
 
 -- the sum of `n` bytes from `off + i` on, each at its weight
 abbrev pub sumFrom : List ℕ → ℕ → ℕ → ℕ → ℕ
@@ -82,6 +82,16 @@ module _ (n : ℕ) (s : List ℕ) (off : ℕ) where
   pub signed-nothing : none ≡ littleAt n s off → none ≡ signedAt n s off
   unfolding signedAt
   signed-nothing e = ap (Option·map (twosComplement (8 * n))) e
+
+-- a number of a header
+module _ (n : ℕ) (s : List ℕ) (off : ℕ) where
+  pub unsigned-in : (o : Option ℕ) → o ≡ littleAt n s off → Option·getD o 0 ≡ unsignedIn n s off
+  unfolding unsignedIn
+  unsigned-in o e = ap (λ (x : Option ℕ). Option·getD x 0) e
+
+  pub signed-in : (o : Option ℤ) → o ≡ signedAt n s off → Option·getD o (pos 0) ≡ signedIn n s off
+  unfolding signedIn
+  signed-in o e = ap (λ (x : Option ℤ). Option·getD x (pos 0)) e
 
 -- two runs of bytes make one number
 module _ (m n : ℕ) (s : List ℕ) (off : ℕ) where

@@ -1,5 +1,6 @@
 // The lowest layer, carried over from darwinscope's src/util.rs: numbers in bytes, relative pointers, addresses, texts.
 mod cstr;
+mod header;
 mod pointer;
 mod read;
 mod segment;
@@ -9,6 +10,12 @@ pub use cstr::cstr_at;
 pub use cstr::part;
 pub use cstr::read_cstr_at;
 pub use cstr::text_part;
+pub use header::address_in;
+pub use header::i32_at;
+pub use header::pointer_in;
+pub use header::u16_at;
+pub use header::u32_at;
+pub use pointer::relative_address;
 pub use pointer::relative_pointer;
 pub use read::ReadI32;
 pub use read::ReadU16;

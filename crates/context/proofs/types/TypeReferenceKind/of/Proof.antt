@@ -1,0 +1,32 @@
+-- `context::types::TypeReferenceKind::of` meets its contract: each arm is a row of the enumeration.
+-- Assumes nothing.
+use Prim.Native.Nat.{ℕ}
+use mathlib.Core.Path.{_≡_}
+use borrow.Author.Needs.{needs}
+use Rattle.context.specs.TypeContext.{references, referenceOf}
+use Rattle.context.specs.declared.types.TypeReferenceKind.the-variants.{Other}
+use Rattle.context.proofs.Rows.{Row, value, in-row}
+use Rattle.context.proofs.types.TypeReferenceKind.of.Statement.{statement}
+use Rattle.context.proofs.types.TypeReferenceKind.of.Tie as tie
+
+arm : (i n : ℕ) → Row i references n → value i references (Other n) ≡ referenceOf n
+unfolding referenceOf
+arm i n h = in-row i references _ n h
+
+returns : tie.Need-returns
+returns c = arm 0 _ (search needs)
+
+returns-2 : tie.Need-returns-2
+returns-2 c = arm 1 _ (search needs)
+
+returns-3 : tie.Need-returns-3
+returns-3 c = arm 2 _ (search needs)
+
+returns-4 : tie.Need-returns-4
+returns-4 c = arm 3 _ (search needs)
+
+returns-5 : tie.Need-returns-5
+returns-5 c = arm 4 _ (search needs)
+
+pub of-spec : {M : Type 1} → statement M
+of-spec = tie.close (tie.spec returns returns-2 returns-3 returns-4 returns-5)

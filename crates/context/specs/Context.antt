@@ -1,0 +1,64 @@
+-- Context descriptors: MetadataValues.h, `ContextDescriptorKind` and `ContextDescriptorFlags`.
+use Prim.Native.Nat.{ℕ}
+use mathlib.Core.Bool.{Bool, true, false}
+use mathlib.Core.List.{List, [], _∷_}
+use Rattle.context.specs.Bits.{bit, bits, low}
+use Rattle.context.specs.Enumeration.{valueOf}
+use Rattle.context.specs.declared.descriptor.ContextDescriptorKind.{ContextDescriptorKind}
+use Rattle.context.specs.declared.descriptor.ContextDescriptorKind.the-variants.{Module, Extension, Anonymous, Protocol, OpaqueType, Class, Struct, Enum, Other}
+
+-- `ContextDescriptorKind`
+abbrev pub kinds : List (ℕ × ContextDescriptorKind)
+kinds =
+    (0, Module) ∷
+    (1, Extension) ∷
+    (2, Anonymous) ∷
+    (3, Protocol) ∷
+    (4, OpaqueType) ∷
+    (16, Class) ∷
+    (17, Struct) ∷
+    (18, Enum) ∷
+    []
+
+unfoldable pub kindOf : ℕ → ContextDescriptorKind
+kindOf n = valueOf kinds (Other n) n
+
+-- `ContextDescriptorFlags`
+abbrev pub contextKind : ℕ → ContextDescriptorKind
+contextKind w = kindOf (low 5 w)
+
+abbrev pub hasInvertibleProtocols : ℕ → Bool
+hasInvertibleProtocols = bit 5
+
+abbrev pub isUnique : ℕ → Bool
+isUnique = bit 6
+
+abbrev pub isGeneric : ℕ → Bool
+isGeneric = bit 7
+
+abbrev pub kindSpecificFlags : ℕ → ℕ
+kindSpecificFlags = bits 16 16
+
+-- the kinds with a `TargetTypeContextDescriptor`
+abbrev pub isType : ContextDescriptorKind → Bool
+isType Module = false
+isType Extension = false
+isType Anonymous = false
+isType Protocol = false
+isType OpaqueType = false
+isType Class = true
+isType Struct = true
+isType Enum = true
+isType (Other n) = false
+
+-- the kinds whose third word is an offset to a name: darwinscope's parent.rs, `read_context_name`
+abbrev pub named : ContextDescriptorKind → Bool
+named Module = true
+named Extension = true
+named Anonymous = false
+named Protocol = true
+named OpaqueType = false
+named Class = true
+named Struct = true
+named Enum = true
+named (Other n) = false

@@ -1,0 +1,15 @@
+// Kinds and flags of Swift's descriptors, carried over from darwinscope's src/swift/context.rs: functions of the number alone.
+mod descriptor;
+mod field;
+mod method;
+mod types;
+
+pub use descriptor::ContextDescriptorFlags;
+pub use descriptor::ContextDescriptorKind;
+pub use field::FieldDescriptorKind;
+pub use field::FieldRecordFlags;
+pub use method::MethodDescriptorFlags;
+pub use method::SwiftMethodKind;
+pub use types::MetadataInitializationKind;
+pub use types::TypeContextDescriptorFlags;
+pub use types::TypeReferenceKind;

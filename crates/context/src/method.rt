@@ -1,0 +1,78 @@
+// The flags word of a method descriptor.
+ghost use mathlib.Core.Path.{_≡_};
+ghost use Rattle.context.specs.Method.{methodOf, methodKind, isInstance, isDynamic, isAsync, hasExtendedContext, extraDiscriminator};
+
+pub enum SwiftMethodKind {
+    Method,
+    Init,
+    Getter,
+    Setter,
+    ModifyCoroutine,
+    ReadCoroutine,
+    // A number that no kind has.
+    Other(u8),
+}
+
+impl SwiftMethodKind {
+    // The kind that has this number.
+    fn of(n: u8) -> SwiftMethodKind
+        ensures { λ r. ⌜ r ≡ methodOf n ⌝ }
+    {
+        match n {
+            0 => SwiftMethodKind::Method,
+            1 => SwiftMethodKind::Init,
+            2 => SwiftMethodKind::Getter,
+            3 => SwiftMethodKind::Setter,
+            4 => SwiftMethodKind::ModifyCoroutine,
+            5 => SwiftMethodKind::ReadCoroutine,
+            other => SwiftMethodKind::Other(other),
+        }
+    }
+
+    // Only the low four bits count.
+    pub fn from_bits(raw: u8) -> SwiftMethodKind
+        ensures { λ r. ⌜ r ≡ methodKind raw ⌝ }
+    {
+        SwiftMethodKind::of(raw % 16)
+    }
+}
+
+pub struct MethodDescriptorFlags(pub u32);
+
+impl MethodDescriptorFlags {
+    pub fn kind(self) -> SwiftMethodKind
+        ensures { λ r. ⌜ r ≡ methodKind (self .0) ⌝ }
+    {
+        SwiftMethodKind::of((self.0 % 16) as u8)
+    }
+
+    pub fn is_instance(self) -> bool
+        ensures { λ r. ⌜ r ≡ isInstance (self .0) ⌝ }
+    {
+        (self.0 / 16) % 2 == 1
+    }
+
+    pub fn is_dynamic(self) -> bool
+        ensures { λ r. ⌜ r ≡ isDynamic (self .0) ⌝ }
+    {
+        (self.0 / 32) % 2 == 1
+    }
+
+    pub fn is_async(self) -> bool
+        ensures { λ r. ⌜ r ≡ isAsync (self .0) ⌝ }
+    {
+        (self.0 / 64) % 2 == 1
+    }
+
+    pub fn has_extended_context(self) -> bool
+        ensures { λ r. ⌜ r ≡ hasExtendedContext (self .0) ⌝ }
+    {
+        (self.0 / 128) % 2 == 1
+    }
+
+    pub fn extra_discriminator(self) -> u16
+        ensures { λ r. ⌜ r ≡ extraDiscriminator (self .0) ⌝ }
+    {
+        (self.0 / 65536) as u16
+    }
+}

@@ -1,0 +1,51 @@
+-- `typedescriptor::iter::slot_row` meets its contract: each `return` is a case of `slotRow`.
+-- Assumes nothing.
+use native.Mathlib.Omega.{arith}
+use mathlib.Core.Path.{sym, _∙_}
+use Rattle.typedescriptor.specs.RowLaws.{past-slots, zero-slot, slot-at}
+use borrow.Author.Needs.{needs}
+use Rattle.typedescriptor.proofs.iter.slot_row.Statement.{statement}
+use Rattle.typedescriptor.proofs.iter.slot_row.Tie as tie
+use Rattle.typedescriptor.proofs.iter.slot_row.Reads as reads
+use Rattle.typedescriptor.proofs.iter.slot_row.Lts as lts
+use Rattle.std.proofs.num.wrapping_add_u64.Reads as wrapping-add-u64-reads
+use Rattle.typedescriptor.proofs.descriptor.decode_type_descriptor.Reads as decode-type-descriptor-reads
+use Rattle.util.proofs.pointer_in.Reads as pointer-in-reads
+use Rattle.util.proofs.u32_at.Reads as u32-at-reads
+
+returns : tie.Need-returns
+returns c = past-slots _ _ _ _ _ (omega arith)
+
+mul-off : tie.Need-mul-off
+mul-off c = search needs
+
+u32-at-requires : tie.Need-u32-at-requires
+u32-at-requires c κs = search needs
+
+returns-2 : tie.Need-returns-2
+returns-2 c = zero-slot _ _ _ _ _ (sym (c .before .u32-at .ensures) ∙ c .if2 .taken) (omega arith)
+
+wrapping-add-u64-requires : tie.Need-wrapping-add-u64-requires
+wrapping-add-u64-requires c κs = search needs
+
+pointer-in-requires : tie.Need-pointer-in-requires
+pointer-in-requires c κs = search needs
+
+decode-type-descriptor-requires : tie.Need-decode-type-descriptor-requires
+decode-type-descriptor-requires c κs = search needs
+
+returns-3 : tie.Need-returns-3
+returns-3 c = slot-at _ _ _ _ _ _ _ _ (λ z. c .before .before .before .if2 .left (c .before .before .before .before .u32-at .ensures ∙ z)) (c .before .before .wrapping-add-u64 .ensures) (c .before .pointer-in .ensures) (c .decode-type-descriptor .ensures) (omega arith)
+
+pub slot-row-spec : {M : Type 1} → statement M
+slot-row-spec =
+    tie.close
+    (tie.spec
+    returns
+    mul-off
+    u32-at-requires
+    returns-2
+    wrapping-add-u64-requires
+    pointer-in-requires
+    decode-type-descriptor-requires
+    returns-3)

@@ -1,0 +1,75 @@
+ghost use mathlib.Core.Path.{_≡_};
+ghost use Rattle.runtime.specs.Reads.{run};
+ghost use Rattle.typedescriptor.specs.Row.{descriptorOf};
+ghost use Rattle.typedescriptor.specs.Slots.{slotRow, nextRow, stepOf};
+use crate::descriptor::Descriptor;
+use crate::descriptor::Row;
+use crate::descriptor::decode_type_descriptor;
+
+// A walk over the types section: the number of the next slot to read.
+pub struct TypeIter {
+    pub slot: usize,
+}
+
+// What a step of the walk gives: the next row with its slot's number and the walk from there on, or the end.
+pub enum TypeStep {
+    Row {
+        slot: usize,
+        row: Row,
+        next: TypeIter,
+    },
+    End,
+}
+
+// The row of one slot of a types section whose first byte is at `vmaddr`.
+pub fn slot_row(
+    image: &[u8],
+    segments: &[u64],
+    types: &[u8],
+    vmaddr: u64,
+    slot: usize,
+) -> Descriptor
+    ensures { λ r. ⌜ descriptorOf (now (image .entry)) r ≡ run (now (image .entry)) (now (segments .entry)) (slotRow (now (types .entry)) vmaddr slot) ⌝ }
+{
+    if types.len() / 4 <= slot {
+        return Descriptor::Nothing;
+    }
+    let off = 4 * slot;
+    if util::u32_at(types, off) == 0 {
+        return Descriptor::Nothing;
+    }
+    let slot_va = std::num::wrapping_add_u64(vmaddr, off as u64);
+    decode_type_descriptor(image, segments, util::pointer_in(types, off, slot_va))
+}
+
+impl TypeIter {
+    pub fn new() -> TypeIter
+        ensures { λ r. ⌜ r .slot ≡ 0 ⌝ }
+    {
+        TypeIter { slot: 0 }
+    }
+
+    // The next row. A slot without a row is passed over.
+    pub fn next(self, image: &[u8], segments: &[u64], types: &[u8], vmaddr: u64) -> TypeStep
+        ensures { λ r. ⌜ stepOf (now (image .entry)) r ≡ nextRow (now (image .entry)) (now (segments .entry)) (now (types .entry)) vmaddr (self .slot) ⌝ }
+    {
+        let count = types.len() / 4;
+        let mut slot = self.slot;
+        while slot < count {
+            let found = slot_row(image, segments, types, vmaddr, slot);
+            match found {
+                Descriptor::Row(row) => {
+                    return TypeStep::Row {
+                        slot,
+                        row,
+                        next: TypeIter { slot: slot + 1 },
+                    };
+                }
+                Descriptor::Nothing => {
+                    slot += 1;
+                }
+            }
+        }
+        TypeStep::End
+    }
+}

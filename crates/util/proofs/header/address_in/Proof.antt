@@ -1,0 +1,26 @@
+-- `util::header::address_in` meets its contract.
+-- Assumes nothing.
+use mathlib.Core.Path.{ap, _∙_}
+use mir.Syntax.{w32}
+use mir.Facts.{toZ-ofZ}
+use Rattle.util.specs.Pointer.{relativeAddress}
+use borrow.Author.Needs.{needs}
+use Rattle.util.proofs.header.address_in.Statement.{statement}
+use Rattle.util.proofs.header.address_in.Tie as tie
+use Rattle.util.proofs.header.address_in.Reads as reads
+use Rattle.util.proofs.header.address_in.Lts as lts
+use Rattle.util.proofs.header.i32_at.Reads as i32-at-reads
+use Rattle.util.proofs.pointer.relative_address.Reads as relative-address-reads
+
+i32-at-requires : tie.Need-i32-at-requires
+i32-at-requires c κs = search needs
+
+relative-address-requires : tie.Need-relative-address-requires
+relative-address-requires c κs = search needs
+
+returns : tie.Need-returns
+returns c =
+    c .relative-address .ensures ∙ ap (relativeAddress _) (toZ-ofZ {w = w32} (record { sfits = c .before .i32-at .ok }) ∙ c .before .i32-at .ensures)
+
+pub address-in-spec : {M : Type 1} → statement M
+address-in-spec = tie.close (tie.spec i32-at-requires relative-address-requires returns)

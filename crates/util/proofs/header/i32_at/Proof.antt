@@ -1,0 +1,35 @@
+-- `util::header::i32_at` meets its contract.
+-- Assumes nothing.
+use native.Mathlib.Omega.{arith}
+use mathlib.Core.Path.{_∙_}
+use mir.Syntax.{w32}
+use mir.Facts.{toZ-ofZ}
+use Rattle.util.specs.Answers.{told}
+use Rattle.util.specs.LittleEndian.{i32Value}
+use Rattle.util.specs.LittleEndianLaws.{signed-in}
+use borrow.Author.Needs.{needs}
+use Rattle.util.proofs.header.i32_at.Statement.{statement}
+use Rattle.util.proofs.header.i32_at.Tie as tie
+use Rattle.util.proofs.header.i32_at.Reads as reads
+use Rattle.util.proofs.header.i32_at.Lts as lts
+use Rattle.util.proofs.read.read_i32_le_at.Reads as read-i32-le-at-reads
+
+read-i32-le-at-requires : tie.Need-read-i32-le-at-requires
+read-i32-le-at-requires c κs = search needs
+
+enum-known-n : tie.Need-enum-known-n
+enum-known-n c = search needs
+
+enum-told : tie.Need-enum-told
+enum-told c = search needs
+
+returns : tie.Need-returns
+returns c =
+    toZ-ofZ {w = w32} (record { sfits = omega arith })
+    ∙ signed-in 4 _ _ _ (told i32Value (c .before .before .before .read-i32-le-at .ensures) (c .before .n .given .1))
+
+returns-2 : tie.Need-returns-2
+returns-2 c = signed-in 4 _ _ _ (told i32Value (c .before .before .read-i32-le-at .ensures) (c .enum-told .given .1))
+
+pub i32-at-spec : {M : Type 1} → statement M
+i32-at-spec = tie.close (tie.spec read-i32-le-at-requires enum-known-n enum-told returns returns-2)

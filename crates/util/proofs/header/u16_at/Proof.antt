@@ -1,0 +1,29 @@
+-- `util::header::u16_at` meets its contract.
+-- Assumes nothing.
+use Rattle.util.specs.Answers.{told}
+use Rattle.util.specs.LittleEndian.{u16Value}
+use Rattle.util.specs.LittleEndianLaws.{unsigned-in}
+use borrow.Author.Needs.{needs}
+use Rattle.util.proofs.header.u16_at.Statement.{statement}
+use Rattle.util.proofs.header.u16_at.Tie as tie
+use Rattle.util.proofs.header.u16_at.Reads as reads
+use Rattle.util.proofs.header.u16_at.Lts as lts
+use Rattle.util.proofs.read.read_u16_le_at.Reads as read-u16-le-at-reads
+
+read-u16-le-at-requires : tie.Need-read-u16-le-at-requires
+read-u16-le-at-requires c κs = search needs
+
+enum-known-n : tie.Need-enum-known-n
+enum-known-n c = search needs
+
+enum-told : tie.Need-enum-told
+enum-told c = search needs
+
+returns : tie.Need-returns
+returns c = unsigned-in 2 _ _ _ (told u16Value (c .before .before .before .read-u16-le-at .ensures) (c .before .n .given .1))
+
+returns-2 : tie.Need-returns-2
+returns-2 c = unsigned-in 2 _ _ _ (told u16Value (c .before .before .read-u16-le-at .ensures) (c .enum-told .given .1))
+
+pub u16-at-spec : {M : Type 1} → statement M
+u16-at-spec = tie.close (tie.spec read-u16-le-at-requires enum-known-n enum-told returns returns-2)
