@@ -1,0 +1,46 @@
+-- `bundle::open::section_of` meets its contract: the address is read, as a body within the bytes has one.
+-- Assumes nothing.
+use native.Mathlib.Omega.{arith}
+use Rattle.util.specs.Answers.{told}
+use Rattle.util.specs.LittleEndian.{u64Value}
+use Rattle.util.specs.LittleEndianLaws.{little-beyond}
+use Rattle.bundle.specs.OpenLaws.{section-there, section-missing}
+use borrow.Author.Needs.{needs}
+use Rattle.bundle.proofs.open.section_of.Statement.{statement}
+use Rattle.bundle.proofs.open.section_of.Tie as tie
+use Rattle.bundle.proofs.open.section_of.Reads as reads
+use Rattle.bundle.proofs.open.section_of.Lts as lts
+use Rattle.util.proofs.read_u64_le_at.Reads as read-u64-le-at-reads
+
+read-u64-le-at-requires : tie.Need-read-u64-le-at-requires
+read-u64-le-at-requires c κs = search needs
+
+enum-known-address : tie.Need-enum-known-address
+enum-known-address c = search needs
+
+add-t8 : tie.Need-add-t8
+add-t8 c = search needs
+
+returns : tie.Need-returns
+returns c = section-there _ _ _ (told u64Value (c .before .before .before .read-u64-le-at .ensures) (c .before .address .given .1)) (omega arith)
+
+enum-told : tie.Need-enum-told
+enum-told c = search needs
+
+returns-2 : tie.Need-returns-2
+returns-2 c = absurd (omega (arith, little-beyond 8 _ _ (told u64Value (c .before .before .read-u64-le-at .ensures) (c .enum-told .given .1))))
+
+returns-3 : tie.Need-returns-3
+returns-3 c = section-missing _ _ (omega arith)
+
+pub section-of-spec : {M : Type 1} → statement M
+section-of-spec =
+    tie.close
+    (tie.spec
+    read-u64-le-at-requires
+    enum-known-address
+    add-t8
+    returns
+    enum-told
+    returns-2
+    returns-3)

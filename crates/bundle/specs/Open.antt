@@ -1,0 +1,75 @@
+-- Opening a bundle, as a computation on its bytes: each kind in turn is taken where its record comes next. A record of a
+-- kind that does not rise, or that breaks another rule, is not taken, and is left over at the end.
+-- `BundleLaws.sound` and `BundleLaws.complete` say that the records of `Bundle` that obey the rules, and no other bytes,
+-- are opened, with their layout.
+use Prim.Native.Nat.{ℕ, _+_, _≤_}
+use mathlib.Core.List.{List}
+use mathlib.Core.Bool.{Bool, cond, _&&_}
+use lib.ListN.{length, take, drop}
+use lib.Dec.{leb, ltb, eqb}
+use Rattle.util.specs.LittleEndian.{littleEndian}
+use Rattle.bundle.specs.Bundle.{part, bodyFits, layoutIn}
+use Rattle.bundle.specs.declared.open.Part.{Part}
+use Rattle.bundle.specs.declared.open.Layout.{Layout}
+use Rattle.bundle.specs.declared.open.Taken.{Taken}
+use Rattle.bundle.specs.declared.open.Opened.{Opened}
+
+-- the body length and the kind that a header at an offset tells
+abbrev pub sizeAt : List ℕ → ℕ → ℕ
+sizeAt s at = littleEndian (take 4 (drop at s))
+
+abbrev pub kindAt : List ℕ → ℕ → ℕ
+kindAt s at = littleEndian (take 2 (drop (at + 4) s))
+
+-- whether a record of this kind is there, not cut short, with a body that fits
+unfoldable pub isAt : ℕ → List ℕ → ℕ → Bool
+isAt kind s at = leb (at + 6 + sizeAt s at) (length s) && (eqb (kindAt s at) kind && bodyFits kind (sizeAt s at))
+
+-- that record's body and the offset after it; all zeros and the same offset where it is not there
+unfoldable pub takeAt : ℕ → List ℕ → ℕ → Taken
+takeAt kind s at =
+    cond (isAt kind s at)
+    (record { part = part (at + 6) (sizeAt s at); next = at + 6 + sizeAt s at })
+    (record { part = part 0 0; next = at })
+
+-- a layout, or the number of the refusal
+pub data Answer : Type 0 where
+  bundle : Layout → Answer
+  refused : ℕ → Answer
+
+-- from what was taken for each kind: there has to be an image, and no byte may be left
+unfoldable pub answer : List ℕ → Taken → Taken → Taken → Taken → Taken → Answer
+answer s image segments types fields strings =
+    cond (ltb 0 (image .part .start) && leb (length s) (strings .next))
+    (bundle (layoutIn s (image .part) (segments .part) (types .part) (fields .part) (strings .part)))
+    (refused 2)
+
+-- what is taken for each kind, where the one before it ends
+abbrev pub image : List ℕ → Taken
+image s = takeAt 1 s 0
+
+abbrev pub segments : List ℕ → Taken
+segments s = takeAt 2 s (image s .next)
+
+abbrev pub types : List ℕ → Taken
+types s = takeAt 3 s (segments s .next)
+
+abbrev pub fields : List ℕ → Taken
+fields s = takeAt 4 s (types s .next)
+
+abbrev pub strings : List ℕ → Taken
+strings s = takeAt 5 s (fields s .next)
+
+-- document 01, "Bundle and program": refusal 5 above 65,536 bytes, then 2 for broken rules
+unfoldable pub openBundle : List ℕ → Answer
+openBundle s = cond (ltb 65536 (length s)) (refused 5) (answer s (image s) (segments s) (types s) (fields s) (strings s))
+
+-- the cases of the code's answer by the document's numbers
+abbrev pub opened : Opened → Answer
+opened (Opened.Bundle l) = bundle l
+opened Opened.Broken = refused 2
+opened Opened.TooLong = refused 5
+
+-- a part that lies within the bytes
+abbrev pub Within : List ℕ → Part → Type 0
+Within s p = p .start + p .length ≤ length s

@@ -1,0 +1,45 @@
+-- `parent::chain::ParentChain::next` meets its contract.
+-- Assumes nothing.
+use native.Mathlib.Omega.{arith}
+use Rattle.util.specs.Answers.{told}
+use Rattle.parent.specs.Context.{contextOf}
+use Rattle.parent.specs.ContextLaws.{chain-full, chain-ends, chain-goes-on}
+use borrow.Author.Needs.{needs}
+use Rattle.parent.proofs.chain.ParentChain.next.Statement.{statement}
+use Rattle.parent.proofs.chain.ParentChain.next.Tie as tie
+use Rattle.parent.proofs.chain.ParentChain.next.Reads as reads
+use Rattle.parent.proofs.chain.ParentChain.next.Lts as lts
+use Rattle.parent.proofs.header.read_context.Reads as read-context-reads
+
+returns : tie.Need-returns
+returns c = chain-full _ _ _ _ (omega arith)
+
+read-context-requires : tie.Need-read-context-requires
+read-context-requires c κs = search needs
+
+enum-known-context : tie.Need-enum-known-context
+enum-known-context c = search needs
+
+add-t9 : tie.Need-add-t9
+add-t9 c = search needs
+
+enum-told : tie.Need-enum-told
+enum-told c = search needs
+
+returns-2 : tie.Need-returns-2
+returns-2 c = chain-goes-on _ _ _ _ _ (told (contextOf _) (c .before .before .before .read-context .ensures) (c .before .context .given .1)) (omega arith)
+
+returns-3 : tie.Need-returns-3
+returns-3 c = chain-ends _ _ _ _ (told (contextOf _) (c .before .before .read-context .ensures) (c .enum-told .given .1)) (omega arith)
+
+pub next-spec : {M : Type 1} → statement M
+next-spec =
+    tie.close
+    (tie.spec
+    returns
+    read-context-requires
+    enum-known-context
+    add-t9
+    enum-told
+    returns-2
+    returns-3)

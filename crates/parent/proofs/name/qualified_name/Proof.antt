@@ -1,0 +1,80 @@
+-- `parent::name::qualified_name` meets its contract: the hops, and then the row's own name.
+-- Assumes nothing.
+use native.Mathlib.Omega.{arith}
+use mathlib.Core.Path.{ap}
+use Rattle.util.specs.Answers.{told}
+use Rattle.parent.specs.Name.{hopsOf}
+use Rattle.parent.specs.NameLaws.{filled-as, refused-as, hops-written, name-written, name-refused, name-filled}
+use borrow.Author.Needs.{needs}
+use Rattle.parent.proofs.name.qualified_name.Statement.{statement}
+use Rattle.parent.proofs.name.qualified_name.Tie as tie
+use Rattle.parent.proofs.name.qualified_name.Reads as reads
+use Rattle.parent.proofs.name.qualified_name.Lts as lts
+use Rattle.parent.proofs.name.put.Reads as put-reads
+use Rattle.parent.proofs.name.write_hops.Reads as write-hops-reads
+use Rattle.util.proofs.part.Reads as part-reads
+
+part-requires : tie.Need-part-requires
+part-requires c κs = search needs
+
+write-hops-requires : tie.Need-write-hops-requires
+write-hops-requires c κs = search needs
+
+enum-known-at : tie.Need-enum-known-at
+enum-known-at c = search needs
+
+put-requires : tie.Need-put-requires
+put-requires c κs =
+    omega (arith, hops-written _ _ _ _ _ _ _ (told hopsOf (c .before .before .before .before .before .before .write-hops .ensures .0) (c .before .before .at .given .1)), c .before .before .before .before .before .before .write-hops .kept)
+
+enum-told : tie.Need-enum-told
+enum-told c = search needs
+
+enum-told-2 : tie.Need-enum-told-2
+enum-told-2 c = search needs
+
+same-length : tie.Need-same-length
+same-length c = search needs
+
+returns : tie.Need-returns
+returns c =
+    let f = told hopsOf (c .before .before .before .before .before .before .before .before .before .write-hops .ensures .0) (c .before .before .before .before .before .at .given .1) in
+    let w = hops-written _ _ _ _ _ _ _ f in (
+      name-written _ _ _ _ (c .before .before .before .before .before .before .before .before .before .before .before .part .ensures) _ _ _ f (c .before .before .put .ensures .ends),
+      name-filled _ _ _ _ (c .before .before .before .before .before .before .before .before .before .before .before .part .ensures) _ _ _ _ _ (filled-as _ _ _ _ _ (c .before .before .before .before .before .before .before .before .before .write-hops .ensures .1) (ap hopsOf (c .before .before .before .before .before .at .given .1))) (w .0) (c .before .before .put .ensures) (omega arith),
+    )
+
+same-length-2 : tie.Need-same-length-2
+same-length-2 c = search needs
+
+returns-2 : tie.Need-returns-2
+returns-2 c = (
+  name-refused _ _ _ _ (c .before .before .before .before .before .before .part .ensures) _ _ (told hopsOf (c .before .before .before .before .write-hops .ensures .0) (c .enum-told .given .1)),
+  refused-as _ _ _ _ _ _ (c .before .before .before .before .write-hops .ensures .1) (ap hopsOf (c .enum-told .given .1)),
+)
+
+same-length-3 : tie.Need-same-length-3
+same-length-3 c = search needs
+
+returns-3 : tie.Need-returns-3
+returns-3 c = (
+  name-refused _ _ _ _ (c .before .before .before .before .before .before .part .ensures) _ _ (told hopsOf (c .before .before .before .before .write-hops .ensures .0) (c .enum-told2 .given .1)),
+  refused-as _ _ _ _ _ _ (c .before .before .before .before .write-hops .ensures .1) (ap hopsOf (c .enum-told2 .given .1)),
+)
+
+pub qualified-name-spec : {M : Type 1} → statement M
+qualified-name-spec =
+    tie.close
+    (tie.spec
+    part-requires
+    write-hops-requires
+    enum-known-at
+    put-requires
+    enum-told
+    enum-told-2
+    same-length
+    returns
+    same-length-2
+    returns-2
+    same-length-3
+    returns-3)

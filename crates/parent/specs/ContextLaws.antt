@@ -1,0 +1,98 @@
+-- What the tests on a context and on its name say of their programs, and what a context says of a chain.
+use Prim.Native.Nat.{ℕ, zero, suc, _+_, _-_, _*_, _^_, _≤_, _<_}
+use native.Mathlib.Omega.{arith}
+use native.Mathlib.Numerals.{add-one}
+use mathlib.Core.Path.{_≡_, refl, sym, _∙_, ap}
+use mathlib.Core.List.{List, [], _∷_, _++_}
+use mathlib.Core.Bool.{Bool, true, false}
+use mathlib.Core.Option.{Option, some, none, Option·map}
+use lib.ListN.{length}
+use lib.Dec.{ltb, leb, eqb}
+use borrow.Author.Tests.{le-leb, lt-leb, eq-eqb, ne-eqb}
+use Rattle.util.specs.LittleEndian.{unsignedIn, signedIn}
+use Rattle.util.specs.Pointer.{relativePointer, relativeAddress}
+use Rattle.util.specs.Cstr.{Place, place, partOf, textOf}
+use Rattle.util.specs.declared.cstr.Text.{Text}
+use Rattle.runtime.specs.Reads.{Reads, done, bytes, text, run, textPlace}
+use Rattle.runtime.specs.Bytes.{bytesRead}
+use Rattle.runtime.specs.CallsLaws.{run-bytes, run-no-bytes, run-text, run-no-text}
+use Rattle.context.specs.Context.{contextKind, named}
+use Rattle.context.specs.declared.descriptor.ContextDescriptorKind.{ContextDescriptorKind}
+use Rattle.parent.specs.Context.{Name, Header, headed, header, slotName, name, contextName, Context, contextRead, nameRead}
+use Rattle.parent.specs.Chain.{chain, Step, chainStep}
+
+-- ---- the name
+
+-- the test on a context's kind
+pub named-is : (r b : Bool) (k j : ContextDescriptorKind) → r ≡ named k → k ≡ j → r ≡ b → named j ≡ b
+named-is r b k j e f t = ap named (sym f) ∙ sym e ∙ t
+
+module _ (image segments : List ℕ) (a flags : ℕ) where
+  pub unnamed : named (contextKind flags) ≡ false → none ≡ contextName image segments a flags
+  unfolding contextName name run
+  unnamed e = rw e
+
+  module _ (e : named (contextKind flags) ≡ true) where
+    pub name-wraps : 2 ^ 64 ≤ a + 8 → none ≡ contextName image segments a flags
+    unfolding contextName name run
+    name-wraps w = rw e (simp (le-leb (2 ^ 64) (a + 8) w))
+
+    module _ (h : List ℕ) (eh : h ≡ bytesRead image segments (a + 8) 4) where
+      pub no-slot : length h < 4 → a + 8 < 2 ^ 64 → none ≡ contextName image segments a flags
+      unfolding contextName name
+      no-slot l w = rw e (simp (lt-leb (2 ^ 64) (a + 8) w) (sym (run-no-bytes image segments (a + 8) 4 (slotName (a + 8)) h eh l)))
+
+      slot : 4 ≤ length h → a + 8 < 2 ^ 64 → contextName image segments a flags ≡ run image segments (slotName (a + 8) h)
+      unfolding contextName name
+      slot l w = rw e (simp (lt-leb (2 ^ 64) (a + 8) w) (run-bytes image segments (a + 8) 4 (slotName (a + 8)) h eh (omega arith) l))
+
+      pub no-offset : unsignedIn 4 h 0 ≡ 0 → 4 ≤ length h → a + 8 < 2 ^ 64 → none ≡ contextName image segments a flags
+      unfolding slotName run
+      no-offset z l w = rw (slot l w) (simp z)
+
+      pub name-at : (v : ℕ) (r : Text) → (unsignedIn 4 h 0 ≡ 0 → ⊥) → v ≡ relativePointer (a + 8) (signedIn 4 h 0) → textOf r ≡ textPlace image segments v
+          → 4 ≤ length h → a + 8 < 2 ^ 64 → nameRead image r ≡ contextName image segments a flags
+      unfolding slotName run
+      name-at v (Text.At o n) z ev er l w = rw (slot l w) (simp (ne-eqb (unsignedIn 4 h 0) 0 z) (rw (← ev) (sym (run-text image segments v (λ p t. done (record { place = p; bytes = t })) (place o n) er))))
+      name-at v Text.Nothing z ev er l w = rw (slot l w) (simp (ne-eqb (unsignedIn 4 h 0) 0 z) (rw (← ev) (sym (run-no-text image segments v (λ p t. done (record { place = p; bytes = t })) er))))
+
+-- ---- the context
+
+module _ (image segments : List ℕ) (a : ℕ) where
+  pub zero-context : a ≡ 0 → none ≡ contextRead image segments a
+  unfolding contextRead header run
+  zero-context z = simp (eq-eqb a 0 z)
+
+  module _ (z : a ≡ 0 → ⊥) (h : List ℕ) (e : h ≡ bytesRead image segments a 8) where
+    pub no-header : length h < 8 → none ≡ contextRead image segments a
+    unfolding contextRead header
+    no-header l = simp (ne-eqb a 0 z) (rw (run-no-bytes image segments a 8 (headed a) h e l))
+
+    read-header : 8 ≤ length h → run image segments (header a) ≡ run image segments (headed a h)
+    unfolding header
+    read-header l = simp (ne-eqb a 0 z) (run-bytes image segments a 8 (headed a) h e (omega arith) l)
+
+    pub parent-wraps : 8 ≤ length h → 2 ^ 64 ≤ a + 4 → none ≡ contextRead image segments a
+    unfolding contextRead headed run
+    parent-wraps l w = rw (read-header l) (simp (le-leb (2 ^ 64) (a + 4) w))
+
+    pub context-at : (f q : ℕ) (n : Option Name) → f ≡ unsignedIn 4 h 0 → q ≡ relativeAddress (a + 4) (signedIn 4 h 4) → n ≡ contextName image segments a f
+        → 8 ≤ length h → a + 4 < 2 ^ 64
+        → some (record { header = record { address = a; flags = f; parent = q }; name = n }) ≡ contextRead image segments a
+    unfolding contextRead headed run
+    context-at f q n ef eq en l w = rw (read-header l, en, ef, eq) (simp (lt-leb (2 ^ 64) (a + 4) w))
+
+  -- ---- the chain
+  module _ (given : ℕ) where
+    pub chain-full : 256 ≤ given → none ≡ chainStep image segments a given
+    unfolding chainStep
+    chain-full h = simp (le-leb 256 given h)
+
+    pub chain-ends : none ≡ contextRead image segments a → given < 256 → none ≡ chainStep image segments a given
+    unfolding chainStep
+    chain-ends e h = simp (lt-leb 256 given h) (rw (← e))
+
+    pub chain-goes-on : (c : Context) → some c ≡ contextRead image segments a → given < 256
+        → some (record { context = c; next = c .header .parent; given = given + 1 }) ≡ chainStep image segments a given
+    unfolding chainStep
+    chain-goes-on c e h = simp (lt-leb 256 given h) (rw (← e))

@@ -1,0 +1,5 @@
+pub mod Chain
+pub mod Context
+pub mod ContextLaws
+pub mod Name
+pub mod NameLaws
