@@ -3,8 +3,7 @@ use Prim.Native.Nat.{ℕ, zero, suc, _+_}
 use mathlib.Core.List.{List, [], _∷_, _++_}
 use mathlib.Core.Bool.{Bool, cond}
 use mathlib.Core.Option.{Option, some, none}
-use mathlib.Core.Path.{_≡_}
-use lib.ListN.{length, take, drop}
+use lib.ListN.{length, drop}
 use lib.Dec.{leb, ltb}
 use Rattle.typedescriptor.specs.Row.{TypeRow}
 use Rattle.parent.specs.Context.{Name, Context}
@@ -21,15 +20,6 @@ hop (some n) = n .bytes ++ (46 ∷ [])
 unfoldable pub hops : List Context → List ℕ
 hops [] = []
 hops (c ∷ cs) = hops cs ++ hop (c .name)
-
--- a buffer with a piece at a place
-abbrev pub pasted : List ℕ → ℕ → List ℕ → List ℕ
-pasted buffer at piece = take at buffer ++ (piece ++ drop (at + length piece) buffer)
-
--- a piece was put at a place: where it ends, and what the buffer is then
-pub record Put (buffer : List ℕ) (at : ℕ) (piece : List ℕ) (end : ℕ) (buffer′ : List ℕ) : Type 0 where
-  pub ends : end ≡ at + length piece
-  pub holds : buffer′ ≡ pasted buffer at piece
 
 -- what a call that writes a name answers: its length, or a refusal by its number
 pub data Answer : Type 0 where

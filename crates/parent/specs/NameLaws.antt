@@ -11,43 +11,14 @@ use lib.ListN.{length, take, drop, length-append, length-take, length-drop, drop
 use lib.Seq.{take-all, take-length, drop-drop, take-at, drop-at, drop-append-add, length-take-le}
 use lib.Dec.{ltb, leb, leb·suc-suc}
 use borrow.Author.Tests.{le-leb, lt-leb, lt-ltb, le-ltb}
-use borrow.Rule.Slice.PartMut.{putMid}
+use Rattle.util.specs.Buffer.{Put}
+use Rattle.util.specs.BufferLaws.{put-then}
 use Rattle.util.specs.Cstr.{place, partOf}
 use Rattle.util.specs.declared.cstr.Text.{Text}
 use Rattle.parent.specs.Context.{Name, Context, contextRead, nameRead}
 use Rattle.parent.specs.Chain.{chain}
-use Rattle.parent.specs.Name.{hop, hops, pasted, Put, Answer, written, refused, tooDeep, before, hopsAnswer, filled, qualifiedName, nameAnswer}
+use Rattle.parent.specs.Name.{hop, hops, Answer, written, refused, tooDeep, before, hopsAnswer, filled, qualifiedName, nameAnswer}
 use Rattle.typedescriptor.specs.Row.{TypeRow}
-
--- a piece copied into the tail from a place on, as the loan of the tail leaves it
-pub put-in : (b p ys : List ℕ) (at n : ℕ) → n ≡ length p → ys ≡ take (length p) p ++ drop (length p) (take (length b - at) (drop at b)) → at + length p ≤ length b
-    → Put b at p (at + n) (putMid at (length b - at) b ys)
-put-in b p ys at n en e h =
-    let all : take (length b - at) (drop at b) ≡ drop at b = take-all (length b - at) (drop at b) (simp length-drop (omega arith)) in
-    let past : drop (length b - at) (drop at b) ≡ [] = drop-of-length-le (drop at b) {i = length b - at} (simp length-drop (omega arith)) in
-    record {
-      ends = ap (λ (k : ℕ). at + k) en;
-      holds = ap (λ (l : List ℕ). take at b ++ l) (rw (past, e, append-nil, take-length, all, drop-drop));
-    }
-
--- nothing put
-pub put-none : (b : List ℕ) (at : ℕ) → Put b at [] at b
-put-none b at = record { ends = omega arith; holds = sym (take-append-drop at b) ∙ ap (λ (k : ℕ). take at b ++ drop k b) (sym (add-zero at)) }
-
--- one piece after another
-pub put-then : (b p q b′ b″ : List ℕ) (at m n : ℕ) → Put b at p m b′ → Put b′ m q n b″ → at + length p ≤ length b → Put b at (p ++ q) n b″
-put-then b p q b′ b″ at m n u w h =
-    let len : length (take at b) ≡ at = length-take-le at b (omega arith) in
-    let front : take (at + length p) (pasted b at p) ≡ take at b ++ p = rw (← append-assoc) (take-at (take at b ++ p) _ (at + length p) (simp (length-append, len))) in
-    let back : drop (at + length p + length q) (pasted b at p) ≡ drop (at + (length p + length q)) b =
-    sym (drop-drop (length q) (at + length p) (pasted b at p))
-    ∙ ap (drop (length q)) (rw (← append-assoc) (drop-at (take at b ++ p) _ (at + length p) (simp (length-append, len))))
-    ∙ drop-drop (length q) (at + length p) b
-    ∙ ap (λ (k : ℕ). drop k b) (add-assoc at (length p) (length q)) in
-    record {
-      ends = simp length-append (omega (arith, u .ends, w .ends));
-      holds = w .holds ∙ rw (u .holds, u .ends, front, back, length-append, append-assoc, append-assoc);
-    }
 
 -- a refusal leaves the buffer as it is
 pub kept : (r : ℕ) (t b : List ℕ) → b ≡ filled (refused r) t b

@@ -3,8 +3,9 @@ ghost use mathlib.Core.Path.{_≡_};
 ghost use Prim.Native.Nat.{_+_, _≤_, _^_, _-_, min};
 ghost use lib.ListN.{length};
 ghost use Rattle.parent.specs.Context.{nameRead};
-ghost use Rattle.parent.specs.Name.{Put, hop, hopsAnswer, hopsOf, filled, before, nameAnswer, nameOf, qualifiedName};
+ghost use Rattle.parent.specs.Name.{hop, hopsAnswer, hopsOf, filled, before, nameAnswer, nameOf, qualifiedName};
 ghost use Rattle.typedescriptor.specs.Row.{rowOf};
+ghost use Rattle.util.specs.Buffer.{Put};
 use crate::header::ContextRead;
 use crate::header::read_context;
 use typedescriptor::Row;
@@ -34,14 +35,6 @@ fn hop_length(image: &[u8], name: Text) -> usize
     }
 }
 
-// Copies a piece into the buffer's tail from `at` on, and gives back where it ends.
-fn put(piece: &[u8], buffer: &mut [u8], at: usize) -> usize
-    requires { ⌜ at + length (now piece) ≤ length (now buffer) ⌝ }
-    ensures { λ r. ⌜ Put (now (buffer .entry)) at (now (piece .entry)) r (now (buffer .exit)) ⌝ }
-{
-    at + bytes::copy(piece, &mut buffer[at..])
-}
-
 // A present name and its dot.
 fn put_hop(image: &[u8], name: Text, buffer: &mut [u8], at: usize) -> usize
     requires { ⌜ at + length (hop (nameRead (now image) name)) ≤ length (now buffer) ⌝ }
@@ -49,8 +42,8 @@ fn put_hop(image: &[u8], name: Text, buffer: &mut [u8], at: usize) -> usize
 {
     match name {
         Text::At { place, length } => {
-            let end = put(util::part(image, place, length), buffer, at);
-            put(b".", buffer, end)
+            let end = util::put(util::part(image, place, length), buffer, at);
+            util::put(b".", buffer, end)
         }
         Text::Nothing => at,
     }
@@ -116,7 +109,7 @@ pub fn qualified_name(image: &[u8], segments: &[u64], row: Row, buffer: &mut [u8
 {
     let own = util::part(image, row.name_place, row.name_length);
     match write_hops(image, segments, row.parent, 256, own.len(), buffer) {
-        Hops::Written(at) => QualifiedName::Length(put(own, buffer, at)),
+        Hops::Written(at) => QualifiedName::Length(util::put(own, buffer, at)),
         Hops::TooLong => QualifiedName::TooLong,
         Hops::TooDeep => QualifiedName::TooDeep,
     }

@@ -1,4 +1,6 @@
 pub mod Answers
+pub mod Buffer
+pub mod BufferLaws
 pub mod Cstr
 pub mod CstrLaws
 pub mod LittleEndian

@@ -1,10 +1,12 @@
 // The lowest layer, carried over from darwinscope's src/util.rs: numbers in bytes, relative pointers, addresses, texts.
+mod buffer;
 mod cstr;
 mod header;
 mod pointer;
 mod read;
 mod segment;
 
+pub use buffer::put;
 pub use cstr::Text;
 pub use cstr::cstr_at;
 pub use cstr::part;

@@ -3,6 +3,7 @@
 use native.Mathlib.Omega.{arith}
 use mathlib.Core.Path.{ap}
 use Rattle.util.specs.Answers.{told}
+use Rattle.util.specs.BufferLaws.{put-fits}
 use Rattle.parent.specs.Name.{hopsOf}
 use Rattle.parent.specs.NameLaws.{filled-as, refused-as, hops-written, name-written, name-refused, name-filled}
 use borrow.Author.Needs.{needs}
@@ -10,8 +11,8 @@ use Rattle.parent.proofs.name.qualified_name.Statement.{statement}
 use Rattle.parent.proofs.name.qualified_name.Tie as tie
 use Rattle.parent.proofs.name.qualified_name.Reads as reads
 use Rattle.parent.proofs.name.qualified_name.Lts as lts
-use Rattle.parent.proofs.name.put.Reads as put-reads
 use Rattle.parent.proofs.name.write_hops.Reads as write-hops-reads
+use Rattle.util.proofs.put.Reads as put-reads
 use Rattle.util.proofs.part.Reads as part-reads
 
 part-requires : tie.Need-part-requires
@@ -24,8 +25,7 @@ enum-known-at : tie.Need-enum-known-at
 enum-known-at c = search needs
 
 put-requires : tie.Need-put-requires
-put-requires c κs =
-    omega (arith, hops-written _ _ _ _ _ _ _ (told hopsOf (c .before .before .before .before .before .before .write-hops .ensures .0) (c .before .before .at .given .1)), c .before .before .before .before .before .before .write-hops .kept)
+put-requires c κs = search needs
 
 enum-told : tie.Need-enum-told
 enum-told c = search needs
@@ -39,9 +39,10 @@ same-length c = search needs
 returns : tie.Need-returns
 returns c =
     let f = told hopsOf (c .before .before .before .before .before .before .before .before .before .write-hops .ensures .0) (c .before .before .before .before .before .at .given .1) in
-    let w = hops-written _ _ _ _ _ _ _ f in (
-      name-written _ _ _ _ (c .before .before .before .before .before .before .before .before .before .before .before .part .ensures) _ _ _ f (c .before .before .put .ensures .ends),
-      name-filled _ _ _ _ (c .before .before .before .before .before .before .before .before .before .before .before .part .ensures) _ _ _ _ _ (filled-as _ _ _ _ _ (c .before .before .before .before .before .before .before .before .before .write-hops .ensures .1) (ap hopsOf (c .before .before .before .before .before .at .given .1))) (w .0) (c .before .before .put .ensures) (omega arith),
+    let w = hops-written _ _ _ _ _ _ _ f in
+    let u = put-fits _ _ _ _ _ (c .before .before .put .ensures .0) (c .before .before .put .ensures .1) (omega (arith, c .before .before .before .before .before .before .before .before .before .write-hops .kept)) in (
+      name-written _ _ _ _ (c .before .before .before .before .before .before .before .before .before .before .before .part .ensures) _ _ _ f (u .ends),
+      name-filled _ _ _ _ (c .before .before .before .before .before .before .before .before .before .before .before .part .ensures) _ _ _ _ _ (filled-as _ _ _ _ _ (c .before .before .before .before .before .before .before .before .before .write-hops .ensures .1) (ap hopsOf (c .before .before .before .before .before .at .given .1))) (w .0) u (omega arith),
     )
 
 same-length-2 : tie.Need-same-length-2
