@@ -179,3 +179,23 @@ module _ (image segments : List ℕ) (row : TypeRow) (own : List ℕ) (eo : own 
   unfolding qualifiedName
   name-filled b b′ b″ at end eb ea w h =
       rw (← eo) (from-start _ _ _ _ (put-then b (before image segments 256 (row .parent)) own b′ b″ 0 at end (at-start _ _ _ _ ea eb) w (omega arith)))
+
+-- what a length that was written says of the name
+pub name-length : (image segments : List ℕ) (row : TypeRow) (size n : ℕ) → written n ≡ nameAnswer image segments row size
+    → (n ≡ length (qualifiedName image segments row)) × (n ≤ size)
+unfolding nameAnswer
+name-length image segments row size n e = go (tooDeep image segments 256 (row .parent)) (length (qualifiedName image segments row)) e
+  where
+    go : (d : Bool) (m : ℕ) → written n ≡ cond d (refused 4) (cond (ltb size m) (refused 3) (written m)) → (n ≡ m) × (n ≤ size)
+    go true m e = let z : _≡_ {A = ℕ} 0 1 = cc in absurd (omega arith)
+    go false m e =
+        elim (decLt size m) [
+          | yes h ↦
+              let f : written n ≡ refused 3 = rw (lt-ltb size m h) at e in
+              let z : _≡_ {A = ℕ} 0 1 = cc in
+              absurd (omega arith)
+          | no h ↦
+              let f : written n ≡ written m = rw (le-ltb size m (omega arith)) at e in
+              let g : n ≡ m = cc in
+              (g, omega arith)
+        ]

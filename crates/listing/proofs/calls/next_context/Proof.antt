@@ -1,0 +1,33 @@
+-- `listing::calls::next_context` meets its contract.
+-- Assumes nothing.
+use Rattle.util.specs.Answers.{told}
+use Rattle.parent.specs.Chain.{stepOf}
+use Rattle.listing.specs.CallsLaws.{ragged, whole}
+use borrow.Author.Needs.{needs}
+use Rattle.listing.proofs.calls.next_context.Statement.{statement}
+use Rattle.listing.proofs.calls.next_context.Tie as tie
+use Rattle.listing.proofs.calls.next_context.Reads as reads
+use Rattle.listing.proofs.calls.next_context.Lts as lts
+use Rattle.parent.proofs.chain.ParentChain.next.Reads as next-reads
+
+returns : tie.Need-returns
+returns c = ragged _ _ (c .if1 .taken)
+
+next-requires : tie.Need-next-requires
+next-requires c κs = search needs
+
+enum-known-context : tie.Need-enum-known-context
+enum-known-context c = search needs
+
+enum-told : tie.Need-enum-told
+enum-told c = search needs
+
+returns-2 : tie.Need-returns-2
+returns-2 c = whole _ _ _ (told (stepOf _) (c .before .before .before .next .ensures) (c .before .context .given .1)) (c .before .before .before .before .if1 .left)
+
+returns-3 : tie.Need-returns-3
+returns-3 c = whole _ _ _ (told (stepOf _) (c .before .before .next .ensures) (c .enum-told .given .1)) (c .before .before .before .if1 .left)
+
+pub next-context-spec : {M : Type 1} → statement M
+next-context-spec =
+    tie.close (tie.spec returns next-requires enum-known-context enum-told returns-2 returns-3)

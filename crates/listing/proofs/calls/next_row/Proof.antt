@@ -1,0 +1,33 @@
+-- `listing::calls::next_row` meets its contract.
+-- Assumes nothing.
+use Rattle.util.specs.Answers.{told}
+use Rattle.typedescriptor.specs.Slots.{stepOf}
+use Rattle.listing.specs.CallsLaws.{ragged, whole}
+use borrow.Author.Needs.{needs}
+use Rattle.listing.proofs.calls.next_row.Statement.{statement}
+use Rattle.listing.proofs.calls.next_row.Tie as tie
+use Rattle.listing.proofs.calls.next_row.Reads as reads
+use Rattle.listing.proofs.calls.next_row.Lts as lts
+use Rattle.typedescriptor.proofs.iter.TypeIter.next.Reads as next-reads
+
+returns : tie.Need-returns
+returns c = ragged _ _ (c .if1 .taken)
+
+next-requires : tie.Need-next-requires
+next-requires c κs = search needs
+
+enum-known-slot : tie.Need-enum-known-slot
+enum-known-slot c = search needs
+
+enum-told : tie.Need-enum-told
+enum-told c = search needs
+
+returns-2 : tie.Need-returns-2
+returns-2 c = whole _ _ _ (told (stepOf _) (c .before .before .before .next .ensures) (c .before .slot .given .1)) (c .before .before .before .before .if1 .left)
+
+returns-3 : tie.Need-returns-3
+returns-3 c = whole _ _ _ (told (stepOf _) (c .before .before .next .ensures) (c .enum-told .given .1)) (c .before .before .before .if1 .left)
+
+pub next-row-spec : {M : Type 1} → statement M
+next-row-spec =
+    tie.close (tie.spec returns next-requires enum-known-slot enum-told returns-2 returns-3)

@@ -1,0 +1,54 @@
+-- `listing::printer::rows_line` meets its contract.
+-- Assumes nothing.
+use Rattle.util.specs.Answers.{told}
+use Rattle.listing.specs.Calls.{lineAnswer}
+use Rattle.listing.specs.PrintedLaws.{rows-print}
+use borrow.Author.Needs.{needs}
+use Rattle.listing.proofs.printer.rows_line.Statement.{statement}
+use Rattle.listing.proofs.printer.rows_line.Tie as tie
+use Rattle.listing.proofs.printer.rows_line.Reads as reads
+use Rattle.listing.proofs.printer.rows_line.Lts as lts
+use Rattle.bundle.proofs.image_part.Reads as image-part-reads
+use Rattle.bundle.proofs.types_part.Reads as types-part-reads
+use Rattle.listing.proofs.calls.next_line.Reads as next-line-reads
+
+image-part-requires : tie.Need-image-part-requires
+image-part-requires c κs = search needs
+
+types-part-requires : tie.Need-types-part-requires
+types-part-requires c κs = search needs
+
+next-line-requires : tie.Need-next-line-requires
+next-line-requires c κs = search needs
+
+enum-known-length : tie.Need-enum-known-length
+enum-known-length c = search needs
+
+enum-told : tie.Need-enum-told
+enum-told c = search needs
+
+enum-told-2 : tie.Need-enum-told-2
+enum-told-2 c = search needs
+
+returns : tie.Need-returns
+returns c = rows-print _ _ _ _ _ _ _ (c .before .before .before .before .before .before .image-part .ensures) (c .before .before .before .before .before .types-part .ensures) _ _ (told (lineAnswer _) (c .before .before .before .next-line .ensures .0) (c .before .length .given .1)) (c .before .before .before .next-line .ensures .1)
+
+returns-2 : tie.Need-returns-2
+returns-2 c = rows-print _ _ _ _ _ _ _ (c .before .before .before .before .before .image-part .ensures) (c .before .before .before .before .types-part .ensures) _ _ (told (lineAnswer _) (c .before .before .next-line .ensures .0) (c .enum-told .given .1)) (c .before .before .next-line .ensures .1)
+
+returns-3 : tie.Need-returns-3
+returns-3 c = rows-print _ _ _ _ _ _ _ (c .before .before .before .before .before .image-part .ensures) (c .before .before .before .before .types-part .ensures) _ _ (told (lineAnswer _) (c .before .before .next-line .ensures .0) (c .enum-told2 .given .1)) (c .before .before .next-line .ensures .1)
+
+pub rows-line-spec : {M : Type 1} → statement M
+rows-line-spec =
+    tie.close
+    (tie.spec
+    image-part-requires
+    types-part-requires
+    next-line-requires
+    enum-known-length
+    enum-told
+    enum-told-2
+    returns
+    returns-2
+    returns-3)

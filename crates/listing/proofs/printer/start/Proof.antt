@@ -1,0 +1,45 @@
+-- `listing::printer::start` meets its contract.
+-- Assumes nothing.
+use mathlib.Core.Path.{ap}
+use Rattle.util.specs.Answers.{told}
+use Rattle.bundle.specs.Open.{opened}
+use Rattle.listing.specs.Printed.{startOf}
+use borrow.Author.Needs.{needs}
+use Rattle.listing.proofs.printer.start.Statement.{statement}
+use Rattle.listing.proofs.printer.start.Tie as tie
+use Rattle.listing.proofs.printer.start.Reads as reads
+use Rattle.listing.proofs.printer.start.Lts as lts
+use Rattle.bundle.proofs.open_bundle.Reads as open-bundle-reads
+
+open-bundle-requires : tie.Need-open-bundle-requires
+open-bundle-requires c κs = search needs
+
+enum-known-layout : tie.Need-enum-known-layout
+enum-known-layout c = search needs
+
+enum-told : tie.Need-enum-told
+enum-told c = search needs
+
+enum-told-2 : tie.Need-enum-told-2
+enum-told-2 c = search needs
+
+returns : tie.Need-returns
+returns c = ap startOf (told opened (c .before .before .before .open-bundle .ensures) (c .before .layout .given .1))
+
+returns-2 : tie.Need-returns-2
+returns-2 c = ap startOf (told opened (c .before .before .open-bundle .ensures) (c .enum-told .given .1))
+
+returns-3 : tie.Need-returns-3
+returns-3 c = ap startOf (told opened (c .before .before .open-bundle .ensures) (c .enum-told2 .given .1))
+
+pub start-spec : {M : Type 1} → statement M
+start-spec =
+    tie.close
+    (tie.spec
+    open-bundle-requires
+    enum-known-layout
+    enum-told
+    enum-told-2
+    returns
+    returns-2
+    returns-3)

@@ -1,0 +1,9 @@
+pub mod Calls
+pub mod CallsLaws
+pub mod Digits
+pub mod DigitsLaws
+pub mod Lines
+pub mod LinesLaws
+pub mod Printed
+pub mod PrintedLaws
+pub mod Prints
