@@ -1,5 +1,6 @@
 pub mod Calls
 pub mod CallsLaws
+pub mod Checked
 pub mod Digits
 pub mod DigitsLaws
 pub mod Lines

@@ -1,5 +1,6 @@
 -- What the listing program prints for a bundle: document 01, "Bundle and program".
-use Prim.Native.Nat.{ℕ, zero, suc, _/_, min}
+use Prim.Native.Nat.{ℕ, zero, suc, _/_, _≤_, min}
+use mathlib.Core.Path.{_≡_}
 use mathlib.Core.List.{List, [], _∷_, _++_}
 use mathlib.Core.Bool.{Bool, true, false}
 use mathlib.Core.Option.{Option, some, none}
@@ -85,3 +86,9 @@ abbrev pub numbersFor : List ℕ → Pending → List ℕ
 numbersFor s (rows l c) = numbers (min 8192 (length (bytesOf s (l .segments)) / 8)) (bytesOf s (l .segments))
 numbersFor s (refusal n) = []
 numbersFor s finished = []
+
+-- a list of at most 8,192 numbers stands at the start of another
+pub record Filled (ns list : List ℕ) (count : ℕ) (list′ : List ℕ) : Type 0 where
+  pub counts : count ≡ length ns
+  pub few : count ≤ 8192
+  pub holds : list′ ≡ ns ++ drop count list

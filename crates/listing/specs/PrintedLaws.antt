@@ -4,11 +4,11 @@ use native.Mathlib.Nat.{zero-add}
 use native.Mathlib.Omega.{arith}
 use native.Mathlib.Numerals.{add-one}
 use mathlib.Core.Path.{_≡_, refl, sym, _∙_, ap}
-use mathlib.Core.List.{List, [], _∷_, _++_}
+use mathlib.Core.List.{List, [], _∷_, _++_, append-assoc}
 use mathlib.Core.Bool.{Bool, true, false, cond}
 use mathlib.Core.Option.{Option, some, none}
-use lib.ListN.{length, take, drop, set, length-set}
-use lib.Seq.{drop-drop, take-suc-set}
+use lib.ListN.{length, take, drop, getD, set, length-set}
+use lib.Seq.{drop-drop, drop-cons, set-at}
 use lib.Dec.{eqb}
 use Rattle.util.specs.LittleEndian.{littleEndian, littleAt}
 use Rattle.util.specs.LittleEndianLaws.{little-within, little-value, little-beyond}
@@ -19,7 +19,7 @@ use Rattle.listing.specs.Lines.{Step, lineStep}
 use Rattle.listing.specs.LinesLaws.{line-put}
 use Rattle.listing.specs.Calls.{Guarded, answered, refused, guarded, lineBuffer}
 use Rattle.listing.specs.CallsLaws.{ragged, whole}
-use Rattle.listing.specs.Printed.{numbers, refusedLine, Pending, rows, refusal, finished, Line, lineOf, printStep, printBuffer, numbersFor}
+use Rattle.listing.specs.Printed.{numbers, refusedLine, Pending, rows, refusal, finished, Line, lineOf, printStep, printBuffer, numbersFor, Filled}
 use Rattle.listing.specs.declared.lines.Lister.{Lister}
 
 -- ---- the segments' numbers
@@ -41,35 +41,38 @@ numbers-length zero s = refl
 numbers-length (suc n) s = ap suc (numbers-length n (drop 8 s))
 
 -- so many numbers are in the list already
-pub record Filled (body out : List ℕ) (i : ℕ) : Type 0 where
+pub record Started (body list list′ : List ℕ) (i : ℕ) : Type 0 where
   pub bound : i ≤ 8192
   pub within : 8 * i ≤ length body
-  pub size : 8192 ≤ length out
-  pub taken : take i out ≡ numbers i body
+  pub size : 8192 ≤ length list
+  pub long : length list′ ≡ length list
+  pub holds : list′ ≡ numbers i body ++ drop i list
 
-pub filled-none : (body out : List ℕ) → 8192 ≤ length out → Filled body out 0
+pub started-none : (body list : List ℕ) → 8192 ≤ length list → Started body list list 0
 unfolding numbers
-filled-none body out e = record { bound = omega arith; within = omega arith; size = e; taken = refl }
+started-none body list h = record { bound = omega arith; within = omega arith; size = h; long = refl; holds = refl }
 
-pub filled-more : (body out : List ℕ) (i n : ℕ) → Filled body out i → some n ≡ littleAt 8 body (8 * i) → i < 8192 → Filled body (set out i n) (i + 1)
-filled-more body out i n f e h =
+pub started-more : (body list list′ : List ℕ) (i n : ℕ) → Started body list list′ i → some n ≡ littleAt 8 body (8 * i) → i < 8192 → Started body list (set list′ i n) (i + 1)
+started-more body list list′ i n f e h =
+    let inside : i < length list = omega (arith, f .size) in
     record {
       bound = omega arith;
       within = omega (arith, little-within 8 body (8 * i) n e);
-      size = rw length-set (f .size);
-      taken =
-          rw add-one
-          (take-suc-set out i n (omega (arith, f .size))
-          ∙ ap (λ (l : List ℕ). l ++ (n ∷ [])) (f .taken)
-          ∙ ap (λ (v : ℕ). numbers i body ++ (v ∷ [])) (little-value 8 body (8 * i) n e)
-          ∙ sym (numbers-snoc i body));
+      size = f .size;
+      long = length-set list′ i n ∙ f .long;
+      holds =
+          rw (add-one, f .holds, drop-cons list i 0 inside)
+          (set-at (numbers i body) (getD list i 0) (drop (suc i) list) n i (numbers-length i body)
+          ∙ ap (λ (v : ℕ). numbers i body ++ (v ∷ drop (suc i) list)) (little-value 8 body (8 * i) n e)
+          ∙ sym (append-assoc (numbers i body) (littleEndian (take 8 (drop (8 * i) body)) ∷ []) (drop (suc i) list))
+          ∙ ap (λ (l : List ℕ). l ++ drop (suc i) list) (sym (numbers-snoc i body)));
     }
 
-pub filled-all : (body out : List ℕ) (i : ℕ) → Filled body out i → none ≡ littleAt 8 body (8 * i) → i ≡ min 8192 (length body / 8)
-filled-all body out i f e = omega (arith, little-beyond 8 body (8 * i) e, f .bound, f .within)
+pub started-all : (body list list′ : List ℕ) (i : ℕ) → Started body list list′ i → none ≡ littleAt 8 body (8 * i) → i ≡ min 8192 (length body / 8)
+started-all body list list′ i f e = omega (arith, little-beyond 8 body (8 * i) e, f .bound, f .within)
 
-pub filled-full : (body out : List ℕ) (i : ℕ) → Filled body out i → 8192 ≤ i → i ≡ min 8192 (length body / 8)
-filled-full body out i f h = omega (arith, f .bound, f .within)
+pub started-full : (body list list′ : List ℕ) (i : ℕ) → Started body list list′ i → 8192 ≤ i → i ≡ min 8192 (length body / 8)
+started-full body list list′ i f h = omega (arith, f .bound, f .within)
 
 -- ---- a step
 
@@ -151,9 +154,12 @@ print-as s segments p q x b b′ e f g = (
 )
 
 -- the numbers for the rows
-pub numbers-for : (s : List ℕ) (p : Pending) (l : Layout) (c : Lister) (r : ℕ) (out : List ℕ) → rows l c ≡ p → r ≡ min 8192 (length (bytesOf s (l .segments)) / 8)
-    → take r out ≡ numbers r (bytesOf s (l .segments)) → (take r out ≡ numbersFor s p) × (r ≡ length (numbersFor s p))
-numbers-for s p l c r out e er et = (
-  et ∙ ap (λ (k : ℕ). numbers k (bytesOf s (l .segments))) er ∙ ap (numbersFor s) e,
-  er ∙ sym (numbers-length _ (bytesOf s (l .segments))) ∙ ap (λ (z : Pending). length (numbersFor s z)) e,
-)
+pub numbers-for : (s : List ℕ) (p : Pending) (l : Layout) (c : Lister) (r : ℕ) (list list′ : List ℕ) → rows l c ≡ p → r ≡ min 8192 (length (bytesOf s (l .segments)) / 8)
+    → list′ ≡ numbers r (bytesOf s (l .segments)) ++ drop r list → Filled (numbersFor s p) list r list′
+numbers-for s p l c r list list′ e er el =
+    let same : numbers r (bytesOf s (l .segments)) ≡ numbersFor s p = ap (λ (k : ℕ). numbers k (bytesOf s (l .segments))) er ∙ ap (numbersFor s) e in
+    record {
+      counts = sym (numbers-length r (bytesOf s (l .segments))) ∙ ap length same;
+      few = omega arith;
+      holds = el ∙ ap (λ (ns : List ℕ). ns ++ drop r list) same;
+    }

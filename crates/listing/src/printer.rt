@@ -1,11 +1,12 @@
 // The printed listing of a bundle, line by line.
 ghost use mathlib.Core.Path.{_≡_};
 ghost use Prim.Native.Nat.{_/_, _≤_, min};
-ghost use lib.ListN.{length, take};
+ghost use mathlib.Core.List.{_++_};
+ghost use lib.ListN.{length, drop};
 ghost use Rattle.util.specs.Buffer.{Put};
 ghost use Rattle.bundle.specs.Open.{openBundle};
 ghost use Rattle.bundle.specs.Parts.{bytesOf};
-ghost use Rattle.listing.specs.Printed.{numbers, numbersFor, startOf, pendingOf, rows, printStep, printAnswer, printBuffer};
+ghost use Rattle.listing.specs.Printed.{Filled, numbers, numbersFor, startOf, pendingOf, rows, printStep, printAnswer, printBuffer};
 ghost use Rattle.listing.specs.Calls.{guarded};
 use crate::calls::NextLine;
 use crate::calls::next_line;
@@ -36,7 +37,7 @@ pub enum PrintStep {
 fn fill_into(bytes: &[u8], layout: Layout, out: &mut [u64]) -> usize
     requires { ⌜ 8192 ≤ length (now out) ⌝ }
     ensures { λ r. ⌜ r ≡ min 8192 (length (bytesOf (now (bytes .entry)) (layout .segments)) / 8) ⌝ }
-    ensures { λ r. ⌜ take r (now (out .exit)) ≡ numbers r (bytesOf (now (bytes .entry)) (layout .segments)) ⌝ }
+    ensures { λ r. ⌜ now (out .exit) ≡ numbers r (bytesOf (now (bytes .entry)) (layout .segments)) ++ drop r (now (out .entry)) ⌝ }
 {
     let mut i = 0;
     while i < 8192 {
@@ -56,7 +57,7 @@ fn fill_into(bytes: &[u8], layout: Layout, out: &mut [u64]) -> usize
 
 fn fill(bytes: &[u8], layout: Layout, out: &mut [u64; 8192]) -> usize
     ensures { λ r. ⌜ r ≡ min 8192 (length (bytesOf (now (bytes .entry)) (layout .segments)) / 8) ⌝ }
-    ensures { λ r. ⌜ take r (now (out .exit)) ≡ numbers r (bytesOf (now (bytes .entry)) (layout .segments)) ⌝ }
+    ensures { λ r. ⌜ now (out .exit) ≡ numbers r (bytesOf (now (bytes .entry)) (layout .segments)) ++ drop r (now (out .entry)) ⌝ }
 {
     let list: &mut [u64] = out;
     fill_into(bytes, layout, list)
@@ -99,8 +100,7 @@ fn refusal_line(text: &[u8], line: &mut [u8; 4121]) -> usize
 impl Printer {
     // The numbers of the segments, for `next_line`: 8,192 are enough for every bundle.
     pub fn segments(self, bytes: &[u8], out: &mut [u64; 8192]) -> usize
-        ensures { λ r. ⌜ take r (now (out .exit)) ≡ numbersFor (now (bytes .entry)) (pendingOf self) ⌝ }
-        ensures { λ r. ⌜ r ≡ length (numbersFor (now (bytes .entry)) (pendingOf self)) ⌝ }
+        ensures { λ r. ⌜ Filled (numbersFor (now (bytes .entry)) (pendingOf self)) (now (out .entry)) r (now (out .exit)) ⌝ }
     {
         match self {
             Printer::Rows { layout, walk: _ } => fill(bytes, layout, out),

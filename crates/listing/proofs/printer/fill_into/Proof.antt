@@ -3,12 +3,10 @@
 use borrow.Author.Needs.{needs}
 use native.Mathlib.Omega.{arith}
 use Prim.Native.Nat.{_-_}
-use mathlib.Core.Path.{_≡_, refl}
-use lib.ListN.{length, length-set}
 use Rattle.util.specs.Answers.{told}
 use Rattle.util.specs.LittleEndian.{u64Value}
 use Rattle.bundle.specs.Parts.{bytesOf}
-use Rattle.listing.specs.PrintedLaws.{Filled, filled-none, filled-more, filled-all, filled-full}
+use Rattle.listing.specs.PrintedLaws.{Started, started-none, started-more, started-all, started-full}
 use Rattle.listing.proofs.printer.fill_into.Statement.{statement}
 use Rattle.listing.proofs.printer.fill_into.Tie as tie
 use Rattle.listing.proofs.printer.fill_into.Reads as reads
@@ -16,13 +14,13 @@ use Rattle.listing.proofs.printer.fill_into.Lts as lts
 use Rattle.bundle.proofs.segment_number.Reads as segment-number-reads
 
 abbrev Inv-loop : tie.InvT-loop
-Inv-loop bytes layout out₀ i₀ out i = (length out ≡ length out₀) × Filled (bytesOf bytes (layout .segments)) out i
+Inv-loop bytes layout out₀ i₀ out i = Started (bytesOf bytes (layout .segments)) out₀ out i
 
 abbrev μ-loop : tie.MeasureT-loop
 μ-loop bytes layout out₀ i₀ out i = 8192 - i
 
 loop-holds : tie.Need-loop-holds Inv-loop μ-loop
-loop-holds c = (refl, filled-none _ _ (omega arith))
+loop-holds c = started-none _ _ (omega arith)
 
 segment-number-requires : tie.Need-segment-number-requires Inv-loop μ-loop
 segment-number-requires c κs = search needs
@@ -43,7 +41,7 @@ loop-less : tie.Need-loop-less Inv-loop μ-loop
 loop-less c = search needs
 
 loop-again : tie.Need-loop-again Inv-loop μ-loop
-loop-again c = (simp length-set (c .before .before .before .before .before .loop .inv .0), filled-more _ _ _ _ (c .before .before .before .before .before .loop .inv .1) (told u64Value (c .before .before .before .segment-number .ensures) (c .before .number .given .1)) (omega arith))
+loop-again c = started-more _ _ _ _ _ (c .before .before .before .before .before .loop .inv) (told u64Value (c .before .before .before .segment-number .ensures) (c .before .number .given .1)) (omega arith)
 
 enum-told : tie.Need-enum-told Inv-loop μ-loop
 enum-told c = search needs
@@ -52,13 +50,14 @@ same-length : tie.Need-same-length Inv-loop μ-loop
 same-length c = search needs
 
 returns : tie.Need-returns Inv-loop μ-loop
-returns c = (filled-all _ _ _ (c .before .before .before .before .loop .inv .1) (told u64Value (c .before .before .segment-number .ensures) (c .enum-told .given .1)), c .before .before .before .before .loop .inv .1 .taken)
+returns c =
+    (started-all _ _ _ _ (c .before .before .before .before .loop .inv) (told u64Value (c .before .before .segment-number .ensures) (c .enum-told .given .1)), c .before .before .before .before .loop .inv .holds)
 
 same-length-2 : tie.Need-same-length-2 Inv-loop μ-loop
 same-length-2 c = search needs
 
 returns-2 : tie.Need-returns-2 Inv-loop μ-loop
-returns-2 c = (filled-full _ _ _ (c .before .loop .inv .1) (omega arith), c .before .loop .inv .1 .taken)
+returns-2 c = (started-full _ _ _ _ (c .before .loop .inv) (omega arith), c .before .loop .inv .holds)
 
 pub fill-into-spec : {M : Type 1} → statement M
 fill-into-spec =

@@ -26,7 +26,7 @@ enum-told-3 : tie.Need-enum-told-3
 enum-told-3 c = search needs
 
 returns : tie.Need-returns
-returns c = numbers-for _ _ _ _ _ _ (sym (ap pendingOf (c .before .before .before .self .given .1))) (c .fill .ensures .0) (c .fill .ensures .1)
+returns c = numbers-for _ _ _ _ _ _ _ (sym (ap pendingOf (c .before .before .before .self .given .1))) (c .fill .ensures .0) (c .fill .ensures .1)
 
 returns-2 : tie.Need-returns-2
 returns-2 c = search needs
