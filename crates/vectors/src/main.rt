@@ -3,12 +3,414 @@
 // A line is FUNCTION A B BYTES STRINGS SEGMENT.., with one space between: the function called, two numbers, the image's (or the
 // slice's) bytes, the string section's bytes and the segments' numbers, as many as there are. Numbers and bytes are in lowercase
 // hexadecimal; `-` stands for no bytes. tests/vectors.py writes the lines and the answers.
-mod answers;
-mod dispatch;
-mod fields;
+ghost use Prim.Native.Nat.{_≤_};
+ghost use lib.ListN.{length};
+use runtime::Bytes;
+use runtime::FieldName;
+use util::FileOffset;
+use util::ReadI32;
+use util::ReadU16;
+use util::ReadU32;
+use util::ReadU64;
+use util::Text;
 
-use fields::Count;
-use fields::Number;
+// The fields of a line.
+
+enum Number {
+    Value(u64),
+    Bad,
+}
+
+// How many bytes or numbers a lent buffer got.
+enum Count {
+    Of(usize),
+    Bad,
+}
+
+// The first place of `stop` from `at` on, or the slice's length.
+fn find(s: &[u8], at: usize, stop: u8) -> usize
+    requires { ⌜ at ≤ length (now s) ⌝ }
+    ensures { λ r. ⌜ (at ≤ r) × (r ≤ length (now (s .entry))) ⌝ }
+{
+    let mut i = at;
+    while i < s.len() {
+        if s[i] == stop {
+            return i;
+        }
+        i += 1;
+    }
+    i
+}
+
+// A field by its number, from 0 on: empty where the line has fewer.
+fn field(line: &[u8], number: usize) -> &[u8] {
+    let mut at = 0;
+    let mut left = number;
+    while left > 0 {
+        let end = find(line, at, b' ');
+        if end == line.len() {
+            return &line[..0];
+        }
+        at = end + 1;
+        left -= 1;
+    }
+    let end = find(line, at, b' ');
+    &line[at..end]
+}
+
+// The value of a hexadecimal digit, or 16.
+fn digit(b: u8) -> u64
+    ensures { λ r. ⌜ r ≤ 16 ⌝ }
+{
+    if b < b'0' {
+        return 16;
+    }
+    if b <= b'9' {
+        return (b - b'0') as u64;
+    }
+    if b < b'a' {
+        return 16;
+    }
+    if b <= b'f' {
+        return (b - b'a') as u64 + 10;
+    }
+    16
+}
+
+fn parse_number(s: &[u8]) -> Number {
+    if s.len() == 0 {
+        return Number::Bad;
+    }
+    let mut value: u64 = 0;
+    let mut i = 0;
+    while i < s.len() {
+        let d = digit(s[i]);
+        if d > 15 {
+            return Number::Bad;
+        }
+        if value > 0x0fff_ffff_ffff_ffff {
+            return Number::Bad;
+        }
+        value = value * 16 + d;
+        i += 1;
+    }
+    Number::Value(value)
+}
+
+fn is_dash(s: &[u8]) -> bool {
+    if s.len() == 1 { s[0] == b'-' } else { false }
+}
+
+fn parse_bytes(s: &[u8], out: &mut [u8]) -> Count {
+    if s.len() == 0 {
+        return Count::Bad;
+    }
+    if is_dash(s) {
+        return Count::Of(0);
+    }
+    let mut n = 0;
+    let mut at = 0;
+    while 2 <= s.len() - at {
+        let high = digit(s[at]);
+        let low = digit(s[at + 1]);
+        if high > 15 {
+            return Count::Bad;
+        }
+        if low > 15 {
+            return Count::Bad;
+        }
+        if out.len() <= n {
+            return Count::Bad;
+        }
+        out[n] = (high * 16 + low) as u8;
+        n += 1;
+        at += 2;
+    }
+    if at == s.len() {
+        Count::Of(n)
+    } else {
+        Count::Bad
+    }
+}
+
+// The numbers from the sixth field to the line's end.
+fn parse_numbers(line: &[u8], out: &mut [u64]) -> Count {
+    let mut n = 0;
+    while n < 64 {
+        let text = field(line, 5 + n);
+        if text.len() == 0 {
+            return Count::Of(n);
+        }
+        let Number::Value(value) = parse_number(text) else {
+            return Count::Bad;
+        };
+        if out.len() <= n {
+            return Count::Bad;
+        }
+        out[n] = value;
+        n += 1;
+    }
+    Count::Bad
+}
+
+// The first numbers of a list: none where it has fewer.
+fn first(s: &[u64], n: usize) -> &[u64] {
+    if n <= s.len() { &s[..n] } else { &s[..0] }
+}
+
+fn same(a: &[u8], b: &[u8]) -> bool {
+    if a.len() != b.len() {
+        return false;
+    }
+    let mut i = 0;
+    while i < a.len() {
+        if a[i] != b[i] {
+            return false;
+        }
+        i += 1;
+    }
+    true
+}
+
+// A call each, and its whole answer on a line.
+
+fn nothing() {
+    io::write_all(1, b"nothing\n");
+}
+
+fn number_line(n: u64) {
+    io::print_hex(1, n, 1);
+    io::write_all(1, b"\n");
+}
+
+// A number and a space.
+fn number_field(n: u64) {
+    io::print_hex(1, n, 1);
+    io::write_all(1, b" ");
+}
+
+fn byte_digits(b: u8) {
+    io::print_hex(1, b as u64, 2);
+}
+
+// The bytes of a part that two calls give; `differs` where they give two.
+fn bytes_line(part: &[u8], again: &[u8]) {
+    if !same(part, again) {
+        io::write_all(1, b"differs\n");
+        return;
+    }
+    if part.len() == 0 {
+        io::write_all(1, b"-");
+    }
+    let mut i = 0;
+    while i < part.len() {
+        byte_digits(part[i]);
+        i += 1;
+    }
+    io::write_all(1, b"\n");
+}
+
+// Where there is no part, both calls give an empty one.
+fn no_part(part: &[u8], again: &[u8]) {
+    if part.len() == 0 && again.len() == 0 {
+        nothing();
+    } else {
+        io::write_all(1, b"differs\n");
+    }
+}
+
+fn read_u16_le_at(s: &[u8], off: usize) {
+    match util::read_u16_le_at(s, off) {
+        ReadU16::Value(n) => number_line(n as u64),
+        ReadU16::Nothing => nothing(),
+    }
+}
+
+fn read_u32_le_at(s: &[u8], off: usize) {
+    match util::read_u32_le_at(s, off) {
+        ReadU32::Value(n) => number_line(n as u64),
+        ReadU32::Nothing => nothing(),
+    }
+}
+
+fn read_u64_le_at(s: &[u8], off: usize) {
+    match util::read_u64_le_at(s, off) {
+        ReadU64::Value(n) => number_line(n),
+        ReadU64::Nothing => nothing(),
+    }
+}
+
+// A sign and the magnitude.
+fn signed_line(n: i32) {
+    if n >= 0 {
+        number_line(n as u64);
+    } else {
+        io::write_all(1, b"-");
+        number_line((-(n as i64)) as u64);
+    }
+}
+
+fn read_i32_le_at(s: &[u8], off: usize) {
+    match util::read_i32_le_at(s, off) {
+        ReadI32::Value(n) => signed_line(n),
+        ReadI32::Nothing => nothing(),
+    }
+}
+
+// The offset is the i32 at the start of `s`.
+fn relative_pointer(base: u64, s: &[u8]) {
+    match util::read_i32_le_at(s, 0) {
+        ReadI32::Value(n) => {
+            io::print_hex(1, util::relative_pointer(base, n), 16);
+            io::write_all(1, b"\n");
+        }
+        ReadI32::Nothing => nothing(),
+    }
+}
+
+fn offset_line(offset: FileOffset) {
+    match offset {
+        FileOffset::At(n) => number_line(n),
+        FileOffset::Nothing => nothing(),
+    }
+}
+
+fn vm_to_file_offset_in(segments: &[u64], vmaddr: u64) {
+    offset_line(util::vm_to_file_offset_in(segments, vmaddr));
+}
+
+fn vm_to_file_offset(segments: &[u64], vmaddr: u64) {
+    offset_line(runtime::vm_to_file_offset(segments, vmaddr));
+}
+
+fn place_fields(place: usize, length: usize) {
+    number_field(place as u64);
+    number_field(length as u64);
+}
+
+fn text_line(text: Text, part: &[u8], again: &[u8]) {
+    match text {
+        Text::At { place, length } => {
+            place_fields(place, length);
+            bytes_line(part, again);
+        }
+        Text::Nothing => no_part(part, again),
+    }
+}
+
+fn read_cstr_at(s: &[u8], off: usize) {
+    let text = util::read_cstr_at(s, off);
+    text_line(text, util::text_part(s, text), util::cstr_at(s, off));
+}
+
+fn read_cstr(image: &[u8], segments: &[u64], vmaddr: u64) {
+    let text = runtime::read_cstr(image, segments, vmaddr);
+    let part = util::text_part(image, text);
+    text_line(text, part, part);
+}
+
+fn read_bytes(image: &[u8], segments: &[u64], vmaddr: u64, length: usize) {
+    let part = runtime::read_bytes(image, segments, vmaddr, length);
+    match runtime::find_bytes(image, segments, vmaddr, length) {
+        Bytes::At(place) => {
+            number_field(place as u64);
+            bytes_line(part, util::part(image, place, length));
+        }
+        Bytes::Nothing => no_part(part, part),
+    }
+}
+
+fn lookup_field_name<'a>(
+    image: &'a [u8],
+    segments: &[u64],
+    strings: &'a [u8],
+    section: u64,
+    vmaddr: u64,
+) {
+    let name = runtime::lookup_field_name(image, segments, strings, section, vmaddr);
+    let part = runtime::field_name_part(image, strings, name);
+    match name {
+        FieldName::Image { place, length } => {
+            io::write_all(1, b"image ");
+            place_fields(place, length);
+            bytes_line(part, util::part(image, place, length));
+        }
+        FieldName::Strings { place, length } => {
+            io::write_all(1, b"strings ");
+            place_fields(place, length);
+            bytes_line(part, util::part(strings, place, length));
+        }
+        FieldName::Nothing => no_part(part, part),
+    }
+}
+
+// From a function's name to its call. The answers are whether the name is known.
+
+fn number_call(name: &[u8], a: u64, bytes: &[u8]) -> bool {
+    if same(name, b"read_u16_le_at") {
+        read_u16_le_at(bytes, a as usize);
+        return true;
+    }
+    if same(name, b"read_u32_le_at") {
+        read_u32_le_at(bytes, a as usize);
+        return true;
+    }
+    if same(name, b"read_u64_le_at") {
+        read_u64_le_at(bytes, a as usize);
+        return true;
+    }
+    if same(name, b"read_i32_le_at") {
+        read_i32_le_at(bytes, a as usize);
+        return true;
+    }
+    if same(name, b"relative_pointer") {
+        relative_pointer(a, bytes);
+        return true;
+    }
+    if same(name, b"read_cstr_at") {
+        read_cstr_at(bytes, a as usize);
+        return true;
+    }
+    false
+}
+
+fn address_call(name: &[u8], a: u64, b: u64, image: &[u8], segments: &[u64]) -> bool {
+    if same(name, b"vm_to_file_offset_in") {
+        vm_to_file_offset_in(segments, a);
+        return true;
+    }
+    if same(name, b"vm_to_file_offset") {
+        vm_to_file_offset(segments, a);
+        return true;
+    }
+    if same(name, b"read_bytes") {
+        read_bytes(image, segments, a, b as usize);
+        return true;
+    }
+    if same(name, b"read_cstr") {
+        read_cstr(image, segments, a);
+        return true;
+    }
+    false
+}
+
+fn answer<'a>(
+    name: &[u8],
+    a: u64,
+    b: u64,
+    image: &'a [u8],
+    strings: &'a [u8],
+    segments: &[u64],
+) -> bool {
+    if same(name, b"lookup_field_name") {
+        lookup_field_name(image, segments, strings, b, a);
+        return true;
+    }
+    if number_call(name, a, image) {
+        return true;
+    }
+    address_call(name, a, b, image, segments)
+}
 
 fn bad_line() {
     io::write_all(1, b"bad line\n");
@@ -18,25 +420,25 @@ fn run_line(line: &[u8], a: u64, b: u64) {
     let mut image = [0u8; 1024];
     let mut strings = [0u8; 1024];
     let mut segments = [0u64; 64];
-    let Count::Of(bytes) = fields::parse_bytes(fields::field(line, 3), &mut image) else {
+    let Count::Of(bytes) = parse_bytes(field(line, 3), &mut image) else {
         bad_line();
         return;
     };
-    let Count::Of(names) = fields::parse_bytes(fields::field(line, 4), &mut strings) else {
+    let Count::Of(names) = parse_bytes(field(line, 4), &mut strings) else {
         bad_line();
         return;
     };
-    let Count::Of(numbers) = fields::parse_numbers(line, &mut segments) else {
+    let Count::Of(numbers) = parse_numbers(line, &mut segments) else {
         bad_line();
         return;
     };
-    let known = dispatch::answer(
-        fields::field(line, 0),
+    let known = answer(
+        field(line, 0),
         a,
         b,
         util::part(&image, 0, bytes),
         util::part(&strings, 0, names),
-        fields::first(&segments, numbers),
+        first(&segments, numbers),
     );
     if !known {
         bad_line();
@@ -44,11 +446,11 @@ fn run_line(line: &[u8], a: u64, b: u64) {
 }
 
 fn answer_line(line: &[u8]) {
-    let Number::Value(a) = fields::parse_number(fields::field(line, 1)) else {
+    let Number::Value(a) = parse_number(field(line, 1)) else {
         bad_line();
         return;
     };
-    let Number::Value(b) = fields::parse_number(fields::field(line, 2)) else {
+    let Number::Value(b) = parse_number(field(line, 2)) else {
         bad_line();
         return;
     };
@@ -58,7 +460,7 @@ fn answer_line(line: &[u8]) {
 fn answer_lines(input: &[u8]) {
     let mut at = 0;
     while at < input.len() {
-        let end = fields::find(input, at, b'\n');
+        let end = find(input, at, b'\n');
         answer_line(&input[at..end]);
         if end == input.len() {
             return;

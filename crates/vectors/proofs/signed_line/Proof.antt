@@ -1,8 +1,8 @@
--- `vectors::answers::signed_line` is safe: the laws of `util` say that the casts fit.
+-- `vectors::signed_line` is safe: the laws of `util` say that the casts fit.
 use Rattle.util.proofs.Signed.{forward-cast, widened, negated-fits, back-cast}
 use borrow.Author.Needs.{needs}
-use Rattle.vectors.proofs.answers.signed_line.Statement.{statement}
-use Rattle.vectors.proofs.answers.signed_line.Tie as tie
+use Rattle.vectors.proofs.signed_line.Statement.{statement}
+use Rattle.vectors.proofs.signed_line.Tie as tie
 
 cast-number-line : tie.Need-cast-number-line
 cast-number-line c = forward-cast _ (c .before .fits .n) (c .if1 .taken)

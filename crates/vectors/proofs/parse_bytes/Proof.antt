@@ -1,10 +1,10 @@
--- `vectors::fields::parse_bytes` is safe and ends: `at` stays within the text.
+-- `vectors::parse_bytes` is safe and ends: `at` stays within the text.
 use borrow.Author.Needs.{needs}
 use Prim.Native.Nat.{_≤_, _-_}
 use lib.ListN.{length}
 use mathlib.Core.Path.{_≡_}
-use Rattle.vectors.proofs.fields.parse_bytes.Statement.{statement}
-use Rattle.vectors.proofs.fields.parse_bytes.Tie as tie
+use Rattle.vectors.proofs.parse_bytes.Statement.{statement}
+use Rattle.vectors.proofs.parse_bytes.Tie as tie
 
 abbrev Inv-loop : tie.InvT-loop
 Inv-loop s out₀ n₀ at₀ out n at = (at ≤ length s) × (length out ≡ length out₀)

@@ -1,10 +1,10 @@
--- `vectors::fields::same` is safe and ends: past the first test both slices have one length.
+-- `vectors::same` is safe and ends: past the first test both slices have one length.
 use borrow.Author.Needs.{needs}
 use Prim.Native.Nat.{_-_}
 use mathlib.Core.Path.{_≡_}
 use lib.ListN.{length}
-use Rattle.vectors.proofs.fields.same.Statement.{statement}
-use Rattle.vectors.proofs.fields.same.Tie as tie
+use Rattle.vectors.proofs.same.Statement.{statement}
+use Rattle.vectors.proofs.same.Tie as tie
 
 abbrev Inv-loop : tie.InvT-loop
 Inv-loop a b i₀ i = length a ≡ length b

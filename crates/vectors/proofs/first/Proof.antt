@@ -1,10 +1,10 @@
--- `vectors::fields::first` is safe: the first part is as long as it says.
+-- `vectors::first` is safe: the first part is as long as it says.
 use native.Mathlib.Omega.{arith}
 use mathlib.Core.Path.{sym}
 use lib.Seq.{length-take-le}
 use borrow.Author.Needs.{needs}
-use Rattle.vectors.proofs.fields.first.Statement.{statement}
-use Rattle.vectors.proofs.fields.first.Tie as tie
+use Rattle.vectors.proofs.first.Statement.{statement}
+use Rattle.vectors.proofs.first.Tie as tie
 
 slice-aggregate-result : tie.Need-slice-aggregate-result
 slice-aggregate-result c = sym (length-take-le _ _ (omega arith))

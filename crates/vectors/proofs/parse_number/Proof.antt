@@ -1,9 +1,9 @@
--- `vectors::fields::parse_number` is safe and ends: the test before the sum keeps it below 2^64.
+-- `vectors::parse_number` is safe and ends: the test before the sum keeps it below 2^64.
 use borrow.Author.Needs.{needs}
 use Prim.Native.Nat.{_-_}
 use lib.ListN.{length}
-use Rattle.vectors.proofs.fields.parse_number.Statement.{statement}
-use Rattle.vectors.proofs.fields.parse_number.Tie as tie
+use Rattle.vectors.proofs.parse_number.Statement.{statement}
+use Rattle.vectors.proofs.parse_number.Tie as tie
 
 abbrev Inv-loop : tie.InvT-loop
 Inv-loop s value₀ i₀ value i = Unit

@@ -1,9 +1,9 @@
--- `vectors::fields::find` meets its contract. The invariant: `i` is between `at` and the length.
+-- `vectors::find` meets its contract. The invariant: `i` is between `at` and the length.
 use borrow.Author.Needs.{needs}
 use Prim.Native.Nat.{_≤_, _-_}
 use lib.ListN.{length}
-use Rattle.vectors.proofs.fields.find.Statement.{statement}
-use Rattle.vectors.proofs.fields.find.Tie as tie
+use Rattle.vectors.proofs.find.Statement.{statement}
+use Rattle.vectors.proofs.find.Tie as tie
 
 abbrev Inv-loop : tie.InvT-loop
 Inv-loop s at stop i₀ i = (at ≤ i) × (i ≤ length s)

@@ -1,10 +1,10 @@
--- `vectors::fields::parse_numbers` is safe and ends: the list keeps its length.
+-- `vectors::parse_numbers` is safe and ends: the list keeps its length.
 use borrow.Author.Needs.{needs}
 use Prim.Native.Nat.{_-_}
 use mathlib.Core.Path.{_≡_}
 use lib.ListN.{length}
-use Rattle.vectors.proofs.fields.parse_numbers.Statement.{statement}
-use Rattle.vectors.proofs.fields.parse_numbers.Tie as tie
+use Rattle.vectors.proofs.parse_numbers.Statement.{statement}
+use Rattle.vectors.proofs.parse_numbers.Tie as tie
 
 abbrev Inv-loop : tie.InvT-loop
 Inv-loop line out₀ n₀ out n = length out ≡ length out₀

@@ -1,9 +1,9 @@
--- `vectors::fields::field` is safe and ends: `at` stays within the line.
+-- `vectors::field` is safe and ends: `at` stays within the line.
 use borrow.Author.Needs.{needs}
 use Prim.Native.Nat.{_≤_}
 use lib.ListN.{length}
-use Rattle.vectors.proofs.fields.field.Statement.{statement}
-use Rattle.vectors.proofs.fields.field.Tie as tie
+use Rattle.vectors.proofs.field.Statement.{statement}
+use Rattle.vectors.proofs.field.Tie as tie
 
 abbrev Inv-loop : tie.InvT-loop
 Inv-loop line number at₀ left₀ at left = at ≤ length line

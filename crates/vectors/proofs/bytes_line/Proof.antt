@@ -1,9 +1,9 @@
--- `vectors::answers::bytes_line` is safe and ends.
+-- `vectors::bytes_line` is safe and ends.
 use borrow.Author.Needs.{needs}
 use Prim.Native.Nat.{_-_}
 use lib.ListN.{length}
-use Rattle.vectors.proofs.answers.bytes_line.Statement.{statement}
-use Rattle.vectors.proofs.answers.bytes_line.Tie as tie
+use Rattle.vectors.proofs.bytes_line.Statement.{statement}
+use Rattle.vectors.proofs.bytes_line.Tie as tie
 
 abbrev Inv-loop : tie.InvT-loop
 Inv-loop part again i₀ t6 i = Unit
