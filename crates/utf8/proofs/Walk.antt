@@ -1,12 +1,16 @@
 -- Where a walk over the bytes stands, how it goes on by a byte, and how it ends: the laws of `scan_text`. Assumes nothing.
 use Prim.Native.Nat.{ℕ, zero, suc, _+_, _-_, _≤_, _<_}
-use native.Mathlib.Nat.{not-suc-le-zero}
+use native.Mathlib.Nat.{not-suc-le-zero, zero-add}
 use native.Mathlib.Numerals.{add-one}
 use native.Mathlib.Decide.{decLt}
 use native.Mathlib.Omega.{arith}
 use mathlib.Core.Path.{_≡_, refl, sym, ap, subst, _∙_}
 use mathlib.Core.List.{List, [], _∷_, List·Memᴰ, List·Memᴰ·head, List·Memᴰ·tail}
-use mathlib.Core.Bool.{Bool, true, false}
+use mathlib.Core.Bool.{Bool, true, false, _&&_, and-eq-true-iff}
+use lib.Dec.{ltb}
+use borrow.Author.Count.{below-more}
+use borrow.Author.Tests.{ltb-true}
+use Rattle.utf8.specs.Plain.{Plain}
 use mathlib.Core.Option.{Option, some, none}
 use lib.ListN.{length, getD, drop, replicate, drop-of-length-le}
 use lib.Seq.{drop-cons}
@@ -127,3 +131,33 @@ ends s {i} p f w e =
 pub ill-formed : (s : List ℕ) (j : ℕ) {i : ℕ} {rs : List Range} {formed : Bool} → formed ≡ false → Walk s i rs → goesOn (untilNul (drop i s)) rs ≡ false → outcome formed j ≡ textLength s
 unfolding textLength
 ill-formed s j f w e = rw (f, w .formed ∙ e, textLength)
+
+-- ---- the first part, in blocks
+
+pub plain-none : (s : List ℕ) (at : ℕ) → Plain s at 0
+plain-none s at = record { each = λ k h. absurd (not-suc-le-zero h) }
+
+pub plain-more : (s : List ℕ) (at k : ℕ) (all : Bool) → (all ≡ true → Plain s at k) → all && ltb 0 (getD s (at + k) 0) && ltb (getD s (at + k) 0) 0x80 ≡ true → Plain s at (k + 1)
+plain-more s at k all inv e =
+    let a = and-eq-true-iff _ _ .0 e in
+    let b = and-eq-true-iff _ _ .0 (a .0) in
+    record { each = below-more _ k (inv (b .0) .each) (ltb-true _ _ (b .1), ltb-true _ _ (a .1)) }
+
+pub plain-join : (s : List ℕ) (i n : ℕ) → Plain s 0 i → Plain s i n → Plain s 0 (i + n)
+plain-join s i n p q = record { each = each }
+  where
+    each : (k : ℕ) → k < i + n → (0 < getD s (0 + k) 0) × (getD s (0 + k) 0 < 0x80)
+    each k h =
+        elim (decLt k i) [
+          | yes l ↦ p .each k l
+          | no l ↦
+              let j : i + (k - i) ≡ 0 + k = omega arith in
+              rw j at (q .each (k - i) (omega arith))
+        ]
+
+pub plain-walk : (s : List ℕ) (n : ℕ) → Plain s 0 n → n ≤ length s → Walk s n []
+plain-walk s zero p h = start s
+plain-walk s (suc n) p h =
+    let b : (0 < getD s n 0) × (getD s n 0 < 0x80) = rw zero-add at (p .each n (omega arith)) in
+    let w : Walk s (n + 1) [] = ascii-step s n (omega arith) (λ e. omega arith) (b .1) (plain-walk s n (record { each = λ k l. p .each k (omega arith) }) (omega arith)) in
+    rw add-one at w

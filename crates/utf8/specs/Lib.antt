@@ -1,3 +1,4 @@
+pub mod Plain
 pub mod Table
 pub mod Text
 pub mod Utf8Laws

@@ -1,7 +1,10 @@
 // The check that a text is well-formed UTF-8 (Unicode Table 3-7), in one walk with the search for the NUL that ends it:
 // what `core::str::from_utf8` and `position` do for the Rust.
 ghost use mathlib.Core.Path.{_≡_};
-ghost use Prim.Native.Nat.{_≤_, _<_};
+ghost use Prim.Native.Nat.{_+_, _≤_, _<_};
+ghost use lib.ListN.{length};
+ghost use mathlib.Core.Bool.{true};
+ghost use Rattle.utf8.specs.Plain.{Plain};
 ghost use Rattle.utf8.specs.Table.{table};
 ghost use Rattle.utf8.specs.Text.{textLength, scanned, following, leads};
 
@@ -101,10 +104,39 @@ fn four_bytes(b: u8) -> Lead
     Lead::Invalid
 }
 
+// Whether the 8 bytes from `at` on are ASCII with no NUL among them. One test for all of them, with no branch for each.
+fn plain(s: &[u8], at: usize) -> bool
+    requires { ⌜ at + 8 ≤ length (now s) ⌝ }
+    ensures { λ r. ⌜ (r ≡ true → Plain (now (s .entry)) at 8) ⌝ }
+{
+    let mut all = true;
+    let mut k = 0;
+    while k < 8 {
+        let b = s[at + k];
+        all = all & (b > 0) & (b < 0x80);
+        k += 1;
+    }
+    all
+}
+
+// How many bytes, in blocks of 8, are ASCII with no NUL among them.
+fn plain_prefix(s: &[u8]) -> usize
+    ensures { λ r. ⌜ (r ≤ length (now (s .entry))) × Plain (now (s .entry)) 0 r ⌝ }
+{
+    let mut i = 0;
+    while 8 <= s.len() - i {
+        if !plain(s, i) {
+            return i;
+        }
+        i += 8;
+    }
+    i
+}
+
 pub fn scan_text(s: &[u8]) -> Scan
     ensures { λ r. ⌜ scanned r ≡ textLength (now (s .entry)) ⌝ }
 {
-    let mut i = 0;
+    let mut i = plain_prefix(s);
     let mut formed = true;
     'scan: while i < s.len() {
         let b = s[i];

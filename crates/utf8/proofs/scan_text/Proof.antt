@@ -10,7 +10,7 @@ use mathlib.Core.Bool.{true}
 use mathlib.Core.List.{[]}
 use lib.ListN.{length}
 use Rattle.utf8.specs.Text.{tailRanges, textLength, leads}
-use Rattle.utf8.proofs.Walk.{Walk, start, least-positive, lead-step, ascii-step, tail-step, tail-done, no-lead, no-tail, at-nul, at-end, outcome, ends, ill-formed}
+use Rattle.utf8.proofs.Walk.{Walk, plain-walk, least-positive, lead-step, ascii-step, tail-step, tail-done, no-lead, no-tail, at-nul, at-end, outcome, ends, ill-formed}
 use Rattle.utf8.proofs.scan_text.Statement.{statement}
 use Rattle.utf8.proofs.scan_text.Tie as tie
 
@@ -27,8 +27,13 @@ Inv-scan s i₀ formed₀ i formed = (i ≤ length s) × (formed ≡ true) × Wa
 abbrev μ-scan : tie.MeasureT-scan
 μ-scan s i₀ formed₀ i formed = length s - i
 
+plain-prefix-requires : tie.Need-plain-prefix-requires Inv-loop μ-loop Inv-scan μ-scan
+plain-prefix-requires c κs = search needs
+
 scan-holds : tie.Need-scan-holds Inv-loop μ-loop Inv-scan μ-scan
-scan-holds c = (omega arith, refl, start _)
+scan-holds c =
+    let p = c .plain-prefix .ensures in
+    (p .0, refl, plain-walk _ _ (p .1) (p .0))
 
 shared-slice-read-b : tie.Need-shared-slice-read-b Inv-loop μ-loop Inv-scan μ-scan
 shared-slice-read-b c = search needs
@@ -92,9 +97,9 @@ scan-again-2 c =
     (omega arith, at .inv .1, ascii-step _ _ (inside .scan-test .taken) (c .before .if1 .left) (c .if2 .left) (at .inv .2))
 
 -- the five ways out: the bytes' end, a NUL, a byte that starts no sequence, the end in a sequence, and a byte that does not go on with it
-left-scan : (c : tie.Left-scan Inv-loop μ-loop Inv-scan μ-scan) → outcome (c .scan-test .formed) (c .scan-test .i) ≡ textLength (c .before .before .before .args .s .now)
+left-scan : (c : tie.Left-scan Inv-loop μ-loop Inv-scan μ-scan) → outcome (c .scan-test .formed) (c .scan-test .i) ≡ textLength (c .before .before .before .before .args .s .now)
 left-scan c =
-    let s = c .before .before .before .args .s .now in
+    let s = c .before .before .before .before .args .s .now in
     let at = c .before .scan in
     let i = c .scan-test .i in
     ⊎-elim
@@ -125,6 +130,7 @@ scan-text-spec =
     μ-loop
     Inv-scan
     μ-scan
+    plain-prefix-requires
     scan-holds
     shared-slice-read-b
     add-i

@@ -1,0 +1,216 @@
+//! Both sides timed on the same inputs in one run.
+
+use crate::check::runtime;
+use crate::input::Input;
+use crate::proved;
+use std::hint::black_box;
+use std::time::Instant;
+
+const ROWS: usize = 512;
+const CHAINS: usize = 8;
+const ROUNDS: usize = 60;
+const BASE: u64 = 0x1_0000_0000;
+
+/// `ROWS` rows of a kind, each with a name of its own; `CHAINS` chains of so many contexts, each context with a name; every name has
+/// `name` bytes. Of the segments the last one has the image.
+fn case(kind: u32, name: usize, depth: usize, segments: usize) -> Input {
+    let size = 28;
+    let contexts = ROWS * size;
+    let texts = contexts + CHAINS * depth * 12;
+    let count = ROWS + CHAINS * depth;
+    let mut image = vec![0; texts + count * (name + 1)];
+    let mut put = |off: usize, n: u32| image[off..off + 4].copy_from_slice(&n.to_le_bytes());
+    let text = |i: usize| texts + i * (name + 1);
+    for i in 0..ROWS {
+        let off = i * size;
+        put(off, kind);
+        put(
+            off + 4,
+            (contexts + i % CHAINS * depth * 12).wrapping_sub(off + 4) as u32
+                * u32::from(depth > 0),
+        );
+        put(off + 8, text(i).wrapping_sub(off + 8) as u32);
+    }
+    for chain in 0..CHAINS {
+        for i in 0..depth {
+            let number = chain * depth + i;
+            let off = contexts + 12 * number;
+            put(off, if i + 1 == depth { 0 } else { 17 });
+            put(off + 4, if i + 1 == depth { 0 } else { 8 });
+            put(off + 8, text(ROWS + number).wrapping_sub(off + 8) as u32);
+        }
+    }
+    for i in 0..count {
+        for (j, b) in image[text(i)..text(i) + name].iter_mut().enumerate() {
+            *b = b'a' + ((i + j) % 26) as u8;
+        }
+    }
+    let length = image.len() as u64;
+    let mut input = Input {
+        image,
+        types_va: BASE + 0x4000_0000,
+        ..Input::default()
+    };
+    input.segments.push([0, BASE, 0, 0]);
+    for i in 2..segments as u64 {
+        input
+            .segments
+            .push([BASE + 0x1000_0000 * i, 0x10_0000, 0, 0x10_0000]);
+    }
+    input.segments.push([BASE, length, 0, length]);
+    for i in 0..ROWS {
+        let slot_va = input.types_va + 4 * i as u64;
+        let rel = (BASE + (i * size) as u64).wrapping_sub(slot_va) as i32;
+        input.types.extend_from_slice(&rel.to_le_bytes());
+    }
+    input
+}
+
+/// The shortest of some rounds, in nanoseconds per row; each round has as many repetitions as fill some milliseconds.
+fn time(mut pass: impl FnMut() -> usize) -> impl FnMut() -> (f64, usize) {
+    let start = Instant::now();
+    let mut warm = 0;
+    while start.elapsed().as_millis() < 4 {
+        black_box(pass());
+        warm += 1;
+    }
+    let repetitions = warm.max(1);
+    move || {
+        let start = Instant::now();
+        let mut sum = 0;
+        for _ in 0..repetitions {
+            sum = black_box(pass());
+        }
+        let each = start.elapsed().as_nanos() as f64 / (repetitions * ROWS) as f64;
+        (each, sum)
+    }
+}
+
+/// Rounds of both sides in turn; the shortest of each.
+fn both(rust: impl FnMut() -> usize, proved: impl FnMut() -> usize) -> (f64, f64) {
+    let mut rust = time(rust);
+    let mut proved = time(proved);
+    let mut best = (f64::MAX, f64::MAX);
+    for _ in 0..ROUNDS {
+        let (a, sum) = rust();
+        let (b, same) = proved();
+        assert_eq!(sum, same, "both sides give the same bytes");
+        best = (best.0.min(a), best.1.min(b));
+    }
+    best
+}
+
+fn rows(input: &Input) -> (f64, f64) {
+    let rt = runtime(input);
+    let (image, segments) = (&input.image[..], input.numbers());
+    both(
+        || rt.types().map(|row| black_box(row.name()).len()).sum(),
+        || {
+            let (mut slot, mut sum) = (0, 0);
+            loop {
+                let row = proved::next_row(image, segments, &input.types, input.types_va, slot);
+                if row.there == 0 {
+                    return sum;
+                }
+                slot = row.next as usize;
+                sum += black_box(row.length) as usize;
+            }
+        },
+    )
+}
+
+fn listing(input: &Input) -> (f64, f64) {
+    let rt = runtime(input);
+    let (image, segments) = (&input.image[..], input.numbers());
+    let mut buffer = vec![0; 1 << 16];
+    both(
+        || {
+            rt.types()
+                .map(|row| black_box(row.qualified_name()).len())
+                .sum()
+        },
+        || {
+            let (mut slot, mut sum) = (0, 0);
+            loop {
+                let row = proved::next_row(image, segments, &input.types, input.types_va, slot);
+                if row.there == 0 {
+                    return sum;
+                }
+                slot = row.next as usize;
+                let name = proved::qualified_name(
+                    image,
+                    segments,
+                    row.parent,
+                    row.place,
+                    row.length,
+                    &mut buffer,
+                );
+                sum += black_box(name)[1] as usize;
+                black_box(&buffer);
+            }
+        },
+    )
+}
+
+/// The listing of the whole section in one call, into one buffer for all of it.
+fn whole(input: &Input) -> (f64, f64) {
+    let rt = runtime(input);
+    let (image, segments) = (&input.image[..], input.numbers());
+    let mut buffer = vec![0; 16 << 20];
+    both(
+        || {
+            rt.types()
+                .map(|row| black_box(row.qualified_name()).len())
+                .sum()
+        },
+        || {
+            let end = proved::listing(image, segments, &input.types, input.types_va, &mut buffer);
+            black_box(&buffer);
+            end - 16 * ROWS
+        },
+    )
+}
+
+fn line(what: &str, (rust, proved): (f64, f64)) {
+    println!("{what} | {rust:9.1} | {proved:9.1} | {:5.2}", proved / rust);
+}
+
+pub fn run() {
+    println!(
+        "{ROWS} rows; both sides in one run on the same warm inputs, the buffer for names warm too and not cleared; the shortest of {ROUNDS} rounds."
+    );
+    println!(
+        "The Rust makes a String for each joined name; the proved side writes into one lent buffer."
+    );
+    println!(
+        "Every name, the type's and each context's, has the bytes given; depth counts contexts. Nanoseconds per row."
+    );
+    println!();
+    println!("rows alone | names | segments |      Rust |    proved | ratio");
+    for (kind, number) in [("struct", 17), ("no body", 4)] {
+        for segments in [2, 40] {
+            for name in [8, 40, 400] {
+                let input = case(number, name, 0, segments);
+                line(
+                    &format!("{kind:10} | {name:5} | {segments:8}"),
+                    rows(&input),
+                );
+            }
+        }
+    }
+    println!();
+    println!(
+        "Listing: `steps` calls for each row and its name, `whole` once for the section, into a buffer for all records."
+    );
+    println!("listing    | names | depth | segments |      Rust |    proved | ratio");
+    for segments in [2, 40] {
+        for depth in [0, 1, 3, 32] {
+            for name in [8, 40, 400] {
+                let input = case(17, name, depth, segments);
+                let case = format!("{name:5} | {depth:5} | {segments:8}");
+                line(&format!("steps      | {case}"), listing(&input));
+                line(&format!("whole      | {case}"), whole(&input));
+            }
+        }
+    }
+}

@@ -1,0 +1,415 @@
+//! One input given to both sides, and everything that they answer compared.
+
+use crate::input::Input;
+use crate::proved;
+use darwinscope::swift::{SwiftRuntime, SwiftSection, lookup_field_name};
+use darwinscope::util::{read_cstr_at, vm_to_file_offset_in};
+
+/// The most contexts that a walk gives.
+pub const LIMIT: usize = 256;
+
+/// What a buffer holds before a name is written.
+const PATTERN: u8 = 0xa7;
+
+/// Bytes kept free before and after a lent buffer, which no call may write.
+const GUARD: usize = 16;
+
+/// What was compared, for the report.
+#[derive(Default, Clone, Copy)]
+pub struct Counts {
+    pub inputs: u64,
+    pub rows: u64,
+    pub contexts: u64,
+    pub names: u64,
+    pub too_deep: u64,
+    pub listings: u64,
+    pub leaves: u64,
+}
+
+impl Counts {
+    pub fn line(&self) -> String {
+        format!(
+            "{} inputs, {} rows, {} contexts, {} names ({} chains above {LIMIT}), {} listings, {} leaf calls",
+            self.inputs,
+            self.rows,
+            self.contexts,
+            self.names,
+            self.too_deep,
+            self.listings,
+            self.leaves
+        )
+    }
+}
+
+/// Buffers that are used again for each input.
+#[derive(Default)]
+pub struct Checker {
+    pub counts: Counts,
+    buffer: Vec<u8>,
+    slots: Vec<u64>,
+    /// The listing of the Rust's rows, and where each record ends.
+    listing: Vec<u8>,
+    ends: Vec<usize>,
+}
+
+pub fn runtime(input: &Input) -> SwiftRuntime<'_> {
+    SwiftRuntime::for_comparison(
+        &input.image,
+        input
+            .segments
+            .iter()
+            .map(|s| (s[0], s[1], s[2], s[3]))
+            .collect(),
+        Some(SwiftSection {
+            body: &input.types,
+            vmaddr: input.types_va,
+        }),
+        None,
+        Some(SwiftSection {
+            body: &input.strings,
+            vmaddr: input.strings_va,
+        }),
+    )
+}
+
+/// Where a text lies in the bytes that it was read from: its place, as the distance of the pointers, and its length.
+pub fn place_in(bytes: &[u8], text: &str) -> (u64, u64) {
+    let place = (text.as_ptr() as usize).wrapping_sub(bytes.as_ptr() as usize);
+    (place as u64, text.len() as u64)
+}
+
+/// Compares two answers, and tells of them where they differ.
+macro_rules! same {
+    ($rust:expr, $proved:expr, $($what:tt)*) => {{
+        let (rust, proved) = ($rust, $proved);
+        if rust != proved {
+            return Err(format!("{}: the Rust {:x?}, proved {:x?}", format!($($what)*), rust, proved));
+        }
+    }};
+}
+
+impl Checker {
+    pub fn input(&mut self, input: &Input) -> Result<(), String> {
+        self.counts.inputs += 1;
+        let rt = runtime(input);
+        self.rows(input, &rt)?;
+        self.leaves(input, &rt)
+    }
+
+    fn rows(&mut self, input: &Input, rt: &SwiftRuntime<'_>) -> Result<(), String> {
+        let image = &input.image[..];
+        let segments = input.numbers();
+        let mut slot = 0;
+        let mut number = 0;
+        self.slots.clear();
+        self.listing.clear();
+        self.ends.clear();
+        for row in rt.types() {
+            let ours = proved::next_row(image, segments, &input.types, input.types_va, slot);
+            same!(1, ours.there, "row {number} is there");
+            same!(row.address(), ours.address, "row {number}, address");
+            same!(u64::from(row.flags().0), ours.flags, "row {number}, flags");
+            same!(row.parent_address(), ours.parent, "row {number}, parent");
+            same!(
+                place_in(image, row.name()),
+                (ours.place, ours.length),
+                "row {number}, name"
+            );
+            same!(
+                true,
+                ours.slot >= slot as u64,
+                "row {number}, slot {} from {slot} on",
+                ours.slot
+            );
+            // The slot refers to this row: with equal counts of rows, these are the Rust's slots.
+            same!(
+                Some(row.address()),
+                slot_refers_to(input, ours.slot),
+                "row {number}, slot {}",
+                ours.slot
+            );
+            same!(ours.slot + 1, ours.next, "row {number}, slot to go on from");
+            slot = ours.next as usize;
+            self.slots.push(ours.slot);
+            let depth = self.contexts(input, number, &row)?;
+            self.names(input, number, &row, &ours, depth)?;
+            number += 1;
+            self.counts.rows += 1;
+        }
+        let end = proved::next_row(image, segments, &input.types, input.types_va, slot);
+        same!(0, end.there, "row {number} is there");
+        self.starts(input)?;
+        self.listings(input)
+    }
+
+    /// A walk that starts at any slot has the rows from there on.
+    fn starts(&mut self, input: &Input) -> Result<(), String> {
+        let slots = input.types.len() / 4;
+        for start in (0..slots + 2).chain([usize::MAX]) {
+            let rust = self.slots.iter().copied().find(|&s| s >= start as u64);
+            let ours = proved::next_row(
+                &input.image,
+                input.numbers(),
+                &input.types,
+                input.types_va,
+                start,
+            );
+            same!(
+                rust,
+                (ours.there == 1).then_some(ours.slot),
+                "the first row from slot {start} on"
+            );
+        }
+        Ok(())
+    }
+
+    /// The listing of the section, in buffers that hold all of it, and only a part.
+    fn listings(&mut self, input: &Input) -> Result<(), String> {
+        let whole = self.listing.len();
+        let sizes = [
+            Some(0),
+            Some(whole / 2),
+            whole.checked_sub(1),
+            Some(whole),
+            Some(whole + 9),
+        ];
+        for size in sizes.into_iter().flatten() {
+            self.counts.listings += 1;
+            // Records are written up to the first that does not fit.
+            let fitting = self.ends.iter().copied().take_while(|&end| end <= size);
+            let length = fitting.last().unwrap_or(0);
+            self.buffer.clear();
+            self.buffer.resize(size + 2 * GUARD, PATTERN);
+            let lent = &mut self.buffer[GUARD..GUARD + size];
+            let ours = proved::listing(
+                &input.image,
+                input.numbers(),
+                &input.types,
+                input.types_va,
+                lent,
+            );
+            same!(length, ours, "length of the listing in {size} bytes");
+            let end = GUARD + length;
+            same!(
+                &self.listing[..length],
+                &self.buffer[GUARD..end],
+                "listing in {size} bytes"
+            );
+            same!(
+                true,
+                self.left_alone(end),
+                "bytes left alone by the listing in {size} bytes"
+            );
+        }
+        Ok(())
+    }
+
+    /// Whether all bytes before the lent buffer and from `end` on are as they were.
+    fn left_alone(&self, end: usize) -> bool {
+        let mut left = self.buffer[..GUARD].iter().chain(&self.buffer[end..]);
+        left.all(|&b| b == PATTERN)
+    }
+
+    /// A row's record: its address, the length of its joined name, and the name; 2^64 - 4 for one that is refused.
+    fn record(&mut self, address: u64, length: u64, name: &[u8]) {
+        self.listing.extend_from_slice(&address.to_le_bytes());
+        self.listing.extend_from_slice(&length.to_le_bytes());
+        self.listing.extend_from_slice(name);
+        self.ends.push(self.listing.len());
+    }
+
+    /// The number of contexts that can be read, up to one above the limit.
+    fn contexts(
+        &mut self,
+        input: &Input,
+        number: usize,
+        row: &darwinscope::swift::TypeDescriptor<'_, '_>,
+    ) -> Result<usize, String> {
+        let image = &input.image[..];
+        let segments = input.numbers();
+        let mut address = row.parent_address();
+        let mut given = 0;
+        for context in row.parent().take(LIMIT + 1) {
+            let ours = proved::next_context(image, segments, address, given);
+            if given == LIMIT {
+                same!(0, ours.there, "row {number}, a context after {LIMIT}");
+                // It can be read: a walk that starts there has it.
+                let read = proved::next_context(image, segments, address, 0);
+                same!(1, read.there, "row {number}, the context after {LIMIT}");
+                return Ok(LIMIT + 1);
+            }
+            same!(1, ours.there, "row {number}, context {given} is there");
+            same!(
+                context.address,
+                ours.address,
+                "row {number}, context {given}, address"
+            );
+            same!(
+                u64::from(context.flags.0),
+                ours.flags,
+                "row {number}, context {given}, flags"
+            );
+            let name = context.name.map(|n| place_in(image, n));
+            let our_name = (ours.named == 1).then_some((ours.place, ours.length));
+            same!(name, our_name, "row {number}, context {given}, name");
+            if ours.named != 1 {
+                same!(
+                    (0, 0, 0),
+                    (ours.named, ours.place, ours.length),
+                    "row {number}, context {given}, no name"
+                );
+            }
+            given += 1;
+            same!(given as u64, ours.given, "row {number}, contexts given");
+            address = ours.next;
+            self.counts.contexts += 1;
+        }
+        let end = proved::next_context(image, segments, address, given);
+        same!(0, end.there, "row {number}, context {given} is there");
+        Ok(given)
+    }
+
+    /// The joined name in buffers that are longer, exactly long enough, one byte short, half as long, and empty.
+    fn names(
+        &mut self,
+        input: &Input,
+        number: usize,
+        row: &darwinscope::swift::TypeDescriptor<'_, '_>,
+        ours: &proved::Row,
+        depth: usize,
+    ) -> Result<(), String> {
+        if depth > LIMIT {
+            self.counts.too_deep += 1;
+            self.record(row.address(), 4u64.wrapping_neg(), &[]);
+            for size in [64, 0] {
+                self.name(input, number, ours, size, &[], [4, 0])?;
+            }
+            return Ok(());
+        }
+        let name = row.qualified_name();
+        let length = name.len();
+        self.record(row.address(), length as u64, name.as_bytes());
+        let sizes = [
+            Some(0),
+            Some(length / 2),
+            length.checked_sub(1),
+            Some(length),
+            Some(length + 9),
+        ];
+        for size in sizes.into_iter().flatten() {
+            let answer = if size < length {
+                [3, 0]
+            } else {
+                [1, length as u64]
+            };
+            let written = if size < length { "" } else { &name };
+            self.name(input, number, ours, size, written.as_bytes(), answer)?;
+        }
+        Ok(())
+    }
+
+    fn name(
+        &mut self,
+        input: &Input,
+        number: usize,
+        row: &proved::Row,
+        size: usize,
+        written: &[u8],
+        answer: [u64; 2],
+    ) -> Result<(), String> {
+        self.counts.names += 1;
+        self.buffer.clear();
+        self.buffer.resize(size + 2 * GUARD, PATTERN);
+        let lent = &mut self.buffer[GUARD..GUARD + size];
+        let ours = proved::qualified_name(
+            &input.image,
+            input.numbers(),
+            row.parent,
+            row.place,
+            row.length,
+            lent,
+        );
+        same!(answer, ours, "row {number}, joined name in {size} bytes");
+        let end = GUARD + written.len();
+        same!(
+            written,
+            &self.buffer[GUARD..end],
+            "row {number}, bytes of the name in {size} bytes"
+        );
+        same!(
+            true,
+            self.left_alone(end),
+            "row {number}, bytes left alone in {size} bytes"
+        );
+        Ok(())
+    }
+
+    fn leaves(&mut self, input: &Input, rt: &SwiftRuntime<'_>) -> Result<(), String> {
+        let segments = input.numbers();
+        for &target in &input.targets {
+            let rust = vm_to_file_offset_in(
+                input.segments.iter().map(|s| (s[0], s[1], s[2], s[3])),
+                target,
+            );
+            let rust = rust.map_or([0, 0], |off| [1, off]);
+            same!(
+                rust,
+                proved::file_offset(segments, target),
+                "translation of {target:x}"
+            );
+            let name = lookup_field_name(rt, target);
+            let ours = proved::field_name(
+                &input.image,
+                segments,
+                &input.strings,
+                input.strings_va,
+                target,
+            );
+            same!(field_numbers(input, name), ours, "field name at {target:x}");
+            self.text(
+                &input.image,
+                (target % (input.image.len() as u64 + 2)) as usize,
+            )?;
+            self.counts.leaves += 2;
+        }
+        self.text(&input.image, input.image.len())?;
+        self.text(&input.image, input.image.len() + 1)?;
+        self.text(&input.image, usize::MAX)
+    }
+
+    pub fn text(&mut self, data: &[u8], off: usize) -> Result<(), String> {
+        let rust = read_cstr_at(data, off).map(|t| place_in(data, t));
+        let rust = rust.map_or([0, 0, 0], |(place, length)| [1, place, length]);
+        same!(rust, proved::text(data, off), "text at {off:x}");
+        self.counts.leaves += 1;
+        Ok(())
+    }
+}
+
+/// 1 for a text of the image, 2 for one of the string section, told apart by the pointer.
+pub fn field_numbers(input: &Input, name: Option<&str>) -> [u64; 3] {
+    let Some(name) = name else {
+        return [0, 0, 0];
+    };
+    // Two parts of different allocations can't be confused: an empty text at an image's end lies within it or right behind it.
+    let (place, length) = place_in(&input.image, name);
+    if place <= input.image.len() as u64 && !lies_in_strings(input, name) {
+        return [1, place, length];
+    }
+    let (place, length) = place_in(&input.strings, name);
+    [2, place, length]
+}
+
+fn lies_in_strings(input: &Input, name: &str) -> bool {
+    let (place, _) = place_in(&input.strings, name);
+    place < input.strings.len() as u64
+}
+
+/// The address that a slot refers to, unless its offset is 0.
+fn slot_refers_to(input: &Input, slot: u64) -> Option<u64> {
+    let off = (slot as usize).checked_mul(4)?;
+    let bytes = input.types.get(off..off.checked_add(4)?)?;
+    let rel = i32::from_le_bytes(bytes.try_into().ok()?);
+    let slot_va = input.types_va.wrapping_add(off as u64);
+    (rel != 0).then(|| slot_va.wrapping_add(rel as i64 as u64))
+}

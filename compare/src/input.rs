@@ -1,0 +1,101 @@
+//! One input of the comparison: what both sides are given.
+
+use std::fmt::Write;
+
+#[derive(Clone, Default, PartialEq)]
+pub struct Input {
+    pub image: Vec<u8>,
+    pub segments: Vec<[u64; 4]>,
+    pub types: Vec<u8>,
+    pub types_va: u64,
+    pub strings: Vec<u8>,
+    pub strings_va: u64,
+    /// Addresses that are translated and looked up as field names.
+    pub targets: Vec<u64>,
+}
+
+impl Input {
+    pub fn clear(&mut self) {
+        self.image.clear();
+        self.segments.clear();
+        self.types.clear();
+        self.types_va = 0;
+        self.strings.clear();
+        self.strings_va = 0;
+        self.targets.clear();
+    }
+
+    /// The segments as a list of numbers.
+    pub fn numbers(&self) -> &[u64] {
+        self.segments.as_flattened()
+    }
+
+    /// The line that `sample` writes and `one` reads.
+    pub fn line(&self) -> String {
+        let mut s = format!(
+            "input {} {:x} {} {:x} {}",
+            hex(&self.image),
+            self.types_va,
+            hex(&self.types),
+            self.strings_va,
+            hex(&self.strings)
+        );
+        for list in [self.numbers(), &self.targets] {
+            let _ = write!(s, " {}", list.len());
+            for n in list {
+                let _ = write!(s, " {n:x}");
+            }
+        }
+        s
+    }
+
+    pub fn of_line(line: &str) -> Option<Input> {
+        let mut words = line.split_whitespace();
+        let mut input = Input::default();
+        if words.next()? != "input" {
+            return None;
+        }
+        input.image = unhex(words.next()?)?;
+        input.types_va = u64::from_str_radix(words.next()?, 16).ok()?;
+        input.types = unhex(words.next()?)?;
+        input.strings_va = u64::from_str_radix(words.next()?, 16).ok()?;
+        input.strings = unhex(words.next()?)?;
+        let mut list = || -> Option<Vec<u64>> {
+            let count: usize = words.next()?.parse().ok()?;
+            (0..count)
+                .map(|_| u64::from_str_radix(words.next()?, 16).ok())
+                .collect()
+        };
+        let numbers = list()?;
+        input.targets = list()?;
+        input.segments = numbers
+            .chunks_exact(4)
+            .map(|s| [s[0], s[1], s[2], s[3]])
+            .collect();
+        Some(input)
+    }
+}
+
+/// Lowercase hexadecimal; `-` stands for no bytes.
+pub fn hex(bytes: &[u8]) -> String {
+    if bytes.is_empty() {
+        return "-".to_owned();
+    }
+    let mut s = String::with_capacity(2 * bytes.len());
+    for b in bytes {
+        let _ = write!(s, "{b:02x}");
+    }
+    s
+}
+
+fn unhex(s: &str) -> Option<Vec<u8>> {
+    if s == "-" {
+        return Some(Vec::new());
+    }
+    if s.len() % 2 != 0 {
+        return None;
+    }
+    (0..s.len() / 2)
+        .map(|i| u8::from_str_radix(s.get(2 * i..2 * i + 2)?, 16).ok())
+        .collect()
+}

@@ -1,0 +1,94 @@
+//! The comparison of the proved calls with the Rust that they carry over. compare/build makes it; see compare/README.md.
+
+mod bench;
+mod check;
+mod exhaustive;
+mod generate;
+mod input;
+mod proved;
+mod sample;
+mod shrink;
+
+use check::Checker;
+use generate::Generator;
+use input::Input;
+use std::time::Instant;
+
+const USAGE: &str = "usage: compare run [--seed S] [--count N] [--seconds T]   seeded inputs, N of them or as many as T seconds allow
+       compare exhaustive [--few]                     all short texts, all flags, chains around the limit, all cuts
+       compare one LINE                               the input of one printed line
+       compare sample OUT [DIR]                       inputs with the Rust's answers; in DIR as stdin and stdout of a program
+       compare bench                                  nanoseconds per row on both sides";
+
+/// Prints the difference with the smallest input that shows one, and ends the run.
+pub fn report(input: &Input, what: &str) -> ! {
+    println!("difference: {what}");
+    let small = shrink::smallest(input);
+    if let Err(what) = Checker::default().input(&small) {
+        println!("smallest: {what}");
+        println!("{}", small.line());
+    }
+    std::process::exit(1);
+}
+
+fn number(args: &[String], name: &str) -> Option<u64> {
+    let at = args.iter().position(|a| a == name)?;
+    match args.get(at + 1).and_then(|n| n.parse().ok()) {
+        Some(n) => Some(n),
+        None => usage(),
+    }
+}
+
+fn usage() -> ! {
+    eprintln!("{USAGE}");
+    std::process::exit(2);
+}
+
+fn run(args: &[String]) {
+    let seed = number(args, "--seed").unwrap_or(1);
+    let seconds = number(args, "--seconds");
+    let count = number(args, "--count").unwrap_or(if seconds.is_some() {
+        u64::MAX
+    } else {
+        1_000_000
+    });
+    let start = Instant::now();
+    let mut checker = Checker::default();
+    let mut generator = Generator::default();
+    let mut input = Input::default();
+    for i in 0..count {
+        if i % 4096 == 0 && seconds.is_some_and(|s| start.elapsed().as_secs() >= s) {
+            break;
+        }
+        generator.make(seed, i, &mut input);
+        if let Err(what) = checker.input(&input) {
+            report(&input, &format!("seed {seed}, number {i}: {what}"));
+        }
+    }
+    let time = start.elapsed().as_secs_f64();
+    println!(
+        "seed {seed}: {}; no difference; {time:.1} s",
+        checker.counts.line()
+    );
+}
+
+fn main() {
+    let args: Vec<String> = std::env::args().skip(1).collect();
+    match args.first().map(String::as_str) {
+        Some("run") => run(&args[1..]),
+        Some("exhaustive") => exhaustive::run(args.iter().any(|a| a == "--few")),
+        Some("one") => match args.get(1).and_then(|line| Input::of_line(line)) {
+            Some(input) => match Checker::default().input(&input) {
+                Ok(()) => println!("no difference"),
+                Err(what) => report(&input, &what),
+            },
+            None => usage(),
+        },
+        Some("sample") => match args.get(1) {
+            Some(out) => sample::run(out, args.get(2).map(String::as_str)),
+            None => usage(),
+        },
+        Some("bench") => bench::run(),
+        _ => usage(),
+    }
+}

@@ -1,0 +1,232 @@
+//! The proved side: the functions of crates/exports, each behind a safe function. A slice passes as a pointer and a length.
+
+#[link(name = "exports", kind = "static")]
+unsafe extern "C" {
+    fn hodrupec_file_offset(segments: *const u64, count: usize, vmaddr: u64, out: &mut [u64; 2]);
+    fn hodrupec_text(data: *const u8, len: usize, off: usize, out: &mut [u64; 3]);
+    fn hodrupec_field_name(
+        image: *const u8,
+        image_len: usize,
+        segments: *const u64,
+        count: usize,
+        strings: *const u8,
+        strings_len: usize,
+        vmaddr: u64,
+        target_va: u64,
+        out: &mut [u64; 3],
+    );
+    fn hodrupec_next_row(
+        image: *const u8,
+        image_len: usize,
+        segments: *const u64,
+        count: usize,
+        types: *const u8,
+        types_len: usize,
+        vmaddr: u64,
+        slot: usize,
+        out: &mut [u64; 8],
+    );
+    fn hodrupec_next_context(
+        image: *const u8,
+        image_len: usize,
+        segments: *const u64,
+        count: usize,
+        descriptor_va: u64,
+        given: usize,
+        out: &mut [u64; 8],
+    );
+    fn hodrupec_qualified_name(
+        image: *const u8,
+        image_len: usize,
+        segments: *const u64,
+        count: usize,
+        parent: u64,
+        name_place: usize,
+        name_length: usize,
+        buffer: *mut u8,
+        buffer_len: usize,
+        out: &mut [u64; 2],
+    );
+    fn hodrupec_listing(
+        image: *const u8,
+        image_len: usize,
+        segments: *const u64,
+        count: usize,
+        types: *const u8,
+        types_len: usize,
+        vmaddr: u64,
+        buffer: *mut u8,
+        buffer_len: usize,
+    ) -> usize;
+}
+
+/// What an array holds before a call, so that a number left unwritten shows.
+const UNWRITTEN: u64 = 0x5a5a_a5a5_0ff0_1234;
+
+pub fn file_offset(segments: &[u64], vmaddr: u64) -> [u64; 2] {
+    let mut out = [UNWRITTEN; 2];
+    unsafe { hodrupec_file_offset(segments.as_ptr(), segments.len(), vmaddr, &mut out) };
+    out
+}
+
+pub fn text(data: &[u8], off: usize) -> [u64; 3] {
+    let mut out = [UNWRITTEN; 3];
+    unsafe { hodrupec_text(data.as_ptr(), data.len(), off, &mut out) };
+    out
+}
+
+pub fn field_name(
+    image: &[u8],
+    segments: &[u64],
+    strings: &[u8],
+    vmaddr: u64,
+    target_va: u64,
+) -> [u64; 3] {
+    let mut out = [UNWRITTEN; 3];
+    unsafe {
+        hodrupec_field_name(
+            image.as_ptr(),
+            image.len(),
+            segments.as_ptr(),
+            segments.len(),
+            strings.as_ptr(),
+            strings.len(),
+            vmaddr,
+            target_va,
+            &mut out,
+        )
+    };
+    out
+}
+
+/// The next row from a slot on.
+pub struct Row {
+    pub there: u64,
+    pub slot: u64,
+    pub next: u64,
+    pub address: u64,
+    pub flags: u64,
+    pub parent: u64,
+    pub place: u64,
+    pub length: u64,
+}
+
+#[inline]
+pub fn next_row(image: &[u8], segments: &[u64], types: &[u8], vmaddr: u64, slot: usize) -> Row {
+    let mut out = [UNWRITTEN; 8];
+    unsafe {
+        hodrupec_next_row(
+            image.as_ptr(),
+            image.len(),
+            segments.as_ptr(),
+            segments.len(),
+            types.as_ptr(),
+            types.len(),
+            vmaddr,
+            slot,
+            &mut out,
+        )
+    };
+    let [there, slot, next, address, flags, parent, place, length] = out;
+    Row {
+        there,
+        slot,
+        next,
+        address,
+        flags,
+        parent,
+        place,
+        length,
+    }
+}
+
+/// One step of a walk up the contexts.
+pub struct Context {
+    pub there: u64,
+    pub address: u64,
+    pub flags: u64,
+    pub next: u64,
+    pub given: u64,
+    pub named: u64,
+    pub place: u64,
+    pub length: u64,
+}
+
+#[inline]
+pub fn next_context(image: &[u8], segments: &[u64], descriptor_va: u64, given: usize) -> Context {
+    let mut out = [UNWRITTEN; 8];
+    unsafe {
+        hodrupec_next_context(
+            image.as_ptr(),
+            image.len(),
+            segments.as_ptr(),
+            segments.len(),
+            descriptor_va,
+            given,
+            &mut out,
+        )
+    };
+    let [there, address, flags, next, given, named, place, length] = out;
+    Context {
+        there,
+        address,
+        flags,
+        next,
+        given,
+        named,
+        place,
+        length,
+    }
+}
+
+/// `[1, length]`, or `[refusal, 0]`.
+#[inline]
+pub fn qualified_name(
+    image: &[u8],
+    segments: &[u64],
+    parent: u64,
+    place: u64,
+    length: u64,
+    buffer: &mut [u8],
+) -> [u64; 2] {
+    let mut out = [UNWRITTEN; 2];
+    unsafe {
+        hodrupec_qualified_name(
+            image.as_ptr(),
+            image.len(),
+            segments.as_ptr(),
+            segments.len(),
+            parent,
+            place as usize,
+            length as usize,
+            buffer.as_mut_ptr(),
+            buffer.len(),
+            &mut out,
+        )
+    };
+    out
+}
+
+/// How many bytes the listing of the section has in the buffer.
+#[inline]
+pub fn listing(
+    image: &[u8],
+    segments: &[u64],
+    types: &[u8],
+    vmaddr: u64,
+    buffer: &mut [u8],
+) -> usize {
+    unsafe {
+        hodrupec_listing(
+            image.as_ptr(),
+            image.len(),
+            segments.as_ptr(),
+            segments.len(),
+            types.as_ptr(),
+            types.len(),
+            vmaddr,
+            buffer.as_mut_ptr(),
+            buffer.len(),
+        )
+    }
+}

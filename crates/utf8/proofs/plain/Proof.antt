@@ -1,0 +1,54 @@
+-- `utf8::plain` meets its contract. The invariant: if all tests held so far, the bytes before `k` are plain.
+-- Assumes nothing.
+use borrow.Author.Needs.{needs}
+use native.Mathlib.Omega.{arith}
+use Prim.Native.Nat.{_-_, _≤_}
+use mathlib.Core.Path.{_≡_}
+use mathlib.Core.Bool.{true}
+use Rattle.utf8.specs.Plain.{Plain}
+use Rattle.utf8.proofs.Walk.{plain-none, plain-more}
+use Rattle.utf8.proofs.plain.Statement.{statement}
+use Rattle.utf8.proofs.plain.Tie as tie
+use Rattle.utf8.proofs.plain.Reads as reads
+use Rattle.utf8.proofs.plain.Lts as lts
+
+abbrev Inv-loop : tie.InvT-loop
+Inv-loop s at all₀ k₀ all k = (k ≤ 8) × (all ≡ true → Plain s at k)
+
+abbrev μ-loop : tie.MeasureT-loop
+μ-loop s at all₀ k₀ all k = 8 - k
+
+loop-holds : tie.Need-loop-holds Inv-loop μ-loop
+loop-holds c = (omega arith, λ e. plain-none _ _)
+
+add-b : tie.Need-add-b Inv-loop μ-loop
+add-b c = search needs
+
+shared-slice-read-b : tie.Need-shared-slice-read-b Inv-loop μ-loop
+shared-slice-read-b c = search needs
+
+add-k : tie.Need-add-k Inv-loop μ-loop
+add-k c = search needs
+
+loop-less : tie.Need-loop-less Inv-loop μ-loop
+loop-less c = search needs
+
+loop-again : tie.Need-loop-again Inv-loop μ-loop
+loop-again c = (omega arith, λ e. plain-more _ _ _ _ (c .before .before .loop .inv .1) e)
+
+returns : tie.Need-returns Inv-loop μ-loop
+returns c = λ e. record { each = λ k h. c .before .loop .inv .1 e .each k (omega arith) }
+
+pub plain-spec : {M : Type 1} → statement M
+plain-spec =
+    tie.close
+    (tie.spec
+    Inv-loop
+    μ-loop
+    loop-holds
+    add-b
+    shared-slice-read-b
+    add-k
+    loop-less
+    loop-again
+    returns)

@@ -1,0 +1,59 @@
+-- `utf8::plain_prefix` meets its contract. The invariant: the bytes before `i` are plain.
+-- Assumes nothing.
+use borrow.Author.Needs.{needs}
+use borrow.Author.Tests.{not-false}
+use native.Mathlib.Omega.{arith}
+use Prim.Native.Nat.{_-_, _≤_}
+use lib.ListN.{length}
+use Rattle.utf8.specs.Plain.{Plain}
+use Rattle.utf8.proofs.Walk.{plain-none, plain-join}
+use Rattle.utf8.proofs.plain_prefix.Statement.{statement}
+use Rattle.utf8.proofs.plain_prefix.Tie as tie
+use Rattle.utf8.proofs.plain_prefix.Reads as reads
+use Rattle.utf8.proofs.plain_prefix.Lts as lts
+use Rattle.utf8.proofs.plain.Reads as plain-reads
+
+abbrev Inv-loop : tie.InvT-loop
+Inv-loop s i₀ i = (i ≤ length s) × Plain s 0 i
+
+abbrev μ-loop : tie.MeasureT-loop
+μ-loop s i₀ i = length s - i
+
+loop-holds : tie.Need-loop-holds Inv-loop μ-loop
+loop-holds c = (omega arith, plain-none _ _)
+
+sub-loop : tie.Need-sub-loop Inv-loop μ-loop
+sub-loop c = search needs
+
+plain-requires : tie.Need-plain-requires Inv-loop μ-loop
+plain-requires c κs = search needs
+
+returns : tie.Need-returns Inv-loop μ-loop
+returns c = c .before .before .before .loop .inv
+
+add-i : tie.Need-add-i Inv-loop μ-loop
+add-i c = search needs
+
+loop-less : tie.Need-loop-less Inv-loop μ-loop
+loop-less c = search needs
+
+loop-again : tie.Need-loop-again Inv-loop μ-loop
+loop-again c = (omega arith, plain-join _ _ _ (c .before .before .before .loop .inv .1) (c .before .plain .ensures (not-false _ (c .if1 .left))))
+
+returns-2 : tie.Need-returns-2 Inv-loop μ-loop
+returns-2 c = c .before .loop .inv
+
+pub plain-prefix-spec : {M : Type 1} → statement M
+plain-prefix-spec =
+    tie.close
+    (tie.spec
+    Inv-loop
+    μ-loop
+    loop-holds
+    sub-loop
+    plain-requires
+    returns
+    add-i
+    loop-less
+    loop-again
+    returns-2)
