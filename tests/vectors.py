@@ -421,4 +421,5 @@ def main():
     print(f"{len(VECTORS)} vectors")
 
 
-main()
+if __name__ == "__main__":
+    main()

@@ -1,0 +1,381 @@
+#!/usr/bin/env python3
+"""Write the bundles of the crate `listings`, crates/listings/stdin, and their listings, crates/listings/stdout; the samples too.
+
+usage: tests/bundles.py [--check]        (--check: write nothing; exit status 1 if a file on disk is not what would be written)
+
+A record of stdin is a u32 length, little-endian, and a bundle. The listings come from the rules as written down here and in
+tests/vectors.py, and from nothing of the crates. The samples are samples/*.bundle with samples/*.listing; the crate `list` runs on
+one of them.
+"""
+import pathlib
+import struct
+import sys
+
+ROOT = pathlib.Path(__file__).resolve().parent.parent
+sys.path[:0] = [str(ROOT / "tests"), str(ROOT / "scripts")]
+sys.dont_write_bytecode = True
+
+from make_bundle import CLASS, ENUM, FIELDS, IMAGE, MODULE, SAMPLES, SEGMENTS, STRINGS, STRUCT, TOP, TYPES  # noqa: E402
+from make_bundle import clue, garden, image_of, record, relative, section, segments, slots  # noqa: E402
+from vectors import bytes_at, number_at, text_at_address  # noqa: E402
+
+# The rules.
+
+NAMED = (0, 1, 3, 16, 17, 18)
+WORDS = {16: b"class", 17: b"struct", 18: b"enum"}
+LIMIT, NAME_BYTES, BUNDLE_BYTES = 256, 4096, 65536
+
+
+def parts(bundle):
+    """The bodies by kind, or a refusal's number."""
+    if len(bundle) > BUNDLE_BYTES:
+        return 5
+    bodies, at = {}, 0
+    while at < len(bundle):
+        if at + 6 > len(bundle):
+            return 2
+        size, kind = struct.unpack_from("<IH", bundle, at)
+        at += 6 + size
+        if at > len(bundle) or not 1 <= kind <= 5 or kind <= max(bodies, default=0):
+            return 2
+        if (kind == SEGMENTS and size % 32) or (kind > SEGMENTS and size < 8):
+            return 2
+        bodies[kind] = bundle[at - size : at]
+    return bodies if IMAGE in bodies else 2
+
+
+def text(image, found):
+    return None if found is None else image[found[0] : found[0] + found[1]]
+
+
+def pointer(image, place, address, zero):
+    """Where the offset at a place of the image leads, from the place's address; `zero` for an offset of 0."""
+    offset = number_at(image, place, 4, signed=True)
+    return zero if offset == 0 else (address + offset) % TOP
+
+
+def row_at(image, numbers, address):
+    """(address, flags, parent, name) of a type descriptor, or None."""
+    header = bytes_at(image, numbers, address, 20)
+    if header is None or address + 8 >= TOP:
+        return None
+    place = header[0]
+    name = text_at_address(image, numbers, pointer(image, place + 8, address + 8, address + 8))
+    if name is None:
+        return None
+    return address, number_at(image, place, 4), pointer(image, place + 4, address + 4, 0), text(image, name)
+
+
+def rows(image, numbers, types, start):
+    for at in range(0, len(types) - 3, 4):
+        offset = number_at(types, at, 4, signed=True)
+        row = row_at(image, numbers, (start + at + offset) % TOP) if offset else None
+        if row is not None:
+            yield row
+
+
+def context_name(image, numbers, address, flags):
+    if flags % 32 not in NAMED or address + 8 >= TOP:
+        return None
+    slot = bytes_at(image, numbers, address + 8, 4)
+    target = 0 if slot is None else pointer(image, slot[0], address + 8, 0)
+    return text(image, text_at_address(image, numbers, target))
+
+
+def contexts(image, numbers, address):
+    """The names, or None, of the contexts from an address on, one more than the limit at most."""
+    names = []
+    while address != 0 and len(names) <= LIMIT:
+        header = bytes_at(image, numbers, address, 8)
+        if header is None or address + 4 >= TOP:
+            break
+        names.append(context_name(image, numbers, address, number_at(image, header[0], 4)))
+        address = pointer(image, header[0] + 4, address + 4, 0)
+    return names
+
+
+def joined(image, numbers, parent, name):
+    hops = contexts(image, numbers, parent)
+    if len(hops) > LIMIT:
+        return b"refused 4"
+    whole = b"".join(hop + b"." for hop in reversed(hops) if hop is not None) + name
+    return whole if len(whole) <= NAME_BYTES else b"refused 3"
+
+
+def listing(bundle):
+    bodies = parts(bundle)
+    if isinstance(bodies, int):
+        return b"refused %d\n" % bodies
+    image, raw = bodies[IMAGE], bodies.get(SEGMENTS, b"")
+    numbers = struct.unpack(f"<{len(raw) // 8}Q", raw)
+    led = bodies.get(TYPES, bytes(8))
+    lines = [
+        b"%016x %s %s\n" % (address, WORDS.get(flags % 32, b"other"), joined(image, numbers, parent, name))
+        for address, flags, parent, name in rows(image, numbers, led[8:], number_at(led, 0, 8))
+    ]
+    return b"".join(lines) + b"end %d\n" % len(lines)
+
+
+# The bundles, in the order of the records.
+
+BUNDLES = []
+
+
+def bundle(*records):
+    BUNDLES.append(b"".join(records))
+
+
+CLUE = struct.pack("<7I", STRUCT, 0, 20, 0, 0, 0, 0) + b"Clue\0"
+CLUE_SEGMENT = segments(0x1000, 33, 0, 33)
+CLUE_TYPES = section(TYPES, 0x2000, bytes.fromhex("00f0ffff"))
+BASE = 0x1000
+WIDE = segments(BASE, 0x10000, 0, 0x10000)
+
+
+def tree(nodes, listed, size=28, base=BASE, image=None, numbers=None, types=0x20000):
+    """A bundle whose image has these contexts; the types section lists those at the numbers `listed`."""
+    image = image_of(base, nodes, size) if image is None else image
+    body = slots(types, [base + size * i for i in listed])
+    bundle(record(IMAGE, image), WIDE if numbers is None else segments(*numbers), section(TYPES, types, body))
+
+
+def checked_lines():
+    BUNDLES.extend([clue(), garden(), b""])
+    for cut in range(len(CLUE) + 1):
+        bundle(record(IMAGE, CLUE[:cut]), CLUE_SEGMENT, CLUE_TYPES)
+
+
+def record_rules():
+    """Cuts, bytes left over, kinds in every order, and bodies of every size that matters."""
+    whole = clue() + section(FIELDS, 0x3000, b"fields") + section(STRINGS, 0x4000, b"name\0")
+    for cut in range(len(whole) + 1):
+        bundle(whole[:cut])
+    for size in range(1, 8):
+        bundle(clue(), bytes(size))
+    good = {
+        1: record(IMAGE, CLUE),
+        2: CLUE_SEGMENT,
+        3: CLUE_TYPES,
+        4: section(FIELDS, 0, b""),
+        5: section(STRINGS, TOP - 1, b"s"),
+    }
+    for a in good:
+        bundle(good[a])
+        for b in good:
+            bundle(good[a], good[b])
+            bundle(good[1], good[2], good[a], good[b])
+    for missing in good:
+        bundle(*(good[k] for k in good if k != missing))
+        bundle(*(good[k] for k in good), good[missing])
+    for kind in (0, 6, 7, 16, 255, 256, 257, 0x0300, 0xFFFF):
+        bundle(record(kind, bytes(32)))
+        bundle(good[1], record(kind, bytes(32)))
+        bundle(clue(), record(kind, b""))
+    for size in (0, 1, 8, 16, 24, 31, 32, 33, 48, 63, 64, 65, 80, 96):
+        numbers = struct.pack("<12Q", 0x1000, 33, 0, 33, *[0] * 8)
+        bundle(good[1], record(SEGMENTS, numbers[:size]), CLUE_TYPES)
+    for kind in (TYPES, FIELDS, STRINGS):
+        for size in range(10):
+            before = clue() if kind > TYPES else good[1] + CLUE_SEGMENT
+            bundle(before, record(kind, struct.pack("<QI", 0x2000, 1)[:size]))
+    for size in (2**32 - 1, 2**31, 34):
+        bundle(struct.pack("<IH", size, 1), CLUE)
+        bundle(clue(), struct.pack("<IH", size, 4), CLUE)
+    bundle(record(IMAGE, b""))
+    bundle(record(IMAGE, b""), CLUE_SEGMENT, CLUE_TYPES)
+
+
+def sizes():
+    """The largest bundle, and two of one byte more, one of them broken besides."""
+    fixed = len(record(IMAGE, b"")) + len(CLUE_SEGMENT) + len(CLUE_TYPES)
+    for size in (BUNDLE_BYTES, BUNDLE_BYTES + 1):
+        bundle(record(IMAGE, CLUE.ljust(size - fixed, b"\0")), CLUE_SEGMENT, CLUE_TYPES)
+    bundle(BUNDLES[-2], b"\0")
+    bundle(bytes(40))
+
+
+def sections():
+    """Ragged and empty sections, empty and bad slots between good ones, addresses that wrap."""
+    image = image_of(BASE, [(STRUCT, None, b"One"), (CLASS, None, b"Two"), (ENUM, None, b"Bad\xff"), (ENUM, 0, b"Four")])
+    good = [BASE, BASE + 28, BASE + 84]
+    for more in (b"", b"\x01", b"\x01\x02", b"\x01\x02\x03"):
+        for count in (0, 1, 3):
+            bundle(record(IMAGE, image), WIDE, section(TYPES, 0x9000, slots(0x9000, good[:count]) + more))
+    # Offset 0, a name that is no text, no bytes at the address, the image's end.
+    bad = [None, BASE + 56, 0, BASE - 1, BASE + len(image) - 19, BASE + 0x10000, TOP - 1]
+    for one in bad:
+        for order in ([one, *good], [good[0], one, good[1]], [*good, one], [one, one, good[2], one]):
+            body = b"".join(bytes(4) if t is None else relative(0x9000 + 4 * i, t) for i, t in enumerate(order))
+            bundle(record(IMAGE, image), WIDE, section(TYPES, 0x9000, body))
+    for address in (0, 1, 0x9001, TOP - 1, TOP - 2, TOP - 4, TOP - 6, TOP - 8):
+        bundle(record(IMAGE, image), WIDE, section(TYPES, address, slots(address, good + good)))
+    for address in (BASE + 2**31, BASE - 2**31 + 1 + TOP):
+        bundle(record(IMAGE, image), WIDE, section(TYPES, address, slots(address, good[:1])))
+    bundle(record(IMAGE, image), WIDE, section(TYPES, 0x9000, slots(0x9000, good * 40)))
+
+
+def flags():
+    """Types of every kind and with every bit, contexts of every kind with a name, without one, and with an offset to nothing."""
+    every = list(range(32)) + [1 << bit for bit in range(5, 32)] + [0xFFFFFFE0 | kind for kind in range(32)]
+    tree([(f, None, b"T") for f in every], range(len(every)))
+    for name in (b"Named", None, b"", b"\xc3", "Ö".encode()):
+        for upper in (0, 0xFFFFFFE0):
+            nodes = [(MODULE, None, b"M")] + [(upper | kind, 0, name) for kind in range(32)]
+            nodes += [(STRUCT, 1 + kind, b"K%d" % kind) for kind in range(32)]
+            tree(nodes, range(33, 65), 20)
+    tree([(STRUCT, 1, b"T"), (MODULE, None, b"far")], [0], image=image_of(BASE, [(STRUCT, 1, b"T"), (MODULE, None, b"far")])[:-5])
+
+
+def chains():
+    """Chains by their length, with names, without, and with the longest name that fits; chains that do not end."""
+    for count in (0, 1, 2, 254, 255, 256, 257, 258, 300):
+        for kind, name in ((CLASS, b"n"), (2, None)):
+            nodes = [(STRUCT, 1 if count else None, b"Last")]
+            nodes += [(kind, i + 2 if i + 1 < count else None, name) for i in range(count)]
+            tree(nodes, [0, min(count, 1)], 20 if count < 9 else 12)
+    for parents in ([0], [1, 1], [1, 0], [1, 2, 1], [1, 2, 2], [1, 2, 0], [1, 2, 3, 1]):
+        tree([(ENUM, p, b"n%d" % i) for i, p in enumerate(parents)], range(len(parents)))
+    # 256 contexts of 16 bytes with their dots, and an own name of 0, 1 and 5,000 bytes; with a 257th context, 4 comes before 3.
+    for own in (b"", b"x", b"x" * 5000):
+        for count in (256, 257):
+            nodes = [(STRUCT, 1, own)] + [(CLASS, i + 2 if i + 1 < count else None, b"fifteen letters") for i in range(count)]
+            tree(nodes, [0, count], 12)
+
+
+def names():
+    """Names at the buffer's end, empty and ill-formed ones, and names that lie elsewhere."""
+    for own, context in ((4096, None), (4097, None), (2048, 2047), (2048, 2048), (2049, 2047), (0, 4095), (0, 4096), (1, 4095)):
+        nodes = [(STRUCT, None if context is None else 1, b"o" * own), (CLASS, None, b"c" * (context or 0)), (ENUM, None, b"After")]
+        tree(nodes, [0, 2])
+    euro = "€".encode()
+    for own in (euro * 1365 + b"x", euro * 1366):
+        tree([(STRUCT, None, own)], [0])
+    for name in (b"", b"\xff", b"ok\xc0\x80", b"\xed\xa0\x80", "Größe 🌍".encode(), b" ", b".", b"\n", b"\x7f\x01"):
+        tree([(STRUCT, 1, name), (CLASS, 2, b"In"), (MODULE, None, b"Top")], range(3))
+        tree([(STRUCT, 1, b"Own"), (CLASS, 2, name), (MODULE, None, b"Top")], range(3))
+        tree([(STRUCT, 1, b"Own"), (CLASS, 2, name), (MODULE, None, name)], range(3))
+    # A type's name offset of 0 is a text at the descriptor + 8; a context's is no name.
+    tree([(STRUCT, 1, None), (CLASS, 2, None), (MODULE, None, b"Top")], range(3))
+    # A name within the header, at the image's end, past it, at address 0, and without its NUL.
+    low = segments(0, 0x100, 0, 0x100)
+    for offset in list(range(-12, 5)) + [12, 15, 16, 17, 0x57, 0x58, -(2**31), 2**31 - 1]:
+        image = bytes(0x20) + struct.pack("<Iii8s", STRUCT, 0x41424344, offset, b"12345678") + b"tail"
+        bundle(record(IMAGE, image), low, section(TYPES, 0x80, slots(0x80, [0x20])))
+    for offset in (-8, -4, 12, 13):
+        image = struct.pack("<Iii8s", CLASS, -4, offset, b"12345678") + b"zero\0"
+        bundle(record(IMAGE, image), low, section(TYPES, 0x80, slots(0x80, [0, 0x100, 0x7C])))
+
+
+def tails():
+    """Descriptors and contexts that the image's end cuts, whole, and with a byte more; names and a module stand before them."""
+    front = b"Tail\0".ljust(8, b"\0") + struct.pack("<II", MODULE, 0) + relative(0x1010, 0x1000)
+    types = section(TYPES, 0x9000, slots(0x9000, [0x1014]))
+    for size in (0, 1, 4, 8, 12, 16, 18, 19, 20, 21):
+        last = struct.pack("<I", STRUCT) + relative(0x1018, 0x1008) + relative(0x101C, 0x1000) + bytes(9)
+        bundle(record(IMAGE, front + last[:size]), WIDE, types)
+    for size in range(14):
+        first = struct.pack("<I", STRUCT) + relative(0x1018, 0x1028) + relative(0x101C, 0x1000) + bytes(8)
+        last = struct.pack("<I", CLASS) + relative(0x102C, 0x1008) + relative(0x1030, 0x1000) + bytes(1)
+        bundle(record(IMAGE, front + first + last[:size]), WIDE, types)
+
+
+def high(down):
+    """An image of 96 bytes at 2^64 - 64, whose descriptor is `down` below 2^64."""
+    place = 64 - down
+    head = bytearray(b"Edge\0".ljust(96, b"\0"))
+    head[place : place + 12] = struct.pack("<II", STRUCT, 0) + relative(TOP - down + 8, TOP - 64)
+    return bytes(head)
+
+
+def edges():
+    """Descriptors and contexts around 2^64, and at 0."""
+    top = (TOP - 64, 63, 0, 96)
+    for down in (1, 2, 3, 4, 5, 6, 7, 8, 9, 10, 11, 12, 13, 16, 20, 21, 32):
+        for address in (0x100, TOP - 0x100):
+            bundle(record(IMAGE, high(down)), segments(*top), section(TYPES, address, slots(address, [TOP - down])))
+    # Segments that end at 2^64 - 2, at 2^64 - 1 and at 2^64.
+    for size in (62, 63, 64):
+        for down in (2, 9, 10):
+            bundle(record(IMAGE, high(down)), segments(TOP - 64, size, 0, 96), section(TYPES, 0, slots(0, [TOP - down])))
+    # A type above 0x1000 in a context near 2^64, itself in the module at 0x1000.
+    module = image_of(0x1000, [(MODULE, None, b"Top")])
+    for down in (1, 2, 3, 4, 5, 6, 7, 8, 9, 10, 11, 12, 13, 16, 20):
+        low = module + struct.pack("<I", CLASS) + relative(0x1000 + len(module) + 4, TOP - down) + struct.pack("<iii", 12, 0, 0) + b"In\0"
+        context = bytearray(high(down))
+        context[68 - down : 72 - down] = relative(TOP - down + 4, 0x1000)
+        numbers = (*top, 0x1000, 0x100, 96, 0x100)
+        types = section(TYPES, 0x8000, slots(0x8000, [0x1000 + len(module), 0x1000]))
+        bundle(record(IMAGE, bytes(context) + low), segments(*numbers), types)
+
+
+def segment_lists():
+    """Segments missing, swapped, without bytes in the file, too short, one over another, and wrapping."""
+    image = image_of(BASE, [(STRUCT, 1, b"One"), (MODULE, None, b"Top")])
+    types = section(TYPES, 0x9000, slots(0x9000, [BASE, BASE + 28]))
+    size = len(image)
+    wraps = (TOP - 16, 16, 0, 16)
+    whole = (BASE, size, 0, size)
+    lists = [(), whole, whole + wraps, wraps + whole, (BASE, size, 0, 0) + whole, (BASE, size, 0, 0)]
+    lists += [(BASE, n, 0, n) for n in (1, 20, 28, 29, 36, 55, 56, 57, 60, 63, 64)]
+    lists += [(BASE, size, 0, n) for n in (1, 8, 28, 29, 56, 57, 60)]
+    lists += [(BASE, 28, 0, 28, BASE + 28, size, 28, size), (BASE + 28, size, 28, size, BASE, 28, 0, 28)]
+    lists += [(BASE, size, n, size) for n in (1, 4, size - 20, size, TOP - 1)]
+    lists += [(BASE, size, 28, size) + whole, (BASE, 8, 28, 8) + whole, (BASE, TOP - 1 - BASE, 0, TOP - 1), (0, TOP - 1, 0, TOP - 1)]
+    for numbers in lists:
+        bundle(record(IMAGE, image), segments(*numbers), types)
+    bundle(record(IMAGE, image), types)
+    many = [n for i in range(200) for n in (0x100000 + 16 * i, 16, 0, 16)]
+    bundle(record(IMAGE, image), segments(*many, *whole), types)
+
+
+def damaged():
+    """The larger sample with one to three of its bytes changed, by a fixed rule."""
+    state = 1
+    for turn in range(150):
+        data = bytearray(garden())
+        for _ in range(turn % 3 + 1):
+            state = (state * 6364136223846793005 + 1442695040888963407) % TOP
+            place, value = state >> 40, (state >> 32) % 256
+            data[place % len(data)] = value if turn % 2 else data[place % len(data)] ^ (1 << value % 8)
+        bundle(data)
+    # Every cut of its image.
+    image = parts(garden())[IMAGE]
+    rest = garden()[6 + len(image) :]
+    for cut in range(0, len(image), 7):
+        bundle(record(IMAGE, image[:cut]), rest)
+
+
+for group in (checked_lines, record_rules, sizes, sections, flags, chains, names, tails, edges, segment_lists, damaged):
+    group()
+
+
+def files():
+    out = {
+        "crates/listings/stdin": b"".join(struct.pack("<I", len(b)) + b for b in BUNDLES),
+        "crates/listings/stdout": b"".join(b"-- %d\n" % n + listing(b) for n, b in enumerate(BUNDLES, 1)),
+        "crates/list/stdin": garden(),
+        "crates/list/stdout": listing(garden()),
+    }
+    for name, make in SAMPLES.items():
+        out[f"samples/{name}.bundle"] = make()
+        out[f"samples/{name}.listing"] = listing(make())
+    return out
+
+
+def main():
+    if sys.argv[1:] not in ([], ["--check"]):
+        sys.exit(__doc__)
+    assert listing(clue()) == b"0000000000001000 struct Clue\nend 1\n" and listing(b"") == b"refused 2\n"
+    assert max(map(len, BUNDLES)) == BUNDLE_BYTES + 1
+    for name, content in files().items():
+        path = ROOT / name
+        if sys.argv[1:]:
+            if not path.is_file() or path.read_bytes() != content:
+                sys.exit(f"{name} is not what tests/bundles.py writes")
+        else:
+            path.write_bytes(content)
+    print(f"{len(BUNDLES)} bundles")
+
+
+if __name__ == "__main__":
+    main()
