@@ -11,10 +11,14 @@ const CHAINS: usize = 8;
 const ROUNDS: usize = 60;
 const BASE: u64 = 0x1_0000_0000;
 
-/// `ROWS` rows of a kind, each with a name of its own; `CHAINS` chains of so many contexts, each context with a name; every name has
-/// `name` bytes. Of the segments the last one has the image.
-fn case(kind: u32, name: usize, depth: usize, segments: usize) -> Input {
-    let size = 28;
+/// A class's flags with every block that one can have at once, and the bit of the extra class flags for the Objective-C stub.
+const ALL_BLOCKS: u32 = 0xe049_00b0;
+const HAS_STUB: u32 = 1;
+
+/// `ROWS` rows with these flags, each with a name of its own; `CHAINS` chains of so many contexts, each context with a name; every name
+/// has `name` bytes. A class has room for its blocks, whose counts are 0. Of the segments the last one has the image.
+fn case(flags: u32, name: usize, depth: usize, segments: usize) -> Input {
+    let size = if flags & 31 == 16 { 160 } else { 28 };
     let contexts = ROWS * size;
     let texts = contexts + CHAINS * depth * 12;
     let count = ROWS + CHAINS * depth;
@@ -23,7 +27,10 @@ fn case(kind: u32, name: usize, depth: usize, segments: usize) -> Input {
     let text = |i: usize| texts + i * (name + 1);
     for i in 0..ROWS {
         let off = i * size;
-        put(off, kind);
+        put(off, flags);
+        if flags == ALL_BLOCKS {
+            put(off + 28, HAS_STUB);
+        }
         put(
             off + 4,
             (contexts + i % CHAINS * depth * 12).wrapping_sub(off + 4) as u32
@@ -187,10 +194,15 @@ pub fn run() {
     );
     println!();
     println!("rows alone | names | segments |      Rust |    proved | ratio");
-    for (kind, number) in [("struct", 17), ("no body", 4)] {
+    for (kind, flags) in [
+        ("struct", 17),
+        ("class", 16),
+        ("all blocks", ALL_BLOCKS),
+        ("no body", 4),
+    ] {
         for segments in [2, 40] {
             for name in [8, 40, 400] {
-                let input = case(number, name, 0, segments);
+                let input = case(flags, name, 0, segments);
                 line(
                     &format!("{kind:10} | {name:5} | {segments:8}"),
                     rows(&input),
