@@ -1,5 +1,6 @@
 #!/usr/bin/env python3
-"""Write the bundles of the crate `listings`, crates/listings/stdin, and their listings, crates/listings/stdout; the samples too.
+"""Write the bundles of the crate `listings`, crates/listings/stdin, and their listings, crates/listings/stdout; the samples too, and the
+answers of the crate `refusals`.
 
 usage: tests/bundles.py [--check]        (--check: write nothing; exit status 1 if a file on disk is not what would be written)
 
@@ -94,12 +95,18 @@ def contexts(image, numbers, address):
     return names
 
 
-def joined(image, numbers, parent, name):
+def joined(image, numbers, parent, name, room=NAME_BYTES):
+    """The joined name, and a refusal's number or 0."""
     hops = contexts(image, numbers, parent)
     if len(hops) > LIMIT:
-        return b"refused 4"
+        return b"", 4
     whole = b"".join(hop + b"." for hop in reversed(hops) if hop is not None) + name
-    return whole if len(whole) <= NAME_BYTES else b"refused 3"
+    return (whole, 0) if len(whole) <= room else (b"", 3)
+
+
+def name_or_refusal(*of):
+    name, refusal = joined(*of)
+    return b"refused %d" % refusal if refusal else name
 
 
 def listing(bundle):
@@ -110,7 +117,7 @@ def listing(bundle):
     numbers = struct.unpack(f"<{len(raw) // 8}Q", raw)
     led = bodies.get(TYPES, bytes(8))
     lines = [
-        b"%016x %s %s\n" % (address, WORDS.get(flags % 32, b"other"), joined(image, numbers, parent, name))
+        b"%016x %s %s\n" % (address, WORDS.get(flags % 32, b"other"), name_or_refusal(image, numbers, parent, name))
         for address, flags, parent, name in rows(image, numbers, led[8:], number_at(led, 0, 8))
     ]
     return b"".join(lines) + b"end %d\n" % len(lines)
@@ -349,8 +356,28 @@ for group in (checked_lines, record_rules, sizes, sections, flags, chains, names
     group()
 
 
+def refusals():
+    """The answers of the crate `refusals`: calls on lists of 0 to 8 segment numbers."""
+    image, types = bytearray(CLUE), slots(0x2000, [0x1000])
+    image[4:8] = relative(0x1004, 0x1000)
+    for count in range(9):
+        numbers = [0x1000, 33, 0, 33, 0x9000, 1, 0, 1][:count]
+        walks = [b"refused 1"] * 3
+        if count % 4 == 0:
+            found = [row[0] for row in rows(image, numbers, types, 0x2000)]
+            chain = contexts(image, numbers, 0x1000)
+            line = b"%016x struct refused 4\n" % 0x1000 if found else b"end 0\n"
+            walks = [b"%d" % found[0] if found else b"end", b"%d" % 0x1000 if chain else b"end", b"%d" % len(line)]
+        yield b"walks %d %s\n" % (count, b" ".join(walks))
+        for parent, size in ((0, 8), (0, 4), (0, 3), (0x1000, 8), (0x1000, 3), (0x1000, 0)):
+            name, refusal = (b"", 1) if count % 4 else joined(image, numbers, parent, b"Clue", size)
+            answer = b"refused %d" % refusal if refusal else b"%d" % len(name)
+            yield b"name %d %d %d %s %s\n" % (count, parent, size, answer, name.ljust(8, b"-"))
+
+
 def files():
     out = {
+        "crates/refusals/stdout": b"".join(refusals()),
         "crates/listings/stdin": b"".join(struct.pack("<I", len(b)) + b for b in BUNDLES),
         "crates/listings/stdout": b"".join(b"-- %d\n" % n + listing(b) for n, b in enumerate(BUNDLES, 1)),
         "crates/list/stdin": garden(),

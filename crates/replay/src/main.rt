@@ -14,7 +14,8 @@
 //   offset ADDRESS OFFSET                                   its file offset,
 //   field ADDRESS WHERE PLACE LENGTH                        the field name there: 1 in the image, 2 in the strings,
 //   text OFFSET PLACE LENGTH                                the text at the image's offset ADDRESS % (length + 2)
-// with `nothing` where there is none. `compare sample OUT DIR` makes both files, stdin and stdout, anew from the Rust.
+// with `nothing` where there is none. `target/compare/compare sample OUT crates/replay` (after compare/build) makes both
+// files, stdin and stdout, anew from the Rust; OUT gets them as one.
 ghost use Prim.Native.Nat.{_≤_};
 ghost use lib.ListN.{length};
 use listing::JoinedName;
