@@ -15,9 +15,18 @@ const BASE: u64 = 0x1_0000_0000;
 const ALL_BLOCKS: u32 = 0xe049_00b0;
 const HAS_STUB: u32 = 1;
 
-/// `ROWS` rows with these flags, each with a name of its own; `CHAINS` chains of so many contexts, each context with a name; every name
-/// has `name` bytes. A class has room for its blocks, whose counts are 0. Of the segments the last one has the image.
-fn case(flags: u32, name: usize, depth: usize, segments: usize) -> Input {
+/// Flags of contexts with a name and without.
+const NAMED: u32 = 17;
+const ANONYMOUS: u32 = 2;
+
+/// `ROWS` rows with these flags, each with a name of its own; every name has `name` bytes. A class has room for its blocks, whose counts
+/// are 0. Of the segments the last one has the image.
+fn case(flags: u32, name: usize, segments: usize) -> Input {
+    nested(flags, NAMED, name, 0, segments)
+}
+
+/// The same in `CHAINS` chains of `depth` contexts with the flags `around`.
+fn nested(flags: u32, around: u32, name: usize, depth: usize, segments: usize) -> Input {
     let size = if flags & 31 == 16 { 160 } else { 28 };
     let contexts = ROWS * size;
     let texts = contexts + CHAINS * depth * 12;
@@ -42,7 +51,7 @@ fn case(flags: u32, name: usize, depth: usize, segments: usize) -> Input {
         for i in 0..depth {
             let number = chain * depth + i;
             let off = contexts + 12 * number;
-            put(off, if i + 1 == depth { 0 } else { 17 });
+            put(off, around);
             put(off + 4, if i + 1 == depth { 0 } else { 8 });
             put(off + 8, text(ROWS + number).wrapping_sub(off + 8) as u32);
         }
@@ -202,7 +211,7 @@ pub fn run() {
     ] {
         for segments in [2, 40] {
             for name in [8, 40, 400] {
-                let input = case(flags, name, 0, segments);
+                let input = case(flags, name, segments);
                 line(
                     &format!("{kind:10} | {name:5} | {segments:8}"),
                     rows(&input),
@@ -218,11 +227,22 @@ pub fn run() {
     for segments in [2, 40] {
         for depth in [0, 1, 3, 32] {
             for name in [8, 40, 400] {
-                let input = case(17, name, depth, segments);
+                let input = nested(17, NAMED, name, depth, segments);
                 let case = format!("{name:5} | {depth:5} | {segments:8}");
                 line(&format!("steps      | {case}"), listing(&input));
                 line(&format!("whole      | {case}"), whole(&input));
             }
+        }
+    }
+    println!();
+    println!(
+        "Deep chains, `whole`: names of 8 bytes, 2 segments, contexts with names and without."
+    );
+    println!("contexts   | depth |      Rust |    proved | ratio");
+    for (kind, around) in [("named", NAMED), ("anonymous", ANONYMOUS)] {
+        for depth in [4, 8, 12, 16, 20, 24, 32, 64, 256] {
+            let input = nested(17, around, 8, depth, 2);
+            line(&format!("{kind:10} | {depth:5}"), whole(&input));
         }
     }
 }
