@@ -13,6 +13,7 @@ use Rattle.runtime.specs.Reads.{Reads, done, nothing, bytes, text, run}
 use Rattle.context.specs.Context.{contextKind, named}
 use Rattle.parent.specs.declared.header.ParentContext.{ParentContext}
 use Rattle.parent.specs.declared.header.ContextRead.{ContextRead}
+use Rattle.parent.specs.declared.header.HeaderRead.{HeaderRead}
 
 -- a name: where it lies in the image, and its bytes
 pub record Name : Type 0 where
@@ -58,6 +59,10 @@ contextRead image segments a =
     Option·map (λ h. record { header = h; name = contextName image segments a (h .flags) }) (run image segments (header a))
 
 -- what the calls' answers say, of the image that they were read from
+abbrev pub headerOf : ℕ → HeaderRead → Option Header
+headerOf a (HeaderRead.Header f q) = some (record { address = a; flags = f; parent = q })
+headerOf a HeaderRead.Nothing = none
+
 abbrev pub nameRead : List ℕ → Text → Option Name
 nameRead image (Text.At o n) = some (record { place = place o n; bytes = partOf image (place o n) })
 nameRead image Text.Nothing = none

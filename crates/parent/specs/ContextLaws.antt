@@ -59,28 +59,36 @@ module _ (image segments : List ℕ) (a flags : ℕ) where
 -- ---- the context
 
 module _ (image segments : List ℕ) (a : ℕ) where
-  pub zero-context : a ≡ 0 → none ≡ contextRead image segments a
-  unfolding contextRead header run
-  zero-context z = simp (eq-eqb a 0 z)
+  pub zero-header : a ≡ 0 → none ≡ run image segments (header a)
+  unfolding header run
+  zero-header z = simp (eq-eqb a 0 z)
 
   module _ (z : a ≡ 0 → ⊥) (h : List ℕ) (e : h ≡ bytesRead image segments a 8) where
-    pub no-header : length h < 8 → none ≡ contextRead image segments a
-    unfolding contextRead header
-    no-header l = simp (ne-eqb a 0 z) (rw (run-no-bytes image segments a 8 (headed a) h e l))
+    pub no-header : length h < 8 → none ≡ run image segments (header a)
+    unfolding header
+    no-header l = simp (ne-eqb a 0 z) (sym (run-no-bytes image segments a 8 (headed a) h e l))
 
     read-header : 8 ≤ length h → run image segments (header a) ≡ run image segments (headed a h)
     unfolding header
     read-header l = simp (ne-eqb a 0 z) (run-bytes image segments a 8 (headed a) h e (omega arith) l)
 
-    pub parent-wraps : 8 ≤ length h → 2 ^ 64 ≤ a + 4 → none ≡ contextRead image segments a
-    unfolding contextRead headed run
+    pub parent-wraps : 8 ≤ length h → 2 ^ 64 ≤ a + 4 → none ≡ run image segments (header a)
+    unfolding headed run
     parent-wraps l w = rw (read-header l) (simp (le-leb (2 ^ 64) (a + 4) w))
 
-    pub context-at : (f q : ℕ) (n : Option Name) → f ≡ unsignedIn 4 h 0 → q ≡ relativeAddress (a + 4) (signedIn 4 h 4) → n ≡ contextName image segments a f
-        → 8 ≤ length h → a + 4 < 2 ^ 64
-        → some (record { header = record { address = a; flags = f; parent = q }; name = n }) ≡ contextRead image segments a
-    unfolding contextRead headed run
-    context-at f q n ef eq en l w = rw (read-header l, en, ef, eq) (simp (lt-leb (2 ^ 64) (a + 4) w))
+    pub header-at : (f q : ℕ) → f ≡ unsignedIn 4 h 0 → q ≡ relativeAddress (a + 4) (signedIn 4 h 4) → 8 ≤ length h → a + 4 < 2 ^ 64
+        → some (record { address = a; flags = f; parent = q }) ≡ run image segments (header a)
+    unfolding headed run
+    header-at f q ef eq l w = rw (read-header l, ef, eq) (simp (lt-leb (2 ^ 64) (a + 4) w))
+
+  pub no-context : none ≡ run image segments (header a) → none ≡ contextRead image segments a
+  unfolding contextRead
+  no-context e = rw (← e)
+
+  pub context-at : (h : Header) (n : Option Name) → some h ≡ run image segments (header a) → n ≡ contextName image segments a (h .flags)
+      → some (record { header = h; name = n }) ≡ contextRead image segments a
+  unfolding contextRead
+  context-at h n e en = rw (← e, en)
 
   -- ---- the chain
   module _ (given : ℕ) where

@@ -1,6 +1,10 @@
 ghost use mathlib.Core.Path.{_≡_};
-ghost use Rattle.parent.specs.Context.{contextRead, contextOf, contextName, nameRead};
+ghost use Rattle.util.specs.Segments.{segmentsOf};
+ghost use Rattle.util.specs.Mapping.{Mapped};
+ghost use Rattle.runtime.specs.Reads.{run};
+ghost use Rattle.parent.specs.Context.{header, headerOf, contextRead, contextOf, contextName, nameRead};
 use context::ContextDescriptorFlags;
+use util::Mapping;
 use util::Text;
 
 // One context of a chain: its address, its flags, its own parent's address (0 where it has none), and its name if it has one.
@@ -16,8 +20,47 @@ pub enum ContextRead {
     Nothing,
 }
 
+// What the first 8 bytes of a context say.
+pub enum HeaderRead {
+    Header { flags: u32, parent: u64 },
+    Nothing,
+}
+
+// The header at an address. There is none at address 0, nor at or above 2^64 - 4.
+pub fn read_header(
+    image: &[u8],
+    segments: &[u64],
+    mapping: Mapping,
+    descriptor_va: u64,
+) -> HeaderRead
+    requires { ⌜ Mapped (segmentsOf (now segments)) mapping ⌝ }
+    ensures { λ r. ⌜ headerOf «descriptor_va» r ≡ run (now (image .entry)) (now (segments .entry)) (header «descriptor_va») ⌝ }
+{
+    if descriptor_va == 0 {
+        return HeaderRead::Nothing;
+    }
+    let bytes = runtime::read_bytes_near(image, segments, mapping, descriptor_va, 8);
+    if bytes.len() < 8 {
+        return HeaderRead::Nothing;
+    }
+    if descriptor_va > 0xffff_ffff_ffff_fffb {
+        return HeaderRead::Nothing;
+    }
+    HeaderRead::Header {
+        flags: util::u32_at(bytes, 0),
+        parent: util::address_in(bytes, 4, descriptor_va + 4),
+    }
+}
+
 // The name that the word after the context's header refers to. An offset of 0 is no name.
-fn read_context_name(image: &[u8], segments: &[u64], descriptor_va: u64, flags: u32) -> Text
+pub fn read_context_name(
+    image: &[u8],
+    segments: &[u64],
+    mapping: Mapping,
+    descriptor_va: u64,
+    flags: u32,
+) -> Text
+    requires { ⌜ Mapped (segmentsOf (now segments)) mapping ⌝ }
     ensures { λ r. ⌜ nameRead (now (image .entry)) r ≡ contextName (now (image .entry)) (now (segments .entry)) «descriptor_va» flags ⌝ }
 {
     if !ContextDescriptorFlags(flags).kind().has_name() {
@@ -27,35 +70,28 @@ fn read_context_name(image: &[u8], segments: &[u64], descriptor_va: u64, flags: 
         return Text::Nothing;
     }
     let slot_va = descriptor_va + 8;
-    let slot = runtime::read_bytes(image, segments, slot_va, 4);
+    let slot = runtime::read_bytes_near(image, segments, mapping, slot_va, 4);
     if slot.len() < 4 {
         return Text::Nothing;
     }
     if util::u32_at(slot, 0) == 0 {
         return Text::Nothing;
     }
-    runtime::read_cstr(image, segments, util::pointer_in(slot, 0, slot_va))
+    runtime::read_cstr_near(image, segments, mapping, util::pointer_in(slot, 0, slot_va))
 }
 
-// The context at an address. There is none at address 0, nor at or above 2^64 - 4.
+// The context at an address.
 pub fn read_context(image: &[u8], segments: &[u64], descriptor_va: u64) -> ContextRead
     ensures { λ r. ⌜ contextOf (now (image .entry)) r ≡ contextRead (now (image .entry)) (now (segments .entry)) «descriptor_va» ⌝ }
 {
-    if descriptor_va == 0 {
-        return ContextRead::Nothing;
+    let mapping = Mapping::empty();
+    match read_header(image, segments, mapping, descriptor_va) {
+        HeaderRead::Header { flags, parent } => ContextRead::Context(ParentContext {
+            address: descriptor_va,
+            flags,
+            parent,
+            name: read_context_name(image, segments, mapping, descriptor_va, flags),
+        }),
+        HeaderRead::Nothing => ContextRead::Nothing,
     }
-    let header = runtime::read_bytes(image, segments, descriptor_va, 8);
-    if header.len() < 8 {
-        return ContextRead::Nothing;
-    }
-    if descriptor_va > 0xffff_ffff_ffff_fffb {
-        return ContextRead::Nothing;
-    }
-    let flags = util::u32_at(header, 0);
-    ContextRead::Context(ParentContext {
-        address: descriptor_va,
-        flags,
-        parent: util::address_in(header, 4, descriptor_va + 4),
-        name: read_context_name(image, segments, descriptor_va, flags),
-    })
 }

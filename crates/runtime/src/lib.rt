@@ -5,8 +5,11 @@ mod reflstr;
 
 pub use reads::Bytes;
 pub use reads::find_bytes;
+pub use reads::find_bytes_near;
 pub use reads::read_bytes;
+pub use reads::read_bytes_near;
 pub use reads::read_cstr;
+pub use reads::read_cstr_near;
 pub use reads::vm_to_file_offset;
 pub use reflstr::FieldName;
 pub use reflstr::field_name_part;

@@ -1,9 +1,11 @@
 ghost use mathlib.Core.Path.{_≡_};
 ghost use Rattle.util.specs.Segments.{fileOffset, segmentsOf, offsetOf};
+ghost use Rattle.util.specs.Mapping.{Mapped};
 ghost use Rattle.util.specs.Cstr.{textOf};
 ghost use Rattle.runtime.specs.Reads.{bytesPlace, textPlace};
 ghost use Rattle.runtime.specs.Bytes.{placeOf, bytesRead};
 use util::FileOffset;
+use util::Mapping;
 use util::Text;
 
 // Where bytes lie in the image.
@@ -19,10 +21,17 @@ pub fn vm_to_file_offset(segments: &[u64], vmaddr: u64) -> FileOffset
 }
 
 // Where `len` bytes at an address lie. Only the first address is translated: the rest follows in the image, which alone bounds it.
-pub fn find_bytes(image: &[u8], segments: &[u64], vmaddr: u64, len: usize) -> Bytes
+pub fn find_bytes_near(
+    image: &[u8],
+    segments: &[u64],
+    mapping: Mapping,
+    vmaddr: u64,
+    len: usize,
+) -> Bytes
+    requires { ⌜ Mapped (segmentsOf (now segments)) mapping ⌝ }
     ensures { λ r. ⌜ placeOf r ≡ bytesPlace (now (image .entry)) (now (segments .entry)) vmaddr len ⌝ }
 {
-    match vm_to_file_offset(segments, vmaddr) {
+    match util::vm_to_file_offset_near(segments, mapping, vmaddr) {
         FileOffset::At(offset) => {
             let off = offset as usize;
             if image.len() < off {
@@ -38,24 +47,51 @@ pub fn find_bytes(image: &[u8], segments: &[u64], vmaddr: u64, len: usize) -> By
 }
 
 // The bytes themselves, as that part of the image: empty where there are none.
-pub fn read_bytes<'a>(image: &'a [u8], segments: &[u64], vmaddr: u64, len: usize) -> &'a [u8]
+pub fn read_bytes_near<'a>(
+    image: &'a [u8],
+    segments: &[u64],
+    mapping: Mapping,
+    vmaddr: u64,
+    len: usize,
+) -> &'a [u8]
+    requires { ⌜ Mapped (segmentsOf (now segments)) mapping ⌝ }
     ensures { λ r. ⌜ now r ≡ bytesRead (now (image .entry)) (now (segments .entry)) vmaddr len ⌝ }
 {
-    match find_bytes(image, segments, vmaddr, len) {
+    match find_bytes_near(image, segments, mapping, vmaddr, len) {
         Bytes::At(off) => util::part(image, off, len),
         Bytes::Nothing => &image[..0],
     }
 }
 
 // The text at an address. There is none at address 0.
-pub fn read_cstr(image: &[u8], segments: &[u64], vmaddr: u64) -> Text
+pub fn read_cstr_near(image: &[u8], segments: &[u64], mapping: Mapping, vmaddr: u64) -> Text
+    requires { ⌜ Mapped (segmentsOf (now segments)) mapping ⌝ }
     ensures { λ r. ⌜ textOf r ≡ textPlace (now (image .entry)) (now (segments .entry)) vmaddr ⌝ }
 {
     if vmaddr == 0 {
         return Text::Nothing;
     }
-    match vm_to_file_offset(segments, vmaddr) {
+    match util::vm_to_file_offset_near(segments, mapping, vmaddr) {
         FileOffset::At(offset) => util::read_cstr_at(image, offset as usize),
         FileOffset::Nothing => Text::Nothing,
     }
+}
+
+// The same with nothing known of the addresses around.
+pub fn find_bytes(image: &[u8], segments: &[u64], vmaddr: u64, len: usize) -> Bytes
+    ensures { λ r. ⌜ placeOf r ≡ bytesPlace (now (image .entry)) (now (segments .entry)) vmaddr len ⌝ }
+{
+    find_bytes_near(image, segments, Mapping::empty(), vmaddr, len)
+}
+
+pub fn read_bytes<'a>(image: &'a [u8], segments: &[u64], vmaddr: u64, len: usize) -> &'a [u8]
+    ensures { λ r. ⌜ now r ≡ bytesRead (now (image .entry)) (now (segments .entry)) vmaddr len ⌝ }
+{
+    read_bytes_near(image, segments, Mapping::empty(), vmaddr, len)
+}
+
+pub fn read_cstr(image: &[u8], segments: &[u64], vmaddr: u64) -> Text
+    ensures { λ r. ⌜ textOf r ≡ textPlace (now (image .entry)) (now (segments .entry)) vmaddr ⌝ }
+{
+    read_cstr_near(image, segments, Mapping::empty(), vmaddr)
 }

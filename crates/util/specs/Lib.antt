@@ -5,6 +5,8 @@ pub mod Cstr
 pub mod CstrLaws
 pub mod LittleEndian
 pub mod LittleEndianLaws
+pub mod Mapping
+pub mod MappingLaws
 pub mod Pointer
 pub mod PointerLaws
 pub mod Segments

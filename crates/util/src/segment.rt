@@ -1,6 +1,8 @@
 // From an address to a file offset, by the segments: a lent list of numbers, four to a segment.
 ghost use mathlib.Core.Path.{_≡_};
+ghost use Prim.Native.Nat.{_+_, _≤_, _<_, _^_, min, max};
 ghost use Rattle.util.specs.Segments.{fileOffset, segmentsOf, decides, offsetOf, decided};
+ghost use Rattle.util.specs.Mapping.{Clipped, Mapped, Located};
 
 pub enum FileOffset {
     At(u64),
@@ -61,4 +63,129 @@ pub fn vm_to_file_offset_in(segments: &[u64], vmaddr: u64) -> FileOffset
         }
     }
     FileOffset::Nothing
+}
+
+// Addresses that lie one after the other in the file: `size` of them from `vmaddr` on, the first at `fileoff`.
+pub struct Mapping {
+    pub vmaddr: u64,
+    pub size: u64,
+    pub fileoff: u64,
+}
+
+// What is in the file around an address.
+pub enum Around {
+    Mapping(Mapping),
+    // Not even the address itself.
+    Nothing,
+}
+
+impl Mapping {
+    pub fn empty() -> Mapping
+        ensures { λ r. ⌜ (r .size ≡ 0) × (r .fileoff ≡ 0) ⌝ }
+    {
+        Mapping {
+            vmaddr: 0,
+            size: 0,
+            fileoff: 0,
+        }
+    }
+}
+
+fn lower(a: u64, b: u64) -> u64
+    ensures { λ r. ⌜ r ≡ min a b ⌝ }
+{
+    if a < b { a } else { b }
+}
+
+fn higher(a: u64, b: u64) -> u64
+    ensures { λ r. ⌜ r ≡ max a b ⌝ }
+{
+    if a < b { b } else { a }
+}
+
+// Where the addresses from `low` on begin past a segment that lies below `address`.
+fn low_past(low: u64, vmaddr: u64, vmsize: u64, address: u64) -> u64
+    requires { ⌜ vmaddr + vmsize < 2 ^ 64 ⌝ }
+    ensures { λ r. ⌜ (low ≤ r) × (vmaddr + vmsize ≤ address → vmaddr + vmsize ≤ r) ⌝ }
+{
+    if vmaddr + vmsize <= address {
+        higher(low, vmaddr + vmsize)
+    } else {
+        low
+    }
+}
+
+// Where those up to `high` end before a segment that lies above `address`.
+fn high_before(high: u64, vmaddr: u64, address: u64) -> u64
+    ensures { λ r. ⌜ (r ≤ high) × (address < vmaddr → r ≤ vmaddr) ⌝ }
+{
+    if address < vmaddr {
+        lower(high, vmaddr)
+    } else {
+        high
+    }
+}
+
+// What a segment has in the file of the addresses from `low` up to and without `high`.
+fn clip(low: u64, high: u64, vmaddr: u64, vmsize: u64, fileoff: u64, filesize: u64) -> Mapping
+    requires { ⌜ vmaddr + vmsize < 2 ^ 64 ⌝ }
+    ensures { λ r. ⌜ Clipped low high (record { vmaddr = vmaddr; vmsize = vmsize; fileoff = fileoff; filesize = filesize }) r ⌝ }
+{
+    let size = lower(vmsize, lower(filesize, u64::MAX - fileoff));
+    let start = higher(low, vmaddr);
+    let end = lower(high, vmaddr + size);
+    if end <= start {
+        return Mapping::empty();
+    }
+    Mapping {
+        vmaddr: start,
+        size: end - start,
+        fileoff: fileoff + (start - vmaddr),
+    }
+}
+
+// What is in the file around an address: of its segment, the addresses of which no earlier segment decides.
+pub fn locate(segments: &[u64], address: u64) -> Around
+    ensures { λ r. ⌜ Located (segmentsOf (now (segments .entry))) address r ⌝ }
+{
+    let mut low = 0;
+    let mut high = u64::MAX;
+    let mut i = 0;
+    while 4 <= segments.len() - i {
+        let vmaddr = segments[i];
+        let vmsize = segments[i + 1];
+        let fileoff = segments[i + 2];
+        let filesize = segments[i + 3];
+        let found = look_up(vmaddr, vmsize, fileoff, filesize, address);
+        match found {
+            Lookup::Answer(offset) => match offset {
+                FileOffset::At(_) => {
+                    return Around::Mapping(clip(low, high, vmaddr, vmsize, fileoff, filesize));
+                }
+                FileOffset::Nothing => {
+                    return Around::Nothing;
+                }
+            },
+            Lookup::Next => {
+                low = low_past(low, vmaddr, vmsize, address);
+                high = high_before(high, vmaddr, address);
+                i += 4;
+            }
+        }
+    }
+    Around::Nothing
+}
+
+// The file offset of an address, with no walk over the segments where the mapping has it.
+pub fn vm_to_file_offset_near(segments: &[u64], mapping: Mapping, vmaddr: u64) -> FileOffset
+    requires { ⌜ Mapped (segmentsOf (now segments)) mapping ⌝ }
+    ensures { λ r. ⌜ offsetOf r ≡ fileOffset (segmentsOf (now (segments .entry))) vmaddr ⌝ }
+{
+    if mapping.vmaddr <= vmaddr {
+        let delta = vmaddr - mapping.vmaddr;
+        if delta < mapping.size {
+            return FileOffset::At(mapping.fileoff + delta);
+        }
+    }
+    vm_to_file_offset_in(segments, vmaddr)
 }

@@ -11,8 +11,8 @@ use Rattle.parent.proofs.header.read_context_name.Reads as reads
 use Rattle.parent.proofs.header.read_context_name.Lts as lts
 use Rattle.context.proofs.descriptor.ContextDescriptorFlags.kind.Reads as kind-reads
 use Rattle.context.proofs.descriptor.ContextDescriptorKind.has_name.Reads as has-name-reads
-use Rattle.runtime.proofs.read_bytes.Reads as read-bytes-reads
-use Rattle.runtime.proofs.read_cstr.Reads as read-cstr-reads
+use Rattle.runtime.proofs.read_bytes_near.Reads as read-bytes-near-reads
+use Rattle.runtime.proofs.read_cstr_near.Reads as read-cstr-near-reads
 use Rattle.util.proofs.pointer_in.Reads as pointer-in-reads
 use Rattle.util.proofs.u32_at.Reads as u32-at-reads
 
@@ -31,30 +31,30 @@ returns-2 c = name-wraps _ _ _ _ (named-is _ _ _ _ (c .before .before .has-name 
 add-slot-va : tie.Need-add-slot-va
 add-slot-va c = search needs
 
-read-bytes-requires : tie.Need-read-bytes-requires
-read-bytes-requires c κs = search needs
+read-bytes-near-requires : tie.Need-read-bytes-near-requires
+read-bytes-near-requires c κs = search needs
 
 returns-3 : tie.Need-returns-3
-returns-3 c = no-slot _ _ _ _ (named-is _ _ _ _ (c .before .before .before .before .has-name .ensures) (c .before .before .before .before .before .kind .ensures) (not-false _ (c .before .before .before .if1 .left))) _ (c .before .read-bytes .ensures) (omega arith) (omega arith)
+returns-3 c = no-slot _ _ _ _ (named-is _ _ _ _ (c .before .before .before .before .has-name .ensures) (c .before .before .before .before .before .kind .ensures) (not-false _ (c .before .before .before .if1 .left))) _ (c .before .read-bytes-near .ensures) (omega arith) (omega arith)
 
 u32-at-requires : tie.Need-u32-at-requires
 u32-at-requires c κs = search needs
 
 returns-4 : tie.Need-returns-4
 returns-4 c =
-    no-offset _ _ _ _ (named-is _ _ _ _ (c .before .before .before .before .before .before .has-name .ensures) (c .before .before .before .before .before .before .before .kind .ensures) (not-false _ (c .before .before .before .before .before .if1 .left))) _ (c .before .before .before .read-bytes .ensures)
+    no-offset _ _ _ _ (named-is _ _ _ _ (c .before .before .before .before .before .before .has-name .ensures) (c .before .before .before .before .before .before .before .kind .ensures) (not-false _ (c .before .before .before .before .before .if1 .left))) _ (c .before .before .before .read-bytes-near .ensures)
     (sym (c .before .u32-at .ensures) ∙ c .if4 .taken) (omega arith) (omega arith)
 
 pointer-in-requires : tie.Need-pointer-in-requires
 pointer-in-requires c κs = search needs
 
-read-cstr-requires : tie.Need-read-cstr-requires
-read-cstr-requires c κs = search needs
+read-cstr-near-requires : tie.Need-read-cstr-near-requires
+read-cstr-near-requires c κs = search needs
 
 returns-5 : tie.Need-returns-5
 returns-5 c =
-    name-at _ _ _ _ (named-is _ _ _ _ (c .before .before .before .before .before .before .before .before .has-name .ensures) (c .before .before .before .before .before .before .before .before .before .kind .ensures) (not-false _ (c .before .before .before .before .before .before .before .if1 .left))) _ (c .before .before .before .before .before .read-bytes .ensures) _ (c .read-cstr .result)
-    (λ z. c .before .before .if4 .left (c .before .before .before .u32-at .ensures ∙ z)) (c .before .pointer-in .ensures) (c .read-cstr .ensures) (omega arith) (omega arith)
+    name-at _ _ _ _ (named-is _ _ _ _ (c .before .before .before .before .before .before .before .before .has-name .ensures) (c .before .before .before .before .before .before .before .before .before .kind .ensures) (not-false _ (c .before .before .before .before .before .before .before .if1 .left))) _ (c .before .before .before .before .before .read-bytes-near .ensures) _ (c .read-cstr-near .result)
+    (λ z. c .before .before .if4 .left (c .before .before .before .u32-at .ensures ∙ z)) (c .before .pointer-in .ensures) (c .read-cstr-near .ensures) (omega arith) (omega arith)
 
 pub read-context-name-spec : {M : Type 1} → statement M
 read-context-name-spec =
@@ -65,10 +65,10 @@ read-context-name-spec =
     returns
     returns-2
     add-slot-va
-    read-bytes-requires
+    read-bytes-near-requires
     returns-3
     u32-at-requires
     returns-4
     pointer-in-requires
-    read-cstr-requires
+    read-cstr-near-requires
     returns-5)

@@ -1,49 +1,22 @@
--- `runtime::reads::find_bytes` meets its contract: each `return` is a case of `bytesPlace`.
+-- `runtime::reads::find_bytes` meets its contract: an empty mapping says nothing.
 -- Assumes nothing.
-use native.Mathlib.Omega.{arith}
-use Rattle.util.specs.Answers.{told}
-use Rattle.util.specs.Segments.{offsetOf}
-use Rattle.runtime.specs.CallsLaws.{bytes-at, bytes-past, bytes-nowhere}
+use Rattle.util.specs.MappingLaws.{empty-mapped}
 use borrow.Author.Needs.{needs}
 use Rattle.runtime.proofs.reads.find_bytes.Statement.{statement}
 use Rattle.runtime.proofs.reads.find_bytes.Tie as tie
 use Rattle.runtime.proofs.reads.find_bytes.Reads as reads
 use Rattle.runtime.proofs.reads.find_bytes.Lts as lts
-use Rattle.runtime.proofs.reads.vm_to_file_offset.Reads as vm-to-file-offset-reads
+use Rattle.runtime.proofs.reads.find_bytes_near.Reads as find-bytes-near-reads
+use Rattle.util.proofs.segment.Mapping.empty.Reads as empty-reads
 
-vm-to-file-offset-requires : tie.Need-vm-to-file-offset-requires
-vm-to-file-offset-requires c κs = search needs
+empty-requires : tie.Need-empty-requires
+empty-requires c κs = search needs
 
-enum-known-offset : tie.Need-enum-known-offset
-enum-known-offset c = search needs
+find-bytes-near-requires : tie.Need-find-bytes-near-requires
+find-bytes-near-requires c κs = empty-mapped _ _ (c .empty .ensures .0) (c .empty .ensures .1)
 
 returns : tie.Need-returns
-returns c = bytes-past _ _ _ _ _ (told offsetOf (c .before .before .before .before .vm-to-file-offset .ensures) (c .before .before .offset .given .1)) (omega arith)
-
-sub-if2 : tie.Need-sub-if2
-sub-if2 c = search needs
-
-returns-2 : tie.Need-returns-2
-returns-2 c = bytes-past _ _ _ _ _ (told offsetOf (c .before .before .before .before .before .vm-to-file-offset .ensures) (c .before .before .before .offset .given .1)) (omega arith)
-
-enum-told : tie.Need-enum-told
-enum-told c = search needs
-
-returns-3 : tie.Need-returns-3
-returns-3 c = bytes-at _ _ _ _ _ (told offsetOf (c .before .before .before .before .before .vm-to-file-offset .ensures) (c .before .before .before .offset .given .1)) (omega arith)
-
-returns-4 : tie.Need-returns-4
-returns-4 c = bytes-nowhere _ _ _ _ (told offsetOf (c .before .before .vm-to-file-offset .ensures) (c .enum-told .given .1))
+returns c = search needs
 
 pub find-bytes-spec : {M : Type 1} → statement M
-find-bytes-spec =
-    tie.close
-    (tie.spec
-    vm-to-file-offset-requires
-    enum-known-offset
-    returns
-    sub-if2
-    returns-2
-    enum-told
-    returns-3
-    returns-4)
+find-bytes-spec = tie.close (tie.spec empty-requires find-bytes-near-requires returns)

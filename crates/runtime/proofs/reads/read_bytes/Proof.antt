@@ -1,45 +1,22 @@
--- `runtime::reads::read_bytes` meets its contract.
+-- `runtime::reads::read_bytes` meets its contract: an empty mapping says nothing.
 -- Assumes nothing.
-use Rattle.util.specs.Answers.{told}
-use Rattle.runtime.specs.Bytes.{placeOf}
-use Rattle.runtime.specs.CallsLaws.{read-at, read-nothing}
+use Rattle.util.specs.MappingLaws.{empty-mapped}
 use borrow.Author.Needs.{needs}
 use Rattle.runtime.proofs.reads.read_bytes.Statement.{statement}
 use Rattle.runtime.proofs.reads.read_bytes.Tie as tie
 use Rattle.runtime.proofs.reads.read_bytes.Reads as reads
 use Rattle.runtime.proofs.reads.read_bytes.Lts as lts
-use Rattle.runtime.proofs.reads.find_bytes.Reads as find-bytes-reads
-use Rattle.util.proofs.part.Reads as part-reads
+use Rattle.runtime.proofs.reads.read_bytes_near.Reads as read-bytes-near-reads
+use Rattle.util.proofs.segment.Mapping.empty.Reads as empty-reads
 
-find-bytes-requires : tie.Need-find-bytes-requires
-find-bytes-requires c κs = search needs
+empty-requires : tie.Need-empty-requires
+empty-requires c κs = search needs
 
-enum-known-off : tie.Need-enum-known-off
-enum-known-off c = search needs
-
-part-requires : tie.Need-part-requires
-part-requires c κs = search needs
-
-enum-told : tie.Need-enum-told
-enum-told c = search needs
-
-slice-aggregate-result : tie.Need-slice-aggregate-result
-slice-aggregate-result c = search needs
+read-bytes-near-requires : tie.Need-read-bytes-near-requires
+read-bytes-near-requires c κs = empty-mapped _ _ (c .empty .ensures .0) (c .empty .ensures .1)
 
 returns : tie.Need-returns
-returns c = read-at _ _ _ _ _ _ (told placeOf (c .before .before .before .before .find-bytes .ensures) (c .before .before .off .given .1)) (c .part .ensures)
-
-returns-2 : tie.Need-returns-2
-returns-2 c = read-nothing _ _ _ _ (told placeOf (c .before .before .before .find-bytes .ensures) (c .before .enum-told .given .1))
+returns c = search needs
 
 pub read-bytes-spec : {M : Type 1} → statement M
-read-bytes-spec =
-    tie.close
-    (tie.spec
-    find-bytes-requires
-    enum-known-off
-    part-requires
-    enum-told
-    slice-aggregate-result
-    returns
-    returns-2)
+read-bytes-spec = tie.close (tie.spec empty-requires read-bytes-near-requires returns)

@@ -1,0 +1,51 @@
+-- `parent::header::read_header` meets its contract: each `return` is a case of `header`.
+-- Assumes nothing.
+use native.Mathlib.Omega.{arith}
+use Rattle.parent.specs.ContextLaws.{zero-header, no-header, parent-wraps, header-at}
+use borrow.Author.Needs.{needs}
+use Rattle.parent.proofs.header.read_header.Statement.{statement}
+use Rattle.parent.proofs.header.read_header.Tie as tie
+use Rattle.parent.proofs.header.read_header.Reads as reads
+use Rattle.parent.proofs.header.read_header.Lts as lts
+use Rattle.runtime.proofs.read_bytes_near.Reads as read-bytes-near-reads
+use Rattle.util.proofs.address_in.Reads as address-in-reads
+use Rattle.util.proofs.u32_at.Reads as u32-at-reads
+
+returns : tie.Need-returns
+returns c = zero-header _ _ _ (c .if1 .taken)
+
+read-bytes-near-requires : tie.Need-read-bytes-near-requires
+read-bytes-near-requires c κs = search needs
+
+returns-2 : tie.Need-returns-2
+returns-2 c = no-header _ _ _ (c .before .before .if1 .left) _ (c .before .read-bytes-near .ensures) (omega arith)
+
+returns-3 : tie.Need-returns-3
+returns-3 c = parent-wraps _ _ _ (c .before .before .before .if1 .left) _ (c .before .before .read-bytes-near .ensures) (omega arith) (omega arith)
+
+u32-at-requires : tie.Need-u32-at-requires
+u32-at-requires c κs = search needs
+
+add-address-in : tie.Need-add-address-in
+add-address-in c = search needs
+
+address-in-requires : tie.Need-address-in-requires
+address-in-requires c κs = search needs
+
+returns-4 : tie.Need-returns-4
+returns-4 c =
+    header-at _ _ _ (c .before .before .before .before .before .if1 .left) _ (c .before .before .before .before .read-bytes-near .ensures) _ _ (c .before .u32-at .ensures) (c .address-in .ensures)
+    (omega arith) (omega arith)
+
+pub read-header-spec : {M : Type 1} → statement M
+read-header-spec =
+    tie.close
+    (tie.spec
+    returns
+    read-bytes-near-requires
+    returns-2
+    returns-3
+    u32-at-requires
+    add-address-in
+    address-in-requires
+    returns-4)

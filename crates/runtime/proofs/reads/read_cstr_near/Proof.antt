@@ -1,0 +1,45 @@
+-- `runtime::reads::read_cstr_near` meets its contract: each `return` is a case of `textPlace`.
+-- Assumes nothing.
+use Rattle.util.specs.Answers.{told}
+use Rattle.util.specs.Segments.{offsetOf}
+use Rattle.runtime.specs.CallsLaws.{text-zero, text-at, text-nowhere}
+use borrow.Author.Needs.{needs}
+use Rattle.runtime.proofs.reads.read_cstr_near.Statement.{statement}
+use Rattle.runtime.proofs.reads.read_cstr_near.Tie as tie
+use Rattle.runtime.proofs.reads.read_cstr_near.Reads as reads
+use Rattle.runtime.proofs.reads.read_cstr_near.Lts as lts
+use Rattle.util.proofs.vm_to_file_offset_near.Reads as vm-to-file-offset-near-reads
+use Rattle.util.proofs.read_cstr_at.Reads as read-cstr-at-reads
+
+returns : tie.Need-returns
+returns c = text-zero _ _ _ (c .if1 .taken)
+
+vm-to-file-offset-near-requires : tie.Need-vm-to-file-offset-near-requires
+vm-to-file-offset-near-requires c κs = search needs
+
+enum-known-offset : tie.Need-enum-known-offset
+enum-known-offset c = search needs
+
+read-cstr-at-requires : tie.Need-read-cstr-at-requires
+read-cstr-at-requires c κs = search needs
+
+enum-told : tie.Need-enum-told
+enum-told c = search needs
+
+returns-2 : tie.Need-returns-2
+returns-2 c = text-at _ _ _ (c .before .before .before .before .before .if1 .left) _ _ (told offsetOf (c .before .before .before .before .vm-to-file-offset-near .ensures) (c .before .before .offset .given .1)) (c .read-cstr-at .ensures)
+
+returns-3 : tie.Need-returns-3
+returns-3 c = text-nowhere _ _ _ (c .before .before .before .if1 .left) (told offsetOf (c .before .before .vm-to-file-offset-near .ensures) (c .enum-told .given .1))
+
+pub read-cstr-near-spec : {M : Type 1} → statement M
+read-cstr-near-spec =
+    tie.close
+    (tie.spec
+    returns
+    vm-to-file-offset-near-requires
+    enum-known-offset
+    read-cstr-at-requires
+    enum-told
+    returns-2
+    returns-3)
