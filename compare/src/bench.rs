@@ -25,6 +25,17 @@ fn case(flags: u32, name: usize, segments: usize) -> Input {
     nested(flags, NAMED, name, 0, segments)
 }
 
+/// Structs of which all but every eighth slot refers to an address in no segment.
+fn sparse(name: usize, segments: usize) -> Input {
+    let mut input = case(17, name, segments);
+    for i in (0..ROWS).filter(|i| i % 8 > 0) {
+        let slot_va = input.types_va + 4 * i as u64;
+        let rel = (BASE + 0x3800_0000).wrapping_sub(slot_va) as i32;
+        input.types[4 * i..4 * i + 4].copy_from_slice(&rel.to_le_bytes());
+    }
+    input
+}
+
 /// The same in `CHAINS` chains of `depth` contexts with the flags `around`.
 fn nested(flags: u32, around: u32, name: usize, depth: usize, segments: usize) -> Input {
     let size = if flags & 31 == 16 { 160 } else { 28 };
@@ -102,21 +113,35 @@ fn time(mut pass: impl FnMut() -> usize) -> impl FnMut() -> (f64, usize) {
     }
 }
 
-/// Rounds of both sides in turn; the shortest of each.
-fn both(rust: impl FnMut() -> usize, proved: impl FnMut() -> usize) -> (f64, f64) {
+/// The shortest round of each side, and the ratio.
+struct Times {
+    rust: f64,
+    proved: f64,
+    ratio: f64,
+}
+
+/// Rounds of both sides in turn. The ratio is the middle one of the rounds' own: a processor that changes its clock changes both times of a round.
+fn both(rust: impl FnMut() -> usize, proved: impl FnMut() -> usize) -> Times {
     let mut rust = time(rust);
     let mut proved = time(proved);
     let mut best = (f64::MAX, f64::MAX);
+    let mut ratios = Vec::new();
     for _ in 0..ROUNDS {
         let (a, sum) = rust();
         let (b, same) = proved();
         assert_eq!(sum, same, "both sides give the same bytes");
         best = (best.0.min(a), best.1.min(b));
+        ratios.push(b / a);
     }
-    best
+    ratios.sort_by(f64::total_cmp);
+    Times {
+        rust: best.0,
+        proved: best.1,
+        ratio: ratios[ROUNDS / 2],
+    }
 }
 
-fn rows(input: &Input) -> (f64, f64) {
+fn rows(input: &Input) -> Times {
     let rt = runtime(input);
     let (image, segments) = (&input.image[..], input.numbers());
     both(
@@ -135,7 +160,7 @@ fn rows(input: &Input) -> (f64, f64) {
     )
 }
 
-fn listing(input: &Input) -> (f64, f64) {
+fn listing(input: &Input) -> Times {
     let rt = runtime(input);
     let (image, segments) = (&input.image[..], input.numbers());
     let mut buffer = vec![0; 1 << 16];
@@ -169,7 +194,7 @@ fn listing(input: &Input) -> (f64, f64) {
 }
 
 /// The listing of the whole section in one call, into one buffer for all of it.
-fn whole(input: &Input) -> (f64, f64) {
+fn whole(input: &Input) -> Times {
     let rt = runtime(input);
     let (image, segments) = (&input.image[..], input.numbers());
     let mut buffer = vec![0; 16 << 20];
@@ -187,13 +212,18 @@ fn whole(input: &Input) -> (f64, f64) {
     )
 }
 
-fn line(what: &str, (rust, proved): (f64, f64)) {
-    println!("{what} | {rust:9.1} | {proved:9.1} | {:5.2}", proved / rust);
+fn line(what: &str, times: Times) {
+    let Times {
+        rust,
+        proved,
+        ratio,
+    } = times;
+    println!("{what} | {rust:9.1} | {proved:9.1} | {ratio:5.2}");
 }
 
 pub fn run() {
     println!(
-        "{ROWS} rows; both sides in one run on the same warm inputs, the buffer for names warm too and not cleared; the shortest of {ROUNDS} rounds."
+        "{ROWS} rows; both sides in one run on the same warm inputs, the buffer for names warm too and not cleared; of {ROUNDS} rounds the shortest, and the middle ratio."
     );
     println!(
         "The Rust makes a String for each joined name; the proved side writes into one lent buffer."
@@ -218,6 +248,10 @@ pub fn run() {
                 );
             }
         }
+    }
+    for segments in [2, 40] {
+        let input = sparse(8, segments);
+        line(&format!("no segment |     8 | {segments:8}"), rows(&input));
     }
     println!();
     println!(

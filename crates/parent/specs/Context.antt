@@ -1,9 +1,10 @@
 -- A context that encloses a type: document 01, "Entries, fields, parents"; Metadata.h, `TargetContextDescriptor` (flags, and the
 -- parent's relative pointer), and the names of its subclasses at offset 8.
-use Prim.Native.Nat.{ℕ, _+_, _^_}
+use Prim.Native.Nat.{ℕ, _+_, _^_, _≤_}
 use mathlib.Core.List.{List}
 use mathlib.Core.Bool.{cond}
 use mathlib.Core.Option.{Option, some, none, Option·map}
+use lib.ListN.{length}
 use lib.Dec.{leb, eqb}
 use Rattle.util.specs.LittleEndian.{unsignedIn, signedIn}
 use Rattle.util.specs.Pointer.{relativePointer, relativeAddress}
@@ -66,6 +67,11 @@ headerOf a HeaderRead.Nothing = none
 abbrev pub nameRead : List ℕ → Text → Option Name
 nameRead image (Text.At o n) = some (record { place = place o n; bytes = partOf image (place o n) })
 nameRead image Text.Nothing = none
+
+-- a text that was read lies within the image
+abbrev pub Inside : List ℕ → Text → Type 0
+Inside image (Text.At o n) = o + n ≤ length image
+Inside image Text.Nothing = Unit
 
 abbrev pub contextIn : List ℕ → ParentContext → Context
 contextIn image c =

@@ -2,7 +2,7 @@
 use Prim.Native.Nat.{ℕ, zero, suc, _+_, _-_, _*_, _^_, _≤_, _<_}
 use native.Mathlib.Omega.{arith}
 use native.Mathlib.Numerals.{add-one}
-use mathlib.Core.Path.{_≡_, refl, sym, _∙_, ap}
+use mathlib.Core.Path.{_≡_, refl, sym, _∙_, ap, subst}
 use mathlib.Core.List.{List, [], _∷_, _++_}
 use mathlib.Core.Bool.{Bool, true, false}
 use mathlib.Core.Option.{Option, some, none, Option·map}
@@ -15,10 +15,11 @@ use Rattle.util.specs.Cstr.{Place, place, partOf, textOf}
 use Rattle.util.specs.declared.cstr.Text.{Text}
 use Rattle.runtime.specs.Reads.{Reads, done, bytes, text, run, textPlace}
 use Rattle.runtime.specs.Bytes.{bytesRead}
-use Rattle.runtime.specs.CallsLaws.{run-bytes, run-no-bytes, run-text, run-no-text}
+use Rattle.util.specs.Segments.{segmentsOf, fileOffset}
+use Rattle.runtime.specs.CallsLaws.{text-within, bytes-nowhere, read-nothing, run-bytes, run-no-bytes, run-text, run-no-text}
 use Rattle.context.specs.Context.{contextKind, named}
 use Rattle.context.specs.declared.descriptor.ContextDescriptorKind.{ContextDescriptorKind}
-use Rattle.parent.specs.Context.{Name, Header, headed, header, slotName, name, contextName, Context, contextRead, nameRead}
+use Rattle.parent.specs.Context.{Name, Header, headed, header, slotName, name, contextName, Context, contextRead, nameRead, Inside}
 use Rattle.parent.specs.Chain.{chain, Step, chainStep}
 
 -- ---- the name
@@ -56,6 +57,14 @@ module _ (image segments : List ℕ) (a flags : ℕ) where
       name-at v (Text.At o n) z ev er l w = rw (slot l w) (simp (ne-eqb (unsignedIn 4 h 0) 0 z) (rw (← ev) (sym (run-text image segments v (λ p t. done (record { place = p; bytes = t })) (place o n) er))))
       name-at v Text.Nothing z ev er l w = rw (slot l w) (simp (ne-eqb (unsignedIn 4 h 0) 0 z) (rw (← ev) (sym (run-no-text image segments v (λ p t. done (record { place = p; bytes = t })) er))))
 
+-- a text that was read
+pub inside : (image segments : List ℕ) (v : ℕ) (r : Text) → textOf r ≡ textPlace image segments v → Inside image r
+inside image segments v (Text.At o n) e = text-within image segments v (place o n) e
+inside image segments v Text.Nothing e = tt
+
+pub inside-as : (image : List ℕ) (r t : Text) → Inside image r → r ≡ t → Inside image t
+inside-as image r t h e = subst (Inside image) e h
+
 -- ---- the context
 
 module _ (image segments : List ℕ) (a : ℕ) where
@@ -84,6 +93,10 @@ module _ (image segments : List ℕ) (a : ℕ) where
   pub no-context : none ≡ run image segments (header a) → none ≡ contextRead image segments a
   unfolding contextRead
   no-context e = rw (← e)
+
+  -- a context that no segment puts into the file
+  pub nowhere : (a ≡ 0 → ⊥) → none ≡ fileOffset (segmentsOf segments) a → none ≡ contextRead image segments a
+  nowhere z e = no-context (no-header z [] (read-nothing image segments a 8 (bytes-nowhere image segments a 8 e)) (omega arith))
 
   pub context-at : (h : Header) (n : Option Name) → some h ≡ run image segments (header a) → n ≡ contextName image segments a (h .flags)
       → some (record { header = h; name = n }) ≡ contextRead image segments a

@@ -3,3 +3,5 @@ pub mod Context
 pub mod ContextLaws
 pub mod Name
 pub mod NameLaws
+pub mod Walk
+pub mod WalkLaws

@@ -2,8 +2,10 @@ ghost use mathlib.Core.Path.{_≡_};
 ghost use Rattle.util.specs.Segments.{segmentsOf};
 ghost use Rattle.util.specs.Mapping.{Mapped};
 ghost use Rattle.runtime.specs.Reads.{run};
-ghost use Rattle.parent.specs.Context.{header, headerOf, contextRead, contextOf, contextName, nameRead};
+ghost use Rattle.parent.specs.Walk.{ContextLocated};
+ghost use Rattle.parent.specs.Context.{header, headerOf, contextRead, contextOf, contextName, nameRead, Inside};
 use context::ContextDescriptorFlags;
+use util::Around;
 use util::Mapping;
 use util::Text;
 
@@ -24,6 +26,16 @@ pub enum ContextRead {
 pub enum HeaderRead {
     Header { flags: u32, parent: u64 },
     Nothing,
+}
+
+// What is in the file around the context at an address. Where that is nothing, there is no context.
+pub fn locate_context(segments: &[u64], descriptor_va: u64) -> Around
+    ensures { λ r. ⌜ ContextLocated (now (segments .entry)) «descriptor_va» r ⌝ }
+{
+    if descriptor_va == 0 {
+        return Around::Nothing;
+    }
+    util::locate(segments, descriptor_va)
 }
 
 // The header at an address. There is none at address 0, nor at or above 2^64 - 4.
@@ -62,6 +74,7 @@ pub fn read_context_name(
 ) -> Text
     requires { ⌜ Mapped (segmentsOf (now segments)) mapping ⌝ }
     ensures { λ r. ⌜ nameRead (now (image .entry)) r ≡ contextName (now (image .entry)) (now (segments .entry)) «descriptor_va» flags ⌝ }
+    ensures { λ r. ⌜ Inside (now (image .entry)) r ⌝ }
 {
     if !ContextDescriptorFlags(flags).kind().has_name() {
         return Text::Nothing;

@@ -2,13 +2,19 @@
 ghost use mathlib.Core.Path.{_≡_};
 ghost use Prim.Native.Nat.{_+_, _≤_, _^_, _-_, min};
 ghost use lib.ListN.{length};
-ghost use Rattle.parent.specs.Context.{nameRead};
-ghost use Rattle.parent.specs.Name.{hop, hopsAnswer, hopsOf, filled, before, nameAnswer, nameOf, qualifiedName};
+ghost use Rattle.parent.specs.Walk.{gathered, Walked};
+ghost use Rattle.parent.specs.Name.{hopsAnswer, hopsOf, filled, before, nameAnswer, nameOf, qualifiedName};
 ghost use Rattle.typedescriptor.specs.Row.{rowOf};
 ghost use Rattle.util.specs.Buffer.{Put};
-use crate::header::ContextRead;
-use crate::header::read_context;
+ghost use Rattle.util.specs.Mapping.{Mapped};
+ghost use Rattle.util.specs.Segments.{segmentsOf};
+use crate::header::HeaderRead;
+use crate::header::locate_context;
+use crate::header::read_context_name;
+use crate::header::read_header;
 use typedescriptor::Row;
+use util::Around;
+use util::Mapping;
 use util::Text;
 
 pub enum Hops {
@@ -25,28 +31,20 @@ pub enum QualifiedName {
     TooDeep,
 }
 
-// How long a name and its dot are.
-fn hop_length(image: &[u8], name: Text) -> usize
-    ensures { λ r. ⌜ r ≡ length (hop (nameRead (now (image .entry)) name)) ⌝ }
-{
-    match name {
-        Text::At { place, length } => util::part(image, place, length).len() + 1,
-        Text::Nothing => 0,
-    }
-}
-
-// A present name and its dot.
-fn put_hop(image: &[u8], name: Text, buffer: &mut [u8], at: usize) -> usize
-    requires { ⌜ at + length (hop (nameRead (now image) name)) ≤ length (now buffer) ⌝ }
-    ensures { λ r. ⌜ Put (now (buffer .entry)) at (hop (nameRead (now (image .entry)) name)) r (now (buffer .exit)) ⌝ }
-{
-    match name {
-        Text::At { place, length } => {
-            let end = util::put(util::part(image, place, length), buffer, at);
-            util::put(b".", buffer, end)
-        }
-        Text::Nothing => at,
-    }
+// What a walk over contexts ended with. `room` is what the names, their dots and `rest` more bytes take.
+pub enum Walk {
+    // After so many names there is no further context.
+    Ended {
+        count: usize,
+        room: usize,
+    },
+    // 8 names: the walk goes on at `next`, with so many contexts allowed.
+    Full {
+        next: u64,
+        allowed: usize,
+        room: usize,
+    },
+    TooDeep,
 }
 
 // A sum, kept at 2^64 - 1 where it would be more.
@@ -60,8 +58,82 @@ fn saturating_add(a: usize, b: usize) -> usize
     }
 }
 
+// Reads contexts from `descriptor_va` on, of which `left` are allowed, until 8 have a name, and keeps where the names lie and how long they are.
+fn collect(
+    image: &[u8],
+    segments: &[u64],
+    mapping: Mapping,
+    descriptor_va: u64,
+    left: usize,
+    rest: usize,
+    places: &mut [usize],
+    lengths: &mut [usize],
+) -> Walk
+    requires { ⌜ Mapped (segmentsOf (now segments)) mapping ⌝ }
+    requires { ⌜ (length (now places) ≡ 8) × (length (now lengths) ≡ 8) ⌝ }
+    ensures { λ r. ⌜ Walked (now (image .entry)) (now (segments .entry)) left «descriptor_va» rest (now (places .exit)) (now (lengths .exit)) r ⌝ }
+{
+    let mut count = 0;
+    let mut next = descriptor_va;
+    let mut allowed = left;
+    let mut room = rest;
+    while count < 8 {
+        match read_header(image, segments, mapping, next) {
+            HeaderRead::Header { flags, parent } => {
+                if allowed == 0 {
+                    return Walk::TooDeep;
+                }
+                allowed -= 1;
+                match read_context_name(image, segments, mapping, next, flags) {
+                    Text::At { place, length } => {
+                        places[count] = place;
+                        lengths[count] = length;
+                        room = saturating_add(room, length + 1);
+                        count += 1;
+                        next = parent;
+                    }
+                    Text::Nothing => {
+                        next = parent;
+                    }
+                }
+            }
+            HeaderRead::Nothing => {
+                return Walk::Ended { count, room };
+            }
+        }
+    }
+    Walk::Full {
+        next,
+        allowed,
+        room,
+    }
+}
+
+// Writes the first `count` names, the last of them first, each with its dot.
+fn put_hops(
+    image: &[u8],
+    places: &[usize],
+    lengths: &[usize],
+    count: usize,
+    buffer: &mut [u8],
+    at: usize,
+) -> usize
+    requires { ⌜ (count ≤ length (now places)) × (count ≤ length (now lengths)) ⌝ }
+    requires { ⌜ at + length (gathered (now image) (now places) (now lengths) count) ≤ length (now buffer) ⌝ }
+    ensures { λ r. ⌜ Put (now (buffer .entry)) at (gathered (now (image .entry)) (now (places .entry)) (now (lengths .entry)) count) r (now (buffer .exit)) ⌝ }
+{
+    let mut k = count;
+    let mut end = at;
+    while k > 0 {
+        k -= 1;
+        let dot = util::put(util::part(image, places[k], lengths[k]), buffer, end);
+        end = util::put(b".", buffer, dot);
+    }
+    end
+}
+
 // Writes the hops of the contexts from `descriptor_va` on into the buffer's start, the outermost first, if they and `rest` more bytes fit in.
-// On the way up the room is measured, on the way back the hops are written: every context is read once.
+// On the way up the room is measured, on the way back the hops are written: every context is read once, and a call is made for every 8 names.
 fn write_hops(
     image: &[u8],
     segments: &[u64],
@@ -73,32 +145,45 @@ fn write_hops(
     ensures { λ r. ⌜ hopsOf r ≡ hopsAnswer (now (image .entry)) (now (segments .entry)) left «descriptor_va» rest (length (now (buffer .entry))) ⌝ }
     ensures { λ r. ⌜ now (buffer .exit) ≡ filled (hopsOf r) (before (now (image .entry)) (now (segments .entry)) left «descriptor_va») (now (buffer .entry)) ⌝ }
 {
-    match read_context(image, segments, descriptor_va) {
-        ContextRead::Context(context) => {
-            if left == 0 {
-                return Hops::TooDeep;
-            }
-            let name = context.name;
-            let size = hop_length(image, name);
-            match write_hops(
+    match locate_context(segments, descriptor_va) {
+        Around::Mapping(mapping) => {
+            let mut places = [0usize; 8];
+            let mut lengths = [0usize; 8];
+            match collect(
                 image,
                 segments,
-                context.parent,
-                left - 1,
-                saturating_add(rest, size),
-                buffer,
+                mapping,
+                descriptor_va,
+                left,
+                rest,
+                &mut places,
+                &mut lengths,
             ) {
-                Hops::Written(at) => Hops::Written(put_hop(image, name, buffer, at)),
-                Hops::TooLong => Hops::TooLong,
-                Hops::TooDeep => Hops::TooDeep,
+                Walk::Ended { count, room } => {
+                    if buffer.len() < room {
+                        return Hops::TooLong;
+                    }
+                    Hops::Written(put_hops(image, &places, &lengths, count, buffer, 0))
+                }
+                Walk::Full {
+                    next,
+                    allowed,
+                    room,
+                } => match write_hops(image, segments, next, allowed, room, buffer) {
+                    Hops::Written(at) => {
+                        Hops::Written(put_hops(image, &places, &lengths, 8, buffer, at))
+                    }
+                    Hops::TooLong => Hops::TooLong,
+                    Hops::TooDeep => Hops::TooDeep,
+                },
+                Walk::TooDeep => Hops::TooDeep,
             }
         }
-        ContextRead::Nothing => {
+        Around::Nothing => {
             if buffer.len() < rest {
-                Hops::TooLong
-            } else {
-                Hops::Written(0)
+                return Hops::TooLong;
             }
+            Hops::Written(0)
         }
     }
 }

@@ -95,23 +95,32 @@ module _ (image segments : List ℕ) (a : ℕ) where
     unfolding textPlace textOffset
     text-nowhere e = simp (ne-eqb a 0 h) (rw (← e))
 
-  -- the place of a text that was looked up at an offset starts there, and its bytes are those before the NUL
-  found-there : (o : ℕ) (p : Place) → textAt image o ≡ some p → untilNul (drop o image) ≡ partOf image p
+  -- a text that was looked up at an offset lies within the image, and its bytes are those before the NUL
+  found-there : (o : ℕ) (p : Place) → textAt image o ≡ some p → (p .start + p .size ≤ length image) × (untilNul (drop o image) ≡ partOf image p)
   unfolding textAt
   found-there o p e = go (decLe o (length image))
     where
-      at : o ≤ length image → (x : Option ℕ) → textLength (drop o image) ≡ x → Option·map (place o) x ≡ some p → untilNul (drop o image) ≡ partOf image p
+      at : o ≤ length image → (x : Option ℕ) → textLength (drop o image) ≡ x → Option·map (place o) x ≡ some p
+          → (p .start + p .size ≤ length image) × (untilNul (drop o image) ≡ partOf image p)
       at h none t f = let z : _≡_ {A = ℕ} 0 1 = cc in absurd (omega arith)
       at h (some n) t f =
           let q : p ≡ place o n = cc in
           let fits : o + n ≤ length image = omega (arith, simp length-drop at (text-length-le (drop o image) n t)) in
-          sym (text-bytes (drop o image) n t) ∙ sym (part-in image o n fits) ∙ ap (partOf image) (sym q)
+          (rw q fits, sym (text-bytes (drop o image) n t) ∙ sym (part-in image o n fits) ∙ ap (partOf image) (sym q))
 
-      go : Dec (o ≤ length image) → untilNul (drop o image) ≡ partOf image p
+      go : Dec (o ≤ length image) → (p .start + p .size ≤ length image) × (untilNul (drop o image) ≡ partOf image p)
       go (yes h) = at h (textLength (drop o image)) refl (simp (le-leb o (length image) h) at e)
       go (no h) =
           let f : _≡_ {A = Option Place} none (some p) = simp (lt-leb o (length image) (omega arith)) at e in
           let z : _≡_ {A = ℕ} 0 1 = cc in absurd (omega arith)
+
+  pub text-within : (p : Place) → some p ≡ textPlace image segments a → p .start + p .size ≤ length image
+  unfolding textPlace
+  text-within p e = go (textOffset segments a) e
+    where
+      go : (x : Option ℕ) → some p ≡ andThen x (textAt image) → p .start + p .size ≤ length image
+      go none f = let z : _≡_ {A = ℕ} 0 1 = cc in absurd (omega arith)
+      go (some o) f = found-there o p (sym f) .0
 
   module _ {A : Type 0} (k : Place → List ℕ → Reads A) where
     -- a text that is there: the program goes on with its place and its bytes
@@ -123,7 +132,7 @@ module _ (image segments : List ℕ) (a : ℕ) where
         at o none t f = let z : _≡_ {A = ℕ} 0 1 = cc in absurd (omega arith)
         at o (some q) t f =
             let s : q ≡ p = cc in
-            ap (λ (l : List ℕ). run image segments (k q l)) (found-there o q t) ∙ ap (λ (z : Place). run image segments (k z (partOf image z))) s
+            ap (λ (l : List ℕ). run image segments (k q l)) (found-there o q t .1) ∙ ap (λ (z : Place). run image segments (k z (partOf image z))) s
 
         go : (x : Option ℕ) → some p ≡ andThen x (textAt image) → andThen x (λ o. andThen (textAt image o) (λ q. run image segments (k q (untilNul (drop o image))))) ≡ run image segments (k p (partOf image p))
         go none f = let z : _≡_ {A = ℕ} 0 1 = cc in absurd (omega arith)

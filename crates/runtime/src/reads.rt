@@ -71,8 +71,12 @@ pub fn read_cstr_near(image: &[u8], segments: &[u64], mapping: Mapping, vmaddr: 
     if vmaddr == 0 {
         return Text::Nothing;
     }
+    // The answer is taken apart, so that place and length pass as numbers and not by a copy.
     match util::vm_to_file_offset_near(segments, mapping, vmaddr) {
-        FileOffset::At(offset) => util::read_cstr_at(image, offset as usize),
+        FileOffset::At(offset) => match util::read_cstr_at(image, offset as usize) {
+            Text::At { place, length } => Text::At { place, length },
+            Text::Nothing => Text::Nothing,
+        },
         FileOffset::Nothing => Text::Nothing,
     }
 }

@@ -35,11 +35,12 @@ pub fn slot_row(
         return Descriptor::Nothing;
     }
     let off = 4 * slot;
-    if util::u32_at(types, off) == 0 {
+    let pointer = &types[off..off + 4];
+    if util::u32_at(pointer, 0) == 0 {
         return Descriptor::Nothing;
     }
     let slot_va = std::num::wrapping_add_u64(vmaddr, off as u64);
-    decode_type_descriptor(image, segments, util::pointer_in(types, off, slot_va))
+    decode_type_descriptor(image, segments, util::pointer_in(pointer, 0, slot_va))
 }
 
 impl TypeIter {

@@ -1,14 +1,14 @@
 -- One law for every width: what reading `n` bytes one by one and adding them up gives.
-use Prim.Native.Nat.{ℕ, zero, suc, _+_, _*_, _^_, _≤_, _<_}
+use Prim.Native.Nat.{ℕ, zero, suc, _+_, _-_, _*_, _^_, _≤_, _<_}
 use native.Mathlib.Nat.{add-suc, add-zero, mul-assoc, pow-succ'}
 use native.Mathlib.Decide.{decLe}
 use native.Mathlib.Omega.{arith}
 use mathlib.Core.Path.{_≡_, refl, sym, _∙_, ap}
 use mathlib.Core.List.{List, [], _∷_, _++_}
 use mathlib.Core.Option.{Option, some, none, Option·map, Option·getD}
-use lib.ListN.{length, take, drop, getD, length-drop}
+use lib.ListN.{length, take, drop, getD, length-take, length-drop}
 use lib.IntN.{ℤ, pos}
-use lib.Seq.{drop-cons, drop-drop, take-add, length-take-le}
+use lib.Seq.{drop-cons, drop-drop, take-add, take-all, length-take-le}
 use borrow.Author.Tests.{le-leb, lt-leb}
 use Rattle.util.specs.LittleEndian.{littleEndian, littleAt, bytesAt, signedAt, twosComplement, unsignedIn, signedIn}
 
@@ -103,3 +103,21 @@ module _ (m n : ℕ) (s : List ℕ) (off : ℕ) where
       simp (le-leb (off + (m + n)) (length s) (omega arith))
       (ap some
       (rw (little-value m s off a e, little-value n s (off + m) b f, take-add m n (drop off s), little-append, l, drop-drop)))
+
+-- a number in a part that is cut out for it
+module _ (n : ℕ) (s : List ℕ) (off : ℕ) (p : List ℕ) (e : p ≡ take (off + n - off) (drop off s)) (h : off + n ≤ length s) where
+  little-part : littleAt n p 0 ≡ littleAt n s off
+  unfolding littleAt bytesAt
+  little-part =
+      let m : off + n - off ≡ n = omega arith in
+      let f : p ≡ take n (drop off s) = e ∙ ap (λ (k : ℕ). take k (drop off s)) m in
+      let l : length p ≡ n = rw f (simp (length-take, length-drop) (omega arith)) in
+      simp (le-leb (0 + n) (length p) (omega arith), le-leb (off + n) (length s) h) (ap (λ (b : List ℕ). some (littleEndian b)) (take-all n p (omega arith) ∙ f))
+
+  pub unsigned-part : unsignedIn n p 0 ≡ unsignedIn n s off
+  unfolding unsignedIn
+  unsigned-part = ap (λ (o : Option ℕ). Option·getD o 0) little-part
+
+  pub signed-part : signedIn n p 0 ≡ signedIn n s off
+  unfolding signedIn signedAt
+  signed-part = ap (λ (o : Option ℕ). Option·getD (Option·map (twosComplement (8 * n)) o) (pos 0)) little-part

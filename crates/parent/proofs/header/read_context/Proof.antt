@@ -32,7 +32,7 @@ enum-told c = search needs
 returns : tie.Need-returns
 returns c =
     context-at _ _ _ _ _ (told (headerOf _) (c .before .before .before .before .read-header .ensures) (c .before .before .flags .given .1))
-    (c .read-context-name .ensures)
+    (c .read-context-name .ensures .0)
 
 returns-2 : tie.Need-returns-2
 returns-2 c = no-context _ _ _ (told (headerOf _) (c .before .before .read-header .ensures) (c .enum-told .given .1))

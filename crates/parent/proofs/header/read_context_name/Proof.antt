@@ -3,7 +3,7 @@
 use native.Mathlib.Omega.{arith}
 use mathlib.Core.Path.{sym, _∙_}
 use borrow.Author.Tests.{not-true, not-false}
-use Rattle.parent.specs.ContextLaws.{named-is, unnamed, name-wraps, no-slot, no-offset, name-at}
+use Rattle.parent.specs.ContextLaws.{inside, named-is, unnamed, name-wraps, no-slot, no-offset, name-at}
 use borrow.Author.Needs.{needs}
 use Rattle.parent.proofs.header.read_context_name.Statement.{statement}
 use Rattle.parent.proofs.header.read_context_name.Tie as tie
@@ -23,10 +23,10 @@ has-name-requires : tie.Need-has-name-requires
 has-name-requires c κs = search needs
 
 returns : tie.Need-returns
-returns c = unnamed _ _ _ _ (named-is _ _ _ _ (c .before .has-name .ensures) (c .before .before .kind .ensures) (not-true _ (c .if1 .taken)))
+returns c = (unnamed _ _ _ _ (named-is _ _ _ _ (c .before .has-name .ensures) (c .before .before .kind .ensures) (not-true _ (c .if1 .taken))), tt)
 
 returns-2 : tie.Need-returns-2
-returns-2 c = name-wraps _ _ _ _ (named-is _ _ _ _ (c .before .before .has-name .ensures) (c .before .before .before .kind .ensures) (not-false _ (c .before .if1 .left))) (omega arith)
+returns-2 c = (name-wraps _ _ _ _ (named-is _ _ _ _ (c .before .before .has-name .ensures) (c .before .before .before .kind .ensures) (not-false _ (c .before .if1 .left))) (omega arith), tt)
 
 add-slot-va : tie.Need-add-slot-va
 add-slot-va c = search needs
@@ -35,15 +35,17 @@ read-bytes-near-requires : tie.Need-read-bytes-near-requires
 read-bytes-near-requires c κs = search needs
 
 returns-3 : tie.Need-returns-3
-returns-3 c = no-slot _ _ _ _ (named-is _ _ _ _ (c .before .before .before .before .has-name .ensures) (c .before .before .before .before .before .kind .ensures) (not-false _ (c .before .before .before .if1 .left))) _ (c .before .read-bytes-near .ensures) (omega arith) (omega arith)
+returns-3 c = (no-slot _ _ _ _ (named-is _ _ _ _ (c .before .before .before .before .has-name .ensures) (c .before .before .before .before .before .kind .ensures) (not-false _ (c .before .before .before .if1 .left))) _ (c .before .read-bytes-near .ensures) (omega arith) (omega arith), tt)
 
 u32-at-requires : tie.Need-u32-at-requires
 u32-at-requires c κs = search needs
 
 returns-4 : tie.Need-returns-4
-returns-4 c =
-    no-offset _ _ _ _ (named-is _ _ _ _ (c .before .before .before .before .before .before .has-name .ensures) (c .before .before .before .before .before .before .before .kind .ensures) (not-false _ (c .before .before .before .before .before .if1 .left))) _ (c .before .before .before .read-bytes-near .ensures)
-    (sym (c .before .u32-at .ensures) ∙ c .if4 .taken) (omega arith) (omega arith)
+returns-4 c = (
+  no-offset _ _ _ _ (named-is _ _ _ _ (c .before .before .before .before .before .before .has-name .ensures) (c .before .before .before .before .before .before .before .kind .ensures) (not-false _ (c .before .before .before .before .before .if1 .left))) _ (c .before .before .before .read-bytes-near .ensures)
+      (sym (c .before .u32-at .ensures) ∙ c .if4 .taken) (omega arith) (omega arith),
+  tt,
+)
 
 pointer-in-requires : tie.Need-pointer-in-requires
 pointer-in-requires c κs = search needs
@@ -52,9 +54,11 @@ read-cstr-near-requires : tie.Need-read-cstr-near-requires
 read-cstr-near-requires c κs = search needs
 
 returns-5 : tie.Need-returns-5
-returns-5 c =
-    name-at _ _ _ _ (named-is _ _ _ _ (c .before .before .before .before .before .before .before .before .has-name .ensures) (c .before .before .before .before .before .before .before .before .before .kind .ensures) (not-false _ (c .before .before .before .before .before .before .before .if1 .left))) _ (c .before .before .before .before .before .read-bytes-near .ensures) _ (c .read-cstr-near .result)
-    (λ z. c .before .before .if4 .left (c .before .before .before .u32-at .ensures ∙ z)) (c .before .pointer-in .ensures) (c .read-cstr-near .ensures) (omega arith) (omega arith)
+returns-5 c = (
+  name-at _ _ _ _ (named-is _ _ _ _ (c .before .before .before .before .before .before .before .before .has-name .ensures) (c .before .before .before .before .before .before .before .before .before .kind .ensures) (not-false _ (c .before .before .before .before .before .before .before .if1 .left))) _ (c .before .before .before .before .before .read-bytes-near .ensures) _ (c .read-cstr-near .result)
+      (λ z. c .before .before .if4 .left (c .before .before .before .u32-at .ensures ∙ z)) (c .before .pointer-in .ensures) (c .read-cstr-near .ensures) (omega arith) (omega arith),
+  inside _ _ _ (c .read-cstr-near .result) (c .read-cstr-near .ensures),
+)
 
 pub read-context-name-spec : {M : Type 1} → statement M
 read-context-name-spec =

@@ -2,14 +2,15 @@
 -- Assumes nothing.
 use Rattle.util.specs.Answers.{told}
 use Rattle.util.specs.Segments.{offsetOf}
+use Rattle.util.specs.Cstr.{textOf}
 use Rattle.runtime.specs.CallsLaws.{text-zero, text-at, text-nowhere}
 use borrow.Author.Needs.{needs}
 use Rattle.runtime.proofs.reads.read_cstr_near.Statement.{statement}
 use Rattle.runtime.proofs.reads.read_cstr_near.Tie as tie
 use Rattle.runtime.proofs.reads.read_cstr_near.Reads as reads
 use Rattle.runtime.proofs.reads.read_cstr_near.Lts as lts
-use Rattle.util.proofs.vm_to_file_offset_near.Reads as vm-to-file-offset-near-reads
 use Rattle.util.proofs.read_cstr_at.Reads as read-cstr-at-reads
+use Rattle.util.proofs.vm_to_file_offset_near.Reads as vm-to-file-offset-near-reads
 
 returns : tie.Need-returns
 returns c = text-zero _ _ _ (c .if1 .taken)
@@ -23,14 +24,27 @@ enum-known-offset c = search needs
 read-cstr-at-requires : tie.Need-read-cstr-at-requires
 read-cstr-at-requires c κs = search needs
 
+enum-known-place : tie.Need-enum-known-place
+enum-known-place c = search needs
+
 enum-told : tie.Need-enum-told
 enum-told c = search needs
 
+enum-told-2 : tie.Need-enum-told-2
+enum-told-2 c = search needs
+
 returns-2 : tie.Need-returns-2
-returns-2 c = text-at _ _ _ (c .before .before .before .before .before .if1 .left) _ _ (told offsetOf (c .before .before .before .before .vm-to-file-offset-near .ensures) (c .before .before .offset .given .1)) (c .read-cstr-at .ensures)
+returns-2 c =
+    text-at _ _ _ (c .before .before .before .before .before .before .before .before .if1 .left) _ _ (told offsetOf (c .before .before .before .before .before .before .before .vm-to-file-offset-near .ensures) (c .before .before .before .before .before .offset .given .1))
+    (told textOf (c .before .before .before .read-cstr-at .ensures) (c .before .place .given .1))
 
 returns-3 : tie.Need-returns-3
-returns-3 c = text-nowhere _ _ _ (c .before .before .before .if1 .left) (told offsetOf (c .before .before .vm-to-file-offset-near .ensures) (c .enum-told .given .1))
+returns-3 c =
+    text-at _ _ _ (c .before .before .before .before .before .before .before .if1 .left) _ _ (told offsetOf (c .before .before .before .before .before .before .vm-to-file-offset-near .ensures) (c .before .before .before .before .offset .given .1))
+    (told textOf (c .before .before .read-cstr-at .ensures) (c .enum-told .given .1))
+
+returns-4 : tie.Need-returns-4
+returns-4 c = text-nowhere _ _ _ (c .before .before .before .if1 .left) (told offsetOf (c .before .before .vm-to-file-offset-near .ensures) (c .enum-told2 .given .1))
 
 pub read-cstr-near-spec : {M : Type 1} → statement M
 read-cstr-near-spec =
@@ -40,6 +54,9 @@ read-cstr-near-spec =
     vm-to-file-offset-near-requires
     enum-known-offset
     read-cstr-at-requires
+    enum-known-place
     enum-told
+    enum-told-2
     returns-2
-    returns-3)
+    returns-3
+    returns-4)
