@@ -17,7 +17,7 @@ use Rattle.util.specs.Buffer.{pasted, putEnd, putInto, Put}
 use Rattle.util.specs.BufferLaws.{put-in, put-fits, put-length, past-end, past-into, fits-end, fits-into}
 use Rattle.runtime.specs.Reads.{run}
 use Rattle.typedescriptor.specs.Row.{TypeRow}
-use Rattle.typedescriptor.specs.Slots.{slots, slotRow, rowsFrom, rows}
+use Rattle.typedescriptor.specs.Slots.{slots, slotRow, Found, found, firstRow, nextRow, rowsFrom, rows}
 use Rattle.parent.specs.Name.{Answer, written, refused, tooDeep, filled, qualifiedName, nameAnswer}
 use Rattle.exports.specs.Listing.{headBytes, rowBytes, listing, atStart}
 
@@ -135,19 +135,53 @@ put-as b b′ b″ p q at e eb ep ee ei = (ee ∙ rw (eb, ep), ei ∙ rw (eb, ep
 
 -- ---- the rows that are left
 
-module _ (image segments types : List ℕ) (start n i : ℕ) where
-  here : i < n → rowsFrom image segments types start (n - i) i ≡ rowsFrom image segments types start (suc (n - (i + 1))) i
-  here h = ap (λ (k : ℕ). rowsFrom image segments types start k i) (omega arith)
+module _ (image segments types : List ℕ) (start : ℕ) where
+  first-left : (n i : ℕ) (f : Found) → some f ≡ firstRow image segments types start n i
+      → (rowsFrom image segments types start n i ≡ f .row ∷ rowsFrom image segments types start (n + i - f .next) (f .next)) × (i < f .next) × (f .next ≤ n + i)
+  unfolding firstRow rowsFrom
+  first-left zero i f e = let z : _≡_ {A = ℕ} 0 1 = cc in absurd (omega arith)
+  first-left (suc n) i f e = go (first-left n (suc i) f) (run image segments (slotRow types start i)) refl
+    where
+      go : (some f ≡ firstRow image segments types start n (suc i)
+          → (rowsFrom image segments types start n (suc i) ≡ f .row ∷ rowsFrom image segments types start (n + suc i - f .next) (f .next)) × (suc i < f .next) × (f .next ≤ n + suc i))
+          → (x : Option TypeRow) → run image segments (slotRow types start i) ≡ x
+          → (rowsFrom image segments types start (suc n) i ≡ f .row ∷ rowsFrom image segments types start (suc n + i - f .next) (f .next)) × (i < f .next) × (f .next ≤ suc n + i)
+      go further none t =
+          let g : some f ≡ firstRow image segments types start n (suc i) = rw (firstRow, t) at e in
+          let w = further g in
+          let k : n + suc i - f .next ≡ suc n + i - f .next = omega arith in
+          (rw (rowsFrom, t) (w .0 ∙ ap (λ (m : ℕ). f .row ∷ rowsFrom image segments types start m (f .next)) k), omega (arith, w .1), omega (arith, w .2))
+      go further (some r) t =
+          let g : some f ≡ some (found i r) = rw (firstRow, t) at e in
+          let q : f ≡ found i r = cc in
+          let k : suc n + i - (i + 1) ≡ n = omega arith in
+          rw q (rw (rowsFrom, t, k, add-one), omega arith, omega arith)
 
-  pub row-left : (r : TypeRow) → some r ≡ run image segments (slotRow types start i) → i < n
-      → rowsFrom image segments types start (n - i) i ≡ r ∷ rowsFrom image segments types start (n - (i + 1)) (i + 1)
-  unfolding rowsFrom
-  row-left r e h = rw (here h, rowsFrom, ← e, add-one)
+  none-first : (n i : ℕ) → none ≡ firstRow image segments types start n i → rowsFrom image segments types start n i ≡ []
+  unfolding firstRow rowsFrom
+  none-first zero i e = refl
+  none-first (suc n) i e = go (none-first n (suc i)) (run image segments (slotRow types start i)) refl
+    where
+      go : (none ≡ firstRow image segments types start n (suc i) → rowsFrom image segments types start n (suc i) ≡ []) → (x : Option TypeRow) → run image segments (slotRow types start i) ≡ x → rowsFrom image segments types start (suc n) i ≡ []
+      go further none t = rw (rowsFrom, t) (further (rw (firstRow, t) at e))
+      go further (some r) t =
+          let g : _≡_ {A = Option Found} none (some (found i r)) = rw (firstRow, t) at e in
+          let z : _≡_ {A = ℕ} 0 1 = cc in
+          absurd (omega arith)
 
-  pub slot-left : none ≡ run image segments (slotRow types start i) → i < n
-      → rowsFrom image segments types start (n - i) i ≡ rowsFrom image segments types start (n - (i + 1)) (i + 1)
-  unfolding rowsFrom
-  slot-left e h = rw (here h, rowsFrom, ← e, add-one)
+  -- the next row from slot `i` on, and those after it
+  module _ (i : ℕ) where
+    pub row-left : (f : Found) → some f ≡ nextRow image segments types start i → i < slots types
+        → (rowsFrom image segments types start (slots types - i) i ≡ f .row ∷ rowsFrom image segments types start (slots types - f .next) (f .next)) × (i < f .next) × (f .next ≤ slots types)
+    unfolding nextRow
+    row-left f e h =
+        let w = first-left (slots types - i) i f e in
+        let k : slots types - i + i - f .next ≡ slots types - f .next = omega arith in
+        (w .0 ∙ ap (λ (m : ℕ). f .row ∷ rowsFrom image segments types start m (f .next)) k, w .1, omega (arith, w .2))
+
+    pub none-left : none ≡ nextRow image segments types start i → rowsFrom image segments types start (slots types - i) i ≡ []
+    unfolding nextRow
+    none-left e = none-first (slots types - i) i e
 
 pub rows-start : (image segments types : List ℕ) (start : ℕ) → rows image segments types start ≡ rowsFrom image segments types start (slots types - 0) 0
 unfolding rows

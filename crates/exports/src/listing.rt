@@ -6,8 +6,9 @@ ghost use Rattle.typedescriptor.specs.Row.{rowOf};
 ghost use Rattle.typedescriptor.specs.Slots.{rows};
 ghost use Rattle.exports.specs.Listing.{headBytes, rowBytes, listing, atStart};
 use parent::QualifiedName;
-use typedescriptor::Descriptor;
 use typedescriptor::Row;
+use typedescriptor::TypeIter;
+use typedescriptor::TypeStep;
 
 // Two numbers, eight bytes each, the lowest first.
 fn head(a: u64, b: u64) -> [u8; 16]
@@ -74,18 +75,19 @@ pub extern "C" fn hodrupec_listing(
     let mut slot = 0;
     let mut at = 0;
     while slot < count {
-        let found = typedescriptor::slot_row(image, segments, types, vmaddr, slot);
-        match found {
-            Descriptor::Row(row) => {
+        let walk = TypeIter { slot };
+        let step = walk.next(image, segments, types, vmaddr);
+        match step {
+            TypeStep::Row { slot: _, row, next } => {
                 let end = put_record(image, segments, row, buffer, at);
                 if end == at {
                     return at;
                 }
                 at = end;
-                slot += 1;
+                slot = next.slot;
             }
-            Descriptor::Nothing => {
-                slot += 1;
+            TypeStep::End => {
+                return at;
             }
         }
     }

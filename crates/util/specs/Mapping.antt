@@ -2,24 +2,37 @@
 use Prim.Native.Nat.{ℕ, _+_, _-_, _^_, _≤_, _<_}
 use mathlib.Core.Path.{_≡_}
 use mathlib.Core.List.{List}
-use mathlib.Core.Option.{Option, some, none}
+use mathlib.Core.Option.{some, none}
 use Rattle.util.specs.Segments.{Segment, fileOffset}
 use Rattle.util.specs.declared.segment.Mapping.{Mapping}
 use Rattle.util.specs.declared.segment.Around.{Around}
 
 -- `size` addresses from `vmaddr` on lie in the file from `fileoff` on
 pub record Mapped (segments : List Segment) (m : Mapping) : Type 0 where
-  pub fits : m .fileoff + m .size < 2 ^ 64
+  pub fits : m .fileoff + m .size ≤ 2 ^ 64
   pub holds : (v : ℕ) → m .vmaddr ≤ v → v < m .vmaddr + m .size → fileOffset segments v ≡ some (m .fileoff + (v - m .vmaddr))
 
--- they lie between `low` and `high`, and are a part of one segment that is in the file
-pub record Clipped (low high : ℕ) (s : Segment) (m : Mapping) : Type 0 where
-  pub fits : m .fileoff + m .size < 2 ^ 64
-  pub from : 0 < m .size → (low ≤ m .vmaddr) × (s .vmaddr ≤ m .vmaddr)
-  pub to : 0 < m .size → (m .vmaddr + m .size ≤ high) × (m .vmaddr + m .size ≤ s .vmaddr + s .vmsize) × (m .vmaddr + m .size ≤ s .vmaddr + s .filesize)
-  pub offset : 0 < m .size → m .fileoff + s .vmaddr ≡ s .fileoff + m .vmaddr
+-- an address is one of them
+pub record Has (m : Mapping) (v : ℕ) : Type 0 where
+  pub from : m .vmaddr ≤ v
+  pub to : v < m .vmaddr + m .size
 
--- the answer of `locate`
+-- the answer of `locate`: addresses with the one that was looked for, or that this one is not in the file
 abbrev pub Located : List Segment → ℕ → Around → Type 0
-Located segments v (Around.Mapping m) = Mapped segments m
+Located segments v (Around.Mapping m) = Mapped segments m × Has m v
 Located segments v Around.Nothing = none ≡ fileOffset segments v
+
+-- a segment has an address in the file, between `low` and `high`
+pub record InFile (low high : ℕ) (s : Segment) (v : ℕ) : Type 0 where
+  pub ends : s .vmaddr + s .vmsize < 2 ^ 64
+  pub from : (low ≤ v) × (s .vmaddr ≤ v)
+  pub to : (v < high) × (v < s .vmaddr + s .vmsize) × (v < s .vmaddr + s .filesize)
+  pub offset : s .fileoff + (v - s .vmaddr) < 2 ^ 64
+
+-- addresses of the segment around one, all in the file and between `low` and `high`
+pub record Clipped (low high : ℕ) (s : Segment) (v : ℕ) (m : Mapping) : Type 0 where
+  pub fits : m .fileoff + m .size ≤ 2 ^ 64
+  pub has : Has m v
+  pub from : (low ≤ m .vmaddr) × (s .vmaddr ≤ m .vmaddr)
+  pub to : (m .vmaddr + m .size ≤ high) × (m .vmaddr + m .size ≤ s .vmaddr + s .vmsize) × (m .vmaddr + m .size ≤ s .vmaddr + s .filesize)
+  pub offset : m .fileoff + s .vmaddr ≡ s .fileoff + m .vmaddr

@@ -1,5 +1,5 @@
 -- What the segments that a walk passes, and the one that decides, say of the addresses around one.
-use Prim.Native.Nat.{ℕ, zero, suc, _+_, _-_, _^_, _≤_, _<_}
+use Prim.Native.Nat.{ℕ, zero, suc, _+_, _-_, _^_, _≤_, _<_, min, max}
 use native.Mathlib.Decide.{decLt}
 use native.Mathlib.Omega.{arith}
 use mathlib.Core.Path.{_≡_, refl, sym, ap, _∙_}
@@ -7,8 +7,8 @@ use mathlib.Core.Option.{Option, some, none, Option·getD}
 use mathlib.Core.List.{List}
 use lib.ListN.{length, drop, getD}
 use Rattle.util.specs.Segments.{Segment, segmentsOf, fileOffset, decides, inFile, decided}
-use Rattle.util.specs.SegmentsLaws.{wraps, below, above, no-bytes, held, in-file, segmentAt, segments-step}
-use Rattle.util.specs.Mapping.{Mapped, Clipped}
+use Rattle.util.specs.SegmentsLaws.{wraps, below, above, no-bytes, held, past-file, offset-wraps, in-file, segmentAt, segments-step}
+use Rattle.util.specs.Mapping.{Mapped, Has, InFile, Clipped}
 use Rattle.util.specs.declared.segment.Mapping.{Mapping}
 use Rattle.util.specs.declared.segment.FileOffset.{FileOffset}
 use Rattle.util.specs.declared.segment.Lookup.{Lookup}
@@ -23,17 +23,23 @@ pub near : (segments : List Segment) (m : Mapping) → Mapped segments m → (v 
 near segments m w v g h = sym (w .holds v g h)
 
 -- a part of a segment, from `start` up to `end`
-pub clipped : (low high : ℕ) (s : Segment) (size start end : ℕ) → (low ≤ start) × (s .vmaddr ≤ start) → (end ≤ high) × (end ≤ s .vmaddr + size)
-    → size ≤ s .vmsize → size ≤ s .filesize → s .fileoff + size < 2 ^ 64 → start < end
-    → Clipped low high s (record { vmaddr = start; size = end - start; fileoff = s .fileoff + (start - s .vmaddr) })
-clipped low high s size start end f t a b o h = record {
-  fits = omega arith;
-  from = λ p. (omega arith, omega arith);
-  to = λ p. (omega arith, omega arith, omega arith);
-  offset = λ p. omega arith;
-}
+pub clipped : (low high : ℕ) (s : Segment) (v : ℕ) → InFile low high s v → (start end size : ℕ) → start ≡ max low (s .vmaddr) → end ≡ min high (s .vmaddr + size)
+    → size ≡ min (s .vmsize) (s .filesize) → s .fileoff + s .filesize < 2 ^ 64
+    → Clipped low high s v (record { vmaddr = start; size = end - start; fileoff = s .fileoff + (start - s .vmaddr) })
+clipped low high s v w start end size es ee ez h =
+    go (omega (arith, w .from)) (omega (arith, w .to)) (omega (arith, es)) (omega (arith, ee)) (omega (arith, ez))
+  where
+    go : start ≤ v → v < end → (low ≤ start) × (s .vmaddr ≤ start) → (end ≤ high) × (end ≤ s .vmaddr + size) → (size ≤ s .vmsize) × (size ≤ s .filesize)
+        → Clipped low high s v (record { vmaddr = start; size = end - start; fileoff = s .fileoff + (start - s .vmaddr) })
+    go a b f t z = record {
+      fits = omega arith;
+      has = record { from = a; to = omega arith };
+      from = f;
+      to = (omega arith, omega arith, omega arith);
+      offset = omega arith;
+    }
 
--- a segment that leaves an address to the next one, or finds it in the file, does not wrap
+-- what a segment that leaves an address to the next one, or finds it in the file, does not do
 module _ (s : Segment) (v : ℕ) where
   fits : (x : Option (Option ℕ)) → x ≡ decides s v → (x ≡ some none → ⊥) → s .vmaddr + s .vmsize < 2 ^ 64
   fits x e n =
@@ -49,8 +55,52 @@ module _ (s : Segment) (v : ℕ) where
     pub next-fits : r ≡ Next → s .vmaddr + s .vmsize < 2 ^ 64
     next-fits t = passed-fits (ap decided (sym t) ∙ e)
 
-    pub answer-fits : (x : FileOffset) (o : ℕ) → r ≡ Answer x → x ≡ FileOffset.At o → s .vmaddr + s .vmsize < 2 ^ 64
-    answer-fits x o t u = fits (some (some o)) (sym (rw (t, u)) ∙ e) (λ f. let z : _≡_ {A = ℕ} 0 1 = cc in absurd (omega arith))
+    module _ (x : FileOffset) (o : ℕ) (t : r ≡ Answer x) (u : x ≡ FileOffset.At o) where
+      found : some (some o) ≡ decides s v
+      found = sym (rw (t, u)) ∙ e
+
+      not : (y : Option (Option ℕ)) → y ≡ decides s v → (some (some o) ≡ y → ⊥) → ⊥
+      not y f n = n (found ∙ sym f)
+
+      ends : s .vmaddr + s .vmsize < 2 ^ 64
+      ends = fits (some (some o)) found (λ f. let z : _≡_ {A = ℕ} 0 1 = cc in absurd (omega arith))
+
+      passed : none ≡ decides s v → ⊥
+      passed f = not none f (λ g. let z : _≡_ {A = ℕ} 0 1 = cc in absurd (omega arith))
+
+      nothing : some none ≡ decides s v → ⊥
+      nothing f = not (some none) f (λ g. let z : _≡_ {A = ℕ} 0 1 = cc in absurd (omega arith))
+
+      from : s .vmaddr ≤ v
+      from = elim (decLt v (s .vmaddr)) [ yes h ↦ absurd (passed (below s v ends h)) | no h ↦ omega arith ]
+
+      to : v < s .vmaddr + s .vmsize
+      to = elim (decLt v (s .vmaddr + s .vmsize)) [ yes h ↦ h | no h ↦ absurd (passed (above s v ends from (omega arith))) ]
+
+      size : 0 < s .filesize
+      size = elim (decLt 0 (s .filesize)) [ yes h ↦ h | no h ↦ absurd (passed (no-bytes s v ends from to (omega arith))) ]
+
+      inside : v - s .vmaddr < s .filesize
+      inside =
+          elim (decLt (v - s .vmaddr) (s .filesize)) [
+            | yes h ↦ h
+            | no h ↦ absurd (nothing (held s v ends from to none size (past-file s (v - s .vmaddr) (omega arith))))
+          ]
+
+      offset : s .fileoff + (v - s .vmaddr) < 2 ^ 64
+      offset =
+          elim (decLt (s .fileoff + (v - s .vmaddr)) (2 ^ 64)) [
+            | yes h ↦ h
+            | no h ↦ absurd (nothing (held s v ends from to none size (offset-wraps s (v - s .vmaddr) inside (omega arith))))
+          ]
+
+      pub answer-in : (low high : ℕ) → low ≤ v → (high < 2 ^ 64 - 1 → v < high) → InFile low high s v
+      answer-in low high l h = record {
+        ends = ends;
+        from = (l, from);
+        to = (elim (decLt high (2 ^ 64 - 1)) [ yes g ↦ h g | no g ↦ omega (arith, to, ends) ], to, omega (arith, inside, from));
+        offset = offset;
+      }
 
 -- a segment that leaves `a` to the next one leaves it all addresses from `low` up to `high`
 module _ (s : Segment) (a low high : ℕ) (e : none ≡ decides s a)
@@ -87,28 +137,59 @@ module _ (s : Segment) (a low high : ℕ) (e : none ≡ decides s a)
 -- a turn of the walk over the list, from its `i`th number: all addresses from `low` up to `high` are left to the numbers from there on
 module _ (l : List ℕ) (i low high : ℕ)
     (inv : (v : ℕ) → low ≤ v → v < high → fileOffset (segmentsOf l) v ≡ fileOffset (segmentsOf (drop i l)) v) where
-  pub around-next : (a low′ high′ : ℕ) (r : Lookup) → decided r ≡ decides (segmentAt l i) a → r ≡ Next
-      → (low ≤ low′) × (getD l i 0 + getD l (i + 1) 0 ≤ a → getD l i 0 + getD l (i + 1) 0 ≤ low′)
-      → (high′ ≤ high) × (a < getD l i 0 → high′ ≤ getD l i 0)
-      → i + 4 ≤ length l
-      → (v : ℕ) → low′ ≤ v → v < high′ → fileOffset (segmentsOf l) v ≡ fileOffset (segmentsOf (drop (i + 4) l)) v
-  unfolding fileOffset
-  around-next a low′ high′ r e n el eh h v f t =
-      inv v (omega (arith, el .0)) (omega (arith, eh .0))
-      ∙ rw (segments-step l i 0 h, ← passes (segmentAt l i) a low′ high′ (ap decided (sym n) ∙ e) (el .1) (eh .1) v f t)
+  module _ (a low′ high′ : ℕ) (el : (getD l i 0 + getD l (i + 1) 0 ≤ a → low′ ≡ max low (getD l i 0 + getD l (i + 1) 0)) × (a < getD l i 0 + getD l (i + 1) 0 → low′ ≡ low))
+      (eh : (a < getD l i 0 → high′ ≡ min high (getD l i 0)) × (getD l i 0 ≤ a → high′ ≡ high)) where
+    pub low-next : low ≤ a → low′ ≤ a
+    low-next h =
+        elim (decLt a (getD l i 0 + getD l (i + 1) 0)) [
+          | yes g ↦ omega (arith, el .1 g)
+          | no g ↦ let e = el .0 (omega arith) in omega arith
+        ]
 
-  pub around-mapped : (m : Mapping) → Clipped low high (segmentAt l i) m → getD l i 0 + getD l (i + 1) 0 < 2 ^ 64 → i + 4 ≤ length l
+    pub high-next : (high < 2 ^ 64 - 1 → a < high) → high′ < 2 ^ 64 - 1 → a < high′
+    high-next h t =
+        elim (decLt a (getD l i 0)) [
+          | yes g ↦
+              elim (decLt high (2 ^ 64 - 1)) [
+                | yes k ↦ let e = eh .0 g in let b = h k in omega arith
+                | no k ↦ let e = eh .0 g in omega arith
+              ]
+          | no g ↦ let e = eh .1 (omega arith) in omega (arith, h (omega arith))
+        ]
+
+    low-over : low ≤ low′
+    low-over =
+        elim (decLt a (getD l i 0 + getD l (i + 1) 0)) [
+          | yes g ↦ omega (arith, el .1 g)
+          | no g ↦ let e = el .0 (omega arith) in omega arith
+        ]
+
+    high-under : high′ ≤ high
+    high-under =
+        elim (decLt a (getD l i 0)) [
+          | yes g ↦ let e = eh .0 g in omega arith
+          | no g ↦ omega (arith, eh .1 (omega arith))
+        ]
+
+    pub around-next : (r : Lookup) → decided r ≡ decides (segmentAt l i) a → r ≡ Next → i + 4 ≤ length l
+        → (v : ℕ) → low′ ≤ v → v < high′ → fileOffset (segmentsOf l) v ≡ fileOffset (segmentsOf (drop (i + 4) l)) v
+    unfolding fileOffset
+    around-next r e n h v f t =
+        inv v (omega (arith, low-over)) (omega (arith, high-under))
+        ∙ rw (
+          segments-step l i 0 h,
+          ← passes (segmentAt l i) a low′ high′ (ap decided (sym n) ∙ e) (λ g. let x = el .0 g in omega arith) (λ g. let x = eh .0 g in omega arith) v f t,
+        )
+
+  pub around-mapped : (a : ℕ) (m : Mapping) → Clipped low high (segmentAt l i) a m → getD l i 0 + getD l (i + 1) 0 < 2 ^ 64 → i + 4 ≤ length l
       → Mapped (segmentsOf l) m
   unfolding fileOffset
-  around-mapped m w fits h = record {
+  around-mapped a m w fits h = record {
     fits = w .fits;
     holds = λ v f t.
-        let x = w .from (omega arith) in
-        let y = w .to (omega arith) in
-        let z = w .offset (omega arith) in
         let s = segmentAt l i in
         let d : some (some (m .fileoff + (v - m .vmaddr))) ≡ decides s v =
-        held s v fits (omega arith) (omega arith) _ (omega arith)
-        (ap some (omega (arith, w .fits)) ∙ in-file s (v - s .vmaddr) (omega arith) (omega (arith, w .fits))) in
-        inv v (omega arith) (omega arith) ∙ rw (segments-step l i 0 h, ← d);
+        held s v fits (omega (arith, w .from)) (omega (arith, w .to)) _ (omega (arith, w .from, w .to))
+        (ap some (omega (arith, w .from, w .offset)) ∙ in-file s (v - s .vmaddr) (omega (arith, w .from, w .to)) (omega (arith, w .from, w .offset, w .fits))) in
+        inv v (omega (arith, w .from)) (omega (arith, w .to)) ∙ rw (segments-step l i 0 h, ← d);
   }

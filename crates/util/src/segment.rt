@@ -2,7 +2,7 @@
 ghost use mathlib.Core.Path.{_≡_};
 ghost use Prim.Native.Nat.{_+_, _≤_, _<_, _^_, min, max};
 ghost use Rattle.util.specs.Segments.{fileOffset, segmentsOf, decides, offsetOf, decided};
-ghost use Rattle.util.specs.Mapping.{Clipped, Mapped, Located};
+ghost use Rattle.util.specs.Mapping.{InFile, Clipped, Mapped, Located};
 
 pub enum FileOffset {
     At(u64),
@@ -103,10 +103,10 @@ fn higher(a: u64, b: u64) -> u64
     if a < b { b } else { a }
 }
 
-// Where the addresses from `low` on begin past a segment that lies below `address`.
+// Where the addresses around `address` begin, once a segment that may lie below it is passed.
 fn low_past(low: u64, vmaddr: u64, vmsize: u64, address: u64) -> u64
     requires { ⌜ vmaddr + vmsize < 2 ^ 64 ⌝ }
-    ensures { λ r. ⌜ (low ≤ r) × (vmaddr + vmsize ≤ address → vmaddr + vmsize ≤ r) ⌝ }
+    ensures { λ r. ⌜ (vmaddr + vmsize ≤ address → r ≡ max low (vmaddr + vmsize)) × (address < vmaddr + vmsize → r ≡ low) ⌝ }
 {
     if vmaddr + vmsize <= address {
         higher(low, vmaddr + vmsize)
@@ -115,9 +115,9 @@ fn low_past(low: u64, vmaddr: u64, vmsize: u64, address: u64) -> u64
     }
 }
 
-// Where those up to `high` end before a segment that lies above `address`.
+// Where they end, once a segment that may lie above it is passed.
 fn high_before(high: u64, vmaddr: u64, address: u64) -> u64
-    ensures { λ r. ⌜ (r ≤ high) × (address < vmaddr → r ≤ vmaddr) ⌝ }
+    ensures { λ r. ⌜ (address < vmaddr → r ≡ min high vmaddr) × (vmaddr ≤ address → r ≡ high) ⌝ }
 {
     if address < vmaddr {
         lower(high, vmaddr)
@@ -126,17 +126,29 @@ fn high_before(high: u64, vmaddr: u64, address: u64) -> u64
     }
 }
 
-// What a segment has in the file of the addresses from `low` up to and without `high`.
-fn clip(low: u64, high: u64, vmaddr: u64, vmsize: u64, fileoff: u64, filesize: u64) -> Mapping
-    requires { ⌜ vmaddr + vmsize < 2 ^ 64 ⌝ }
-    ensures { λ r. ⌜ Clipped low high (record { vmaddr = vmaddr; vmsize = vmsize; fileoff = fileoff; filesize = filesize }) r ⌝ }
+// What a segment has in the file around an address of it, of the addresses from `low` up to and without `high`: the address alone, where
+// the segment's end would lie past the last offset.
+fn clip(
+    low: u64,
+    high: u64,
+    vmaddr: u64,
+    vmsize: u64,
+    fileoff: u64,
+    filesize: u64,
+    address: u64,
+) -> Mapping
+    requires { ⌜ InFile low high (record { vmaddr = vmaddr; vmsize = vmsize; fileoff = fileoff; filesize = filesize }) address ⌝ }
+    ensures { λ r. ⌜ Clipped low high (record { vmaddr = vmaddr; vmsize = vmsize; fileoff = fileoff; filesize = filesize }) address r ⌝ }
 {
-    let size = lower(vmsize, lower(filesize, u64::MAX - fileoff));
-    let start = higher(low, vmaddr);
-    let end = lower(high, vmaddr + size);
-    if end <= start {
-        return Mapping::empty();
+    if filesize > u64::MAX - fileoff {
+        return Mapping {
+            vmaddr: address,
+            size: 1,
+            fileoff: fileoff + (address - vmaddr),
+        };
     }
+    let start = higher(low, vmaddr);
+    let end = lower(high, vmaddr + lower(vmsize, filesize));
     Mapping {
         vmaddr: start,
         size: end - start,
@@ -160,7 +172,15 @@ pub fn locate(segments: &[u64], address: u64) -> Around
         match found {
             Lookup::Answer(offset) => match offset {
                 FileOffset::At(_) => {
-                    return Around::Mapping(clip(low, high, vmaddr, vmsize, fileoff, filesize));
+                    return Around::Mapping(clip(
+                        low,
+                        high,
+                        vmaddr,
+                        vmsize,
+                        fileoff,
+                        filesize,
+                        address,
+                    ));
                 }
                 FileOffset::Nothing => {
                     return Around::Nothing;

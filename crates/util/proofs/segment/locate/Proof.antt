@@ -3,13 +3,13 @@
 -- Assumes nothing.
 use borrow.Author.Needs.{needs}
 use native.Mathlib.Omega.{arith}
-use Prim.Native.Nat.{ℕ, _≤_, _<_, _-_}
+use Prim.Native.Nat.{ℕ, _≤_, _<_, _-_, _^_}
 use mathlib.Core.Path.{_≡_, refl, sym, ap, _∙_}
 use denote.Ref.{now}
 use lib.ListN.{length, drop}
 use Rattle.util.specs.Segments.{segmentsOf, fileOffset, offsetOf}
 use Rattle.util.specs.SegmentsLaws.{lookup-answer, lookup-next, lookup-end}
-use Rattle.util.specs.MappingLaws.{next-fits, answer-fits, around-next, around-mapped}
+use Rattle.util.specs.MappingLaws.{next-fits, answer-in, around-next, low-next, high-next, around-mapped}
 use Rattle.util.proofs.segment.locate.Statement.{statement}
 use Rattle.util.proofs.segment.locate.Tie as tie
 use Rattle.util.proofs.segment.locate.Reads as reads
@@ -24,12 +24,14 @@ Inv-loop segments address low₀ high₀ i₀ low high i =
     (i ≤ length segments)
     × (fileOffset (segmentsOf segments) address ≡ fileOffset (segmentsOf (drop i segments)) address)
     × ((v : ℕ) → low ≤ v → v < high → fileOffset (segmentsOf segments) v ≡ fileOffset (segmentsOf (drop i segments)) v)
+    × (low ≤ address)
+    × (high < 2 ^ 64 - 1 → address < high)
 
 abbrev μ-loop : tie.MeasureT-loop
 μ-loop segments address low₀ high₀ i₀ low high i = length segments - i
 
 loop-holds : tie.Need-loop-holds Inv-loop μ-loop
-loop-holds c = (omega arith, refl, λ v l h. refl)
+loop-holds c = (omega arith, refl, λ v l h. refl, omega arith, λ h. absurd (omega arith))
 
 sub-loop : tie.Need-sub-loop Inv-loop μ-loop
 sub-loop c = search needs
@@ -78,13 +80,16 @@ enum-told c = search needs
 
 clip-requires : tie.Need-clip-requires Inv-loop μ-loop
 clip-requires c κs =
-    answer-fits _ _ _ (c .before .before .before .before .before .look-up .ensures) _ _ (c .before .before .before .found .given .1) (c .enum-told .given .1)
+    let p = c .before .before .before .before .before .before .before .before .before .before .before in
+    answer-in _ _ _ (c .before .before .before .before .before .look-up .ensures) _ _ (c .before .before .before .found .given .1) (c .enum-told .given .1) _ _ (p .loop .inv .3) (p .loop .inv .4)
 
 returns : tie.Need-returns Inv-loop μ-loop
 returns c =
-    let p = c .before .before .before .before .before .before .before .before .before .before .before .before in
-    around-mapped (now (p .before .before .args .segments)) (p .loop .i) _ _ (p .loop .inv .2) _ (c .clip .ensures)
-    (answer-fits _ _ _ (c .before .before .before .before .before .before .look-up .ensures) _ _ (c .before .before .before .before .found .given .1) (c .before .enum-told .given .1)) (omega arith)
+    let p = c .before .before .before .before .before .before .before .before .before .before .before .before in (
+      around-mapped (now (p .before .before .args .segments)) (p .loop .i) _ _ (p .loop .inv .2) _ _ (c .clip .ensures)
+          (answer-in _ _ _ (c .before .before .before .before .before .before .look-up .ensures) _ _ (c .before .before .before .before .found .given .1) (c .before .enum-told .given .1) _ _ (p .loop .inv .3) (p .loop .inv .4) .ends) (omega arith),
+      c .clip .ensures .has,
+    )
 
 enum-told-2 : tie.Need-enum-told-2 Inv-loop μ-loop
 enum-told-2 c = search needs
@@ -114,12 +119,13 @@ loop-less c = search needs
 
 loop-again : tie.Need-loop-again Inv-loop μ-loop
 loop-again c =
-    let p = c .before .before .before .before .before .before .before .before .before .before in (
+    let p = c .before .before .before .before .before .before .before .before .before .before in
+    let segments = now (p .before .before .args .segments) in (
       search needs,
-      lookup-next (now (p .before .before .args .segments)) (p .loop .i) (p .before .before .args .address) _ (p .loop .inv .1) _
-          (c .before .before .before .before .look-up .ensures) (c .before .before .enum-told3 .given .1) (omega arith),
-      around-next (now (p .before .before .args .segments)) (p .loop .i) _ _ (p .loop .inv .2) _ _ _ _
-          (c .before .before .before .before .look-up .ensures) (c .before .before .enum-told3 .given .1) (c .before .low-past .ensures) (c .high-before .ensures) (omega arith),
+      lookup-next segments (p .loop .i) (p .before .before .args .address) _ (p .loop .inv .1) _ (c .before .before .before .before .look-up .ensures) (c .before .before .enum-told3 .given .1) (omega arith),
+      around-next segments (p .loop .i) _ _ (p .loop .inv .2) _ _ _ (c .before .low-past .ensures) (c .high-before .ensures) _ (c .before .before .before .before .look-up .ensures) (c .before .before .enum-told3 .given .1) (omega arith),
+      low-next segments (p .loop .i) _ _ (p .loop .inv .2) _ _ _ (c .before .low-past .ensures) (c .high-before .ensures) (p .loop .inv .3),
+      high-next segments (p .loop .i) _ _ (p .loop .inv .2) _ _ _ (c .before .low-past .ensures) (c .high-before .ensures) (p .loop .inv .4),
     )
 
 returns-3 : tie.Need-returns-3 Inv-loop μ-loop
