@@ -16,7 +16,9 @@ use Rattle.util.specs.declared.cstr.Text.{Text}
 use Rattle.runtime.specs.Reads.{Reads, done, bytes, text, run, textPlace}
 use Rattle.runtime.specs.Bytes.{bytesRead}
 use Rattle.util.specs.Segments.{segmentsOf, fileOffset}
-use Rattle.runtime.specs.CallsLaws.{text-within, bytes-nowhere, read-nothing, run-bytes, run-no-bytes, run-text, run-no-text}
+use Rattle.util.specs.Mapping.{led, Mapped}
+use Rattle.util.specs.declared.segment.Mapping.{Mapping}
+use Rattle.runtime.specs.CallsLaws.{text-within, bytes-nowhere, read-nothing, run-bytes, run-no-bytes, run-text, run-no-text, run-mapped}
 use Rattle.context.specs.Context.{contextKind, named}
 use Rattle.context.specs.declared.descriptor.ContextDescriptorKind.{ContextDescriptorKind}
 use Rattle.parent.specs.Context.{Name, Header, headed, header, slotName, name, contextName, Context, contextRead, nameRead, Inside}
@@ -102,6 +104,16 @@ module _ (image segments : List ℕ) (a : ℕ) where
       → some (record { header = h; name = n }) ≡ contextRead image segments a
   unfolding contextRead
   context-at h n e en = rw (← e, en)
+
+  -- the same, read with a true mapping
+  module _ (m : Mapping) (w : Mapped segments m) where
+    pub no-context-near : none ≡ run image (led m segments) (header a) → none ≡ contextRead image segments a
+    no-context-near e = no-context (e ∙ run-mapped image segments m w (header a))
+
+    pub context-near : (h : Header) (n : Option Name) → some h ≡ run image (led m segments) (header a) → n ≡ contextName image (led m segments) a (h .flags)
+        → some (record { header = h; name = n }) ≡ contextRead image segments a
+    unfolding contextName
+    context-near h n e en = context-at h n (e ∙ run-mapped image segments m w (header a)) (en ∙ run-mapped image segments m w (name a (h .flags)))
 
   -- ---- the chain
   module _ (given : ℕ) where

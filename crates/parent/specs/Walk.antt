@@ -6,7 +6,6 @@ use mathlib.Core.Bool.{true, false}
 use mathlib.Core.Option.{none}
 use lib.ListN.{length, getD}
 use Rattle.util.specs.Cstr.{place, partOf}
-use Rattle.util.specs.Segments.{segmentsOf}
 use Rattle.util.specs.Mapping.{Mapped}
 use Rattle.util.specs.declared.segment.Around.{Around}
 use Rattle.parent.specs.Context.{contextRead}
@@ -15,7 +14,7 @@ use Rattle.parent.specs.declared.name.Walk.{Walk}
 
 -- what is in the file around a context
 abbrev pub ContextLocated : List ℕ → ℕ → Around → Type 0
-ContextLocated segments a (Around.Mapping m) = Mapped (segmentsOf segments) m
+ContextLocated segments a (Around.Mapping m) = Mapped segments m
 ContextLocated segments a Around.Nothing = (image : List ℕ) → none ≡ contextRead image segments a
 
 -- the hops of the first `n` names, the last one first

@@ -91,7 +91,7 @@ unfolding gathered
 no-block image segments left a rest places lengths h =
     record { hops = sym (append-nil _); deep = refl; bytes = omega arith; few = omega arith; fewer = omega arith }
 
-pub context-located : (segments : List ℕ) (a : ℕ) (r : Around) → (a ≡ 0 → ⊥) → Located (segmentsOf segments) a r → ContextLocated segments a r
+pub context-located : (segments : List ℕ) (a : ℕ) (r : Around) → (a ≡ 0 → ⊥) → Located segments a r → ContextLocated segments a r
 context-located segments a (Around.Mapping m) z h = h .0
 context-located segments a Around.Nothing z h = λ image. nowhere image segments a z h
 

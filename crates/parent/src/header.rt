@@ -1,6 +1,5 @@
 ghost use mathlib.Core.Path.{_≡_};
-ghost use Rattle.util.specs.Segments.{segmentsOf};
-ghost use Rattle.util.specs.Mapping.{Mapped};
+ghost use Rattle.util.specs.Mapping.{led};
 ghost use Rattle.runtime.specs.Reads.{run};
 ghost use Rattle.parent.specs.Walk.{ContextLocated};
 ghost use Rattle.parent.specs.Context.{header, headerOf, contextRead, contextOf, contextName, nameRead, Inside};
@@ -45,8 +44,7 @@ pub fn read_header(
     mapping: Mapping,
     descriptor_va: u64,
 ) -> HeaderRead
-    requires { ⌜ Mapped (segmentsOf (now segments)) mapping ⌝ }
-    ensures { λ r. ⌜ headerOf «descriptor_va» r ≡ run (now (image .entry)) (now (segments .entry)) (header «descriptor_va») ⌝ }
+    ensures { λ r. ⌜ headerOf «descriptor_va» r ≡ run (now (image .entry)) (led mapping (now (segments .entry))) (header «descriptor_va») ⌝ }
 {
     if descriptor_va == 0 {
         return HeaderRead::Nothing;
@@ -72,8 +70,7 @@ pub fn read_context_name(
     descriptor_va: u64,
     flags: u32,
 ) -> Text
-    requires { ⌜ Mapped (segmentsOf (now segments)) mapping ⌝ }
-    ensures { λ r. ⌜ nameRead (now (image .entry)) r ≡ contextName (now (image .entry)) (now (segments .entry)) «descriptor_va» flags ⌝ }
+    ensures { λ r. ⌜ nameRead (now (image .entry)) r ≡ contextName (now (image .entry)) (led mapping (now (segments .entry))) «descriptor_va» flags ⌝ }
     ensures { λ r. ⌜ Inside (now (image .entry)) r ⌝ }
 {
     if !ContextDescriptorFlags(flags).kind().has_name() {

@@ -7,7 +7,6 @@ ghost use Rattle.parent.specs.Name.{hopsAnswer, hopsOf, filled, before, 
 ghost use Rattle.typedescriptor.specs.Row.{rowOf};
 ghost use Rattle.util.specs.Buffer.{Put};
 ghost use Rattle.util.specs.Mapping.{Mapped};
-ghost use Rattle.util.specs.Segments.{segmentsOf};
 use crate::header::HeaderRead;
 use crate::header::locate_context;
 use crate::header::read_context_name;
@@ -69,7 +68,7 @@ fn collect(
     places: &mut [usize],
     lengths: &mut [usize],
 ) -> Walk
-    requires { ⌜ Mapped (segmentsOf (now segments)) mapping ⌝ }
+    requires { ⌜ Mapped (now segments) mapping ⌝ }
     requires { ⌜ (length (now places) ≡ 8) × (length (now lengths) ≡ 8) ⌝ }
     ensures { λ r. ⌜ Walked (now (image .entry)) (now (segments .entry)) left «descriptor_va» rest (now (places .exit)) (now (lengths .exit)) r ⌝ }
 {

@@ -13,11 +13,44 @@ use borrow.Author.Tests.{le-leb, lt-leb, lt-ltb, le-ltb, eq-eqb, ne-eqb}
 use Rattle.utf8.specs.Text.{untilNul, textLength}
 use Rattle.utf8.specs.Utf8Laws.{text-bytes, text-length-le}
 use Rattle.util.specs.Segments.{segmentsOf, fileOffset}
+use Rattle.util.specs.Mapping.{led, Mapped}
+use Rattle.util.specs.declared.segment.Mapping.{Mapping}
 use Rattle.util.specs.Cstr.{Place, place, textAt, partOf}
 use Rattle.util.specs.CstrLaws.{part-in}
-use Rattle.runtime.specs.Reads.{Reads, bytes, text, andThen, within, bytesPlace, textOffset, textPlace, run}
+use Rattle.runtime.specs.Reads.{Reads, done, nothing, bytes, text, andThen, within, bytesPlace, textOffset, textPlace, run}
 use Rattle.runtime.specs.Bytes.{bytesRead, bytesFrom}
 use Rattle.runtime.specs.FieldName.{Name, inImage, inStrings, sectionText, orElse, fieldName}
+
+-- a true mapping changes no answer
+module _ (image segments : List ℕ) (m : Mapping) (w : Mapped segments m) where
+  pub place-mapped : (a n : ℕ) → bytesPlace image (led m segments) a n ≡ bytesPlace image segments a n
+  unfolding bytesPlace
+  place-mapped a n = rw (w .same a)
+
+  pub read-mapped : (a n : ℕ) → bytesRead image (led m segments) a n ≡ bytesRead image segments a n
+  unfolding bytesRead
+  read-mapped a n = rw (place-mapped a n)
+
+  offset-mapped : (a : ℕ) → textOffset (led m segments) a ≡ textOffset segments a
+  unfolding textOffset
+  offset-mapped a = rw (w .same a)
+
+  pub text-mapped : (a : ℕ) → textPlace image (led m segments) a ≡ textPlace image segments a
+  unfolding textPlace
+  text-mapped a = rw (offset-mapped a)
+
+  then-same : {A B : Type 0} (x : Option A) (f g : A → Option B) → ((a : A) → f a ≡ g a) → andThen x f ≡ andThen x g
+  then-same none f g e = refl
+  then-same (some a) f g e = e a
+
+  pub run-mapped : {A : Type 0} (p : Reads A) → run image (led m segments) p ≡ run image segments p
+  unfolding run
+  run-mapped (done a) = refl
+  run-mapped nothing = refl
+  run-mapped (bytes a n k) = rw (place-mapped a n) (then-same (bytesPlace image segments a n) _ _ (λ o. run-mapped (k (take n (drop o image)))))
+  run-mapped (text a k) =
+      rw (offset-mapped a)
+      (then-same (textOffset segments a) _ _ (λ o. then-same (textAt image o) _ _ (λ p. run-mapped (k p (untilNul (drop o image))))))
 
 module _ (image segments : List ℕ) (a n : ℕ) where
   pub bytes-at : (o : ℕ) → some o ≡ fileOffset (segmentsOf segments) a → o + n ≤ length image → some o ≡ bytesPlace image segments a n

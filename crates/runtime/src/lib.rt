@@ -5,7 +5,6 @@ mod reflstr;
 
 pub use reads::Bytes;
 pub use reads::find_bytes;
-pub use reads::find_bytes_near;
 pub use reads::read_bytes;
 pub use reads::read_bytes_near;
 pub use reads::read_cstr;

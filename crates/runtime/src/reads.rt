@@ -1,6 +1,6 @@
 ghost use mathlib.Core.Path.{_≡_};
 ghost use Rattle.util.specs.Segments.{fileOffset, segmentsOf, offsetOf};
-ghost use Rattle.util.specs.Mapping.{Mapped};
+ghost use Rattle.util.specs.Mapping.{led};
 ghost use Rattle.util.specs.Cstr.{textOf};
 ghost use Rattle.runtime.specs.Reads.{bytesPlace, textPlace};
 ghost use Rattle.runtime.specs.Bytes.{placeOf, bytesRead};
@@ -21,15 +21,14 @@ pub fn vm_to_file_offset(segments: &[u64], vmaddr: u64) -> FileOffset
 }
 
 // Where `len` bytes at an address lie. Only the first address is translated: the rest follows in the image, which alone bounds it.
-pub fn find_bytes_near(
+fn find_bytes_near(
     image: &[u8],
     segments: &[u64],
     mapping: Mapping,
     vmaddr: u64,
     len: usize,
 ) -> Bytes
-    requires { ⌜ Mapped (segmentsOf (now segments)) mapping ⌝ }
-    ensures { λ r. ⌜ placeOf r ≡ bytesPlace (now (image .entry)) (now (segments .entry)) vmaddr len ⌝ }
+    ensures { λ r. ⌜ placeOf r ≡ bytesPlace (now (image .entry)) (led mapping (now (segments .entry))) vmaddr len ⌝ }
 {
     match util::vm_to_file_offset_near(segments, mapping, vmaddr) {
         FileOffset::At(offset) => {
@@ -54,8 +53,7 @@ pub fn read_bytes_near<'a>(
     vmaddr: u64,
     len: usize,
 ) -> &'a [u8]
-    requires { ⌜ Mapped (segmentsOf (now segments)) mapping ⌝ }
-    ensures { λ r. ⌜ now r ≡ bytesRead (now (image .entry)) (now (segments .entry)) vmaddr len ⌝ }
+    ensures { λ r. ⌜ now r ≡ bytesRead (now (image .entry)) (led mapping (now (segments .entry))) vmaddr len ⌝ }
 {
     match find_bytes_near(image, segments, mapping, vmaddr, len) {
         Bytes::At(off) => util::part(image, off, len),
@@ -65,8 +63,7 @@ pub fn read_bytes_near<'a>(
 
 // The text at an address. There is none at address 0.
 pub fn read_cstr_near(image: &[u8], segments: &[u64], mapping: Mapping, vmaddr: u64) -> Text
-    requires { ⌜ Mapped (segmentsOf (now segments)) mapping ⌝ }
-    ensures { λ r. ⌜ textOf r ≡ textPlace (now (image .entry)) (now (segments .entry)) vmaddr ⌝ }
+    ensures { λ r. ⌜ textOf r ≡ textPlace (now (image .entry)) (led mapping (now (segments .entry))) vmaddr ⌝ }
 {
     if vmaddr == 0 {
         return Text::Nothing;

@@ -1,16 +1,19 @@
--- Addresses that the segments lay one after the other into the file. They spare a walk over the segments; no answer depends on them.
+-- Addresses that the segments lay one after the other into the file. A true mapping spares a walk over the segments and changes no answer.
 use Prim.Native.Nat.{ℕ, _+_, _-_, _^_, _≤_, _<_}
 use mathlib.Core.Path.{_≡_}
-use mathlib.Core.List.{List}
+use mathlib.Core.List.{List, _∷_}
 use mathlib.Core.Option.{some, none}
-use Rattle.util.specs.Segments.{Segment, fileOffset}
+use Rattle.util.specs.Segments.{Segment, segmentsOf, fileOffset}
 use Rattle.util.specs.declared.segment.Mapping.{Mapping}
 use Rattle.util.specs.declared.segment.Around.{Around}
 
--- `size` addresses from `vmaddr` on lie in the file from `fileoff` on
-pub record Mapped (segments : List Segment) (m : Mapping) : Type 0 where
-  pub fits : m .fileoff + m .size ≤ 2 ^ 64
-  pub holds : (v : ℕ) → m .vmaddr ≤ v → v < m .vmaddr + m .size → fileOffset segments v ≡ some (m .fileoff + (v - m .vmaddr))
+-- the segments' numbers with a mapping as one more segment before them: what a call that takes a mapping goes by
+unfoldable pub led : Mapping → List ℕ → List ℕ
+led m segments = m .vmaddr ∷ (m .size ∷ (m .fileoff ∷ (m .size ∷ segments)))
+
+-- a mapping is true of the segments: with it before them every address has the offset that it has without
+pub record Mapped (segments : List ℕ) (m : Mapping) : Type 0 where
+  pub same : (v : ℕ) → fileOffset (segmentsOf (led m segments)) v ≡ fileOffset (segmentsOf segments) v
 
 -- an address is one of them
 pub record Has (m : Mapping) (v : ℕ) : Type 0 where
@@ -18,9 +21,9 @@ pub record Has (m : Mapping) (v : ℕ) : Type 0 where
   pub to : v < m .vmaddr + m .size
 
 -- the answer of `locate`: addresses with the one that was looked for, or that this one is not in the file
-abbrev pub Located : List Segment → ℕ → Around → Type 0
+abbrev pub Located : List ℕ → ℕ → Around → Type 0
 Located segments v (Around.Mapping m) = Mapped segments m × Has m v
-Located segments v Around.Nothing = none ≡ fileOffset segments v
+Located segments v Around.Nothing = none ≡ fileOffset (segmentsOf segments) v
 
 -- a segment has an address in the file, between `low` and `high`
 pub record InFile (low high : ℕ) (s : Segment) (v : ℕ) : Type 0 where

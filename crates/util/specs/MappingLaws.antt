@@ -6,21 +6,50 @@ use mathlib.Core.Path.{_≡_, refl, sym, ap, _∙_}
 use mathlib.Core.Option.{Option, some, none, Option·getD}
 use mathlib.Core.List.{List}
 use lib.ListN.{length, drop, getD}
-use Rattle.util.specs.Segments.{Segment, segmentsOf, fileOffset, decides, inFile, decided}
+use Rattle.util.specs.Segments.{Segment, segmentsOf, fileOffset, decides, inFile, decided, offsetOf}
 use Rattle.util.specs.SegmentsLaws.{wraps, below, above, no-bytes, held, past-file, offset-wraps, in-file, segmentAt, segments-step}
-use Rattle.util.specs.Mapping.{Mapped, Has, InFile, Clipped}
+use Rattle.util.specs.Mapping.{led, Mapped, Has, InFile, Clipped}
 use Rattle.util.specs.declared.segment.Mapping.{Mapping}
 use Rattle.util.specs.declared.segment.FileOffset.{FileOffset}
 use Rattle.util.specs.declared.segment.Lookup.{Lookup}
 use Rattle.util.specs.declared.segment.Lookup.the-variants.{Answer, Next}
 
-pub empty-mapped : (segments : List Segment) (m : Mapping) → m .size ≡ 0 → m .fileoff ≡ 0 → Mapped segments m
-empty-mapped segments m e f = record { fits = omega arith; holds = λ v g h. absurd (omega arith) }
+-- what the mapping itself says of an address
+abbrev first : Mapping → Segment
+first m = record { vmaddr = m .vmaddr; vmsize = m .size; fileoff = m .fileoff; filesize = m .size }
 
--- a mapping has the address
-pub near : (segments : List Segment) (m : Mapping) → Mapped segments m → (v : ℕ) → m .vmaddr ≤ v → v < m .vmaddr + m .size
-    → some (m .fileoff + (v - m .vmaddr)) ≡ fileOffset segments v
-near segments m w v g h = sym (w .holds v g h)
+module _ (segments : List ℕ) (m : Mapping) (v : ℕ) (r : Lookup) (e : decided r ≡ decides (first m) v) where
+  pub near-answer : (o : FileOffset) → r ≡ Answer o → offsetOf o ≡ fileOffset (segmentsOf (led m segments)) v
+  unfolding fileOffset segmentsOf led
+  near-answer o t = rw (← e, t)
+
+  pub near-next : (x : Option ℕ) → r ≡ Next → x ≡ fileOffset (segmentsOf segments) v → x ≡ fileOffset (segmentsOf (led m segments)) v
+  unfolding fileOffset segmentsOf led
+  near-next x t f = f ∙ rw (← e, t)
+
+-- a mapping whose addresses have the offsets that it says is true
+module _ (segments : List ℕ) (m : Mapping) (ends : m .vmaddr + m .size < 2 ^ 64) (fits : m .fileoff + m .size ≤ 2 ^ 64)
+    (holds : (v : ℕ) → m .vmaddr ≤ v → v < m .vmaddr + m .size → fileOffset (segmentsOf segments) v ≡ some (m .fileoff + (v - m .vmaddr))) where
+  mapped-at : (v : ℕ) → fileOffset (segmentsOf (led m segments)) v ≡ fileOffset (segmentsOf segments) v
+  unfolding fileOffset segmentsOf led
+  mapped-at v =
+      elim (decLt v (m .vmaddr)) [
+        | yes b ↦ rw (← below (first m) v ends b)
+        | no b ↦
+            elim (decLt v (m .vmaddr + m .size)) [
+              | yes t ↦
+                  let h : some (some (m .fileoff + (v - m .vmaddr))) ≡ decides (first m) v =
+                  held (first m) v ends (omega arith) t _ (omega arith) (in-file (first m) (v - m .vmaddr) (omega arith) (omega arith)) in
+                  rw (← h) (sym (holds v (omega arith) t))
+              | no t ↦ rw (← above (first m) v ends (omega arith) (omega arith))
+            ]
+      ]
+
+  pub mapped : Mapped segments m
+  mapped = record { same = mapped-at }
+
+pub empty-mapped : (segments : List ℕ) (m : Mapping) → (m .vmaddr ≡ 0) × (m .size ≡ 0) × (m .fileoff ≡ 0) → Mapped segments m
+empty-mapped segments m e = mapped segments m (omega (arith, e)) (omega (arith, e)) (λ v g h. absurd (omega (arith, e)))
 
 -- a part of a segment, from `start` up to `end`
 pub clipped : (low high : ℕ) (s : Segment) (v : ℕ) → InFile low high s v → (start end size : ℕ) → start ≡ max low (s .vmaddr) → end ≡ min high (s .vmaddr + size)
@@ -181,15 +210,13 @@ module _ (l : List ℕ) (i low high : ℕ)
           ← passes (segmentAt l i) a low′ high′ (ap decided (sym n) ∙ e) (λ g. let x = el .0 g in omega arith) (λ g. let x = eh .0 g in omega arith) v f t,
         )
 
-  pub around-mapped : (a : ℕ) (m : Mapping) → Clipped low high (segmentAt l i) a m → getD l i 0 + getD l (i + 1) 0 < 2 ^ 64 → i + 4 ≤ length l
-      → Mapped (segmentsOf l) m
+  pub around-mapped : (a : ℕ) (m : Mapping) → Clipped low high (segmentAt l i) a m → getD l i 0 + getD l (i + 1) 0 < 2 ^ 64 → i + 4 ≤ length l → Mapped l m
   unfolding fileOffset
-  around-mapped a m w fits h = record {
-    fits = w .fits;
-    holds = λ v f t.
-        let s = segmentAt l i in
-        let d : some (some (m .fileoff + (v - m .vmaddr))) ≡ decides s v =
-        held s v fits (omega (arith, w .from)) (omega (arith, w .to)) _ (omega (arith, w .from, w .to))
-        (ap some (omega (arith, w .from, w .offset)) ∙ in-file s (v - s .vmaddr) (omega (arith, w .from, w .to)) (omega (arith, w .from, w .offset, w .fits))) in
-        inv v (omega (arith, w .from)) (omega (arith, w .to)) ∙ rw (segments-step l i 0 h, ← d);
-  }
+  around-mapped a m w fits h =
+      mapped l m (omega (arith, w .to)) (w .fits)
+      (λ v f t.
+      let s = segmentAt l i in
+      let d : some (some (m .fileoff + (v - m .vmaddr))) ≡ decides s v =
+      held s v fits (omega (arith, w .from)) (omega (arith, w .to)) _ (omega (arith, w .from, w .to))
+      (ap some (omega (arith, w .from, w .offset)) ∙ in-file s (v - s .vmaddr) (omega (arith, w .from, w .to)) (omega (arith, w .from, w .offset, w .fits))) in
+      inv v (omega (arith, w .from)) (omega (arith, w .to)) ∙ rw (segments-step l i 0 h, ← d))

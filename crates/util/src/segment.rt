@@ -2,7 +2,7 @@
 ghost use mathlib.Core.Path.{_≡_};
 ghost use Prim.Native.Nat.{_+_, _≤_, _<_, _^_, min, max};
 ghost use Rattle.util.specs.Segments.{fileOffset, segmentsOf, decides, offsetOf, decided};
-ghost use Rattle.util.specs.Mapping.{InFile, Clipped, Mapped, Located};
+ghost use Rattle.util.specs.Mapping.{InFile, Clipped, Located, led};
 
 pub enum FileOffset {
     At(u64),
@@ -81,7 +81,7 @@ pub enum Around {
 
 impl Mapping {
     pub fn empty() -> Mapping
-        ensures { λ r. ⌜ (r .size ≡ 0) × (r .fileoff ≡ 0) ⌝ }
+        ensures { λ r. ⌜ (r .vmaddr ≡ 0) × (r .size ≡ 0) × (r .fileoff ≡ 0) ⌝ }
     {
         Mapping {
             vmaddr: 0,
@@ -158,7 +158,7 @@ fn clip(
 
 // What is in the file around an address: of its segment, the addresses of which no earlier segment decides.
 pub fn locate(segments: &[u64], address: u64) -> Around
-    ensures { λ r. ⌜ Located (segmentsOf (now (segments .entry))) address r ⌝ }
+    ensures { λ r. ⌜ Located (now (segments .entry)) address r ⌝ }
 {
     let mut low = 0;
     let mut high = u64::MAX;
@@ -196,16 +196,19 @@ pub fn locate(segments: &[u64], address: u64) -> Around
     Around::Nothing
 }
 
-// The file offset of an address, with no walk over the segments where the mapping has it.
+// The file offset of an address, with no walk over the segments where the mapping has it: the mapping is asked as a segment before them.
 pub fn vm_to_file_offset_near(segments: &[u64], mapping: Mapping, vmaddr: u64) -> FileOffset
-    requires { ⌜ Mapped (segmentsOf (now segments)) mapping ⌝ }
-    ensures { λ r. ⌜ offsetOf r ≡ fileOffset (segmentsOf (now (segments .entry))) vmaddr ⌝ }
+    ensures { λ r. ⌜ offsetOf r ≡ fileOffset (segmentsOf (led mapping (now (segments .entry)))) vmaddr ⌝ }
 {
-    if mapping.vmaddr <= vmaddr {
-        let delta = vmaddr - mapping.vmaddr;
-        if delta < mapping.size {
-            return FileOffset::At(mapping.fileoff + delta);
-        }
+    let found = look_up(
+        mapping.vmaddr,
+        mapping.size,
+        mapping.fileoff,
+        mapping.size,
+        vmaddr,
+    );
+    match found {
+        Lookup::Answer(offset) => offset,
+        Lookup::Next => vm_to_file_offset_in(segments, vmaddr),
     }
-    vm_to_file_offset_in(segments, vmaddr)
 }

@@ -3,7 +3,7 @@
 use Rattle.util.specs.Answers.{told}
 use Rattle.util.specs.MappingLaws.{empty-mapped}
 use Rattle.parent.specs.Context.{headerOf}
-use Rattle.parent.specs.ContextLaws.{no-context, context-at}
+use Rattle.parent.specs.ContextLaws.{no-context-near, context-near}
 use borrow.Author.Needs.{needs}
 use Rattle.parent.proofs.header.read_context.Statement.{statement}
 use Rattle.parent.proofs.header.read_context.Tie as tie
@@ -17,25 +17,25 @@ empty-requires : tie.Need-empty-requires
 empty-requires c κs = search needs
 
 read-header-requires : tie.Need-read-header-requires
-read-header-requires c κs = empty-mapped _ _ (c .empty .ensures .0) (c .empty .ensures .1)
+read-header-requires c κs = search needs
 
 enum-known-flags : tie.Need-enum-known-flags
 enum-known-flags c = search needs
 
 read-context-name-requires : tie.Need-read-context-name-requires
-read-context-name-requires c κs =
-    empty-mapped _ _ (c .before .before .before .before .empty .ensures .0) (c .before .before .before .before .empty .ensures .1)
+read-context-name-requires c κs = search needs
 
 enum-told : tie.Need-enum-told
 enum-told c = search needs
 
 returns : tie.Need-returns
 returns c =
-    context-at _ _ _ _ _ (told (headerOf _) (c .before .before .before .before .read-header .ensures) (c .before .before .flags .given .1))
+    context-near _ _ _ _ (empty-mapped _ _ (c .before .before .before .before .before .empty .ensures)) _ _ (told (headerOf _) (c .before .before .before .before .read-header .ensures) (c .before .before .flags .given .1))
     (c .read-context-name .ensures .0)
 
 returns-2 : tie.Need-returns-2
-returns-2 c = no-context _ _ _ (told (headerOf _) (c .before .before .read-header .ensures) (c .enum-told .given .1))
+returns-2 c =
+    no-context-near _ _ _ _ (empty-mapped _ _ (c .before .before .before .empty .ensures)) (told (headerOf _) (c .before .before .read-header .ensures) (c .enum-told .given .1))
 
 pub read-context-spec : {M : Type 1} → statement M
 read-context-spec =

@@ -6,7 +6,7 @@ use mathlib.Core.Path.{_≡_, refl}
 use lib.ListN.{length}
 use Rattle.util.specs.Answers.{told}
 use Rattle.parent.specs.Context.{headerOf, nameRead}
-use Rattle.parent.specs.ContextLaws.{inside-as, no-context, context-at}
+use Rattle.parent.specs.ContextLaws.{inside-as, no-context-near, context-near}
 use Rattle.parent.specs.Walk.{Block}
 use Rattle.parent.specs.WalkLaws.{no-block, block-ends, block-full, block-deep, block-unnamed, block-named}
 use Rattle.parent.proofs.name.collect.Statement.{statement}
@@ -37,7 +37,7 @@ same-length-2 c = search needs
 
 returns : tie.Need-returns Inv-loop μ-loop
 returns c =
-    block-deep _ _ _ _ _ _ _ _ _ _ _ (c .before .before .before .before .before .before .loop .inv .2) _ (context-at _ _ _ _ _ (told (headerOf _) (c .before .before .before .before .read-header .ensures) (c .before .before .flags .given .1)) refl) (c .if1 .taken)
+    block-deep _ _ _ _ _ _ _ _ _ _ _ (c .before .before .before .before .before .before .loop .inv .2) _ (context-near _ _ _ _ (c .before .before .before .before .before .before .before .before .before .before .before .pre .0) _ _ (told (headerOf _) (c .before .before .before .before .read-header .ensures) (c .before .before .flags .given .1)) refl) (c .if1 .taken)
 
 sub-allowed : tie.Need-sub-allowed Inv-loop μ-loop
 sub-allowed c = search needs
@@ -77,7 +77,7 @@ loop-again : tie.Need-loop-again Inv-loop μ-loop
 loop-again c = (
   search needs,
   search needs,
-  block-named _ _ _ _ _ _ _ _ _ _ _ (c .before .before .before .before .before .before .before .before .before .before .before .loop .inv .2) _ _ _ (context-at _ _ _ _ _ (told (headerOf _) (c .before .before .before .before .before .before .before .before .before .read-header .ensures) (c .before .before .before .before .before .before .before .flags .given .1)) (told (nameRead _) (c .before .before .before .before .read-context-name .ensures .0) (c .before .before .place .given .1))) _
+  block-named _ _ _ _ _ _ _ _ _ _ _ (c .before .before .before .before .before .before .before .before .before .before .before .loop .inv .2) _ _ _ (context-near _ _ _ _ (c .before .before .before .before .before .before .before .before .before .before .before .before .before .before .before .before .pre .0) _ _ (told (headerOf _) (c .before .before .before .before .before .before .before .before .before .read-header .ensures) (c .before .before .before .before .before .before .before .flags .given .1)) (told (nameRead _) (c .before .before .before .before .read-context-name .ensures .0) (c .before .before .place .given .1))) _
       (c .saturating-add .ensures) (inside-as _ _ _ (c .before .before .before .before .read-context-name .ensures .1) (c .before .before .place .given .1)) (omega arith) (omega arith) (omega arith) (omega arith),
 )
 
@@ -91,7 +91,7 @@ loop-again-2 : tie.Need-loop-again-2 Inv-loop μ-loop
 loop-again-2 c = (
   search needs,
   search needs,
-  block-unnamed _ _ _ _ _ _ _ _ _ _ _ (c .before .before .before .before .before .before .before .before .before .loop .inv .2) _ (context-at _ _ _ _ _ (told (headerOf _) (c .before .before .before .before .before .before .before .read-header .ensures) (c .before .before .before .before .before .flags .given .1)) (told (nameRead _) (c .before .before .read-context-name .ensures .0) (c .enum-told .given .1)))
+  block-unnamed _ _ _ _ _ _ _ _ _ _ _ (c .before .before .before .before .before .before .before .before .before .loop .inv .2) _ (context-near _ _ _ _ (c .before .before .before .before .before .before .before .before .before .before .before .before .before .before .pre .0) _ _ (told (headerOf _) (c .before .before .before .before .before .before .before .read-header .ensures) (c .before .before .before .before .before .flags .given .1)) (told (nameRead _) (c .before .before .read-context-name .ensures .0) (c .enum-told .given .1)))
       (omega arith),
 )
 
@@ -105,7 +105,7 @@ same-length-4 : tie.Need-same-length-4 Inv-loop μ-loop
 same-length-4 c = search needs
 
 returns-2 : tie.Need-returns-2 Inv-loop μ-loop
-returns-2 c = block-ends _ _ _ _ _ _ _ _ _ _ _ (c .before .before .before .before .loop .inv .2) (no-context _ _ _ (told (headerOf _) (c .before .before .read-header .ensures) (c .enum-told2 .given .1)))
+returns-2 c = block-ends _ _ _ _ _ _ _ _ _ _ _ (c .before .before .before .before .loop .inv .2) (no-context-near _ _ _ _ (c .before .before .before .before .before .before .before .before .before .pre .0) (told (headerOf _) (c .before .before .read-header .ensures) (c .enum-told2 .given .1)))
 
 same-length-5 : tie.Need-same-length-5 Inv-loop μ-loop
 same-length-5 c = search needs

@@ -1,6 +1,8 @@
 -- `runtime::reads::find_bytes` meets its contract: an empty mapping says nothing.
 -- Assumes nothing.
+use mathlib.Core.Path.{_∙_}
 use Rattle.util.specs.MappingLaws.{empty-mapped}
+use Rattle.runtime.specs.CallsLaws.{place-mapped}
 use borrow.Author.Needs.{needs}
 use Rattle.runtime.proofs.reads.find_bytes.Statement.{statement}
 use Rattle.runtime.proofs.reads.find_bytes.Tie as tie
@@ -13,10 +15,10 @@ empty-requires : tie.Need-empty-requires
 empty-requires c κs = search needs
 
 find-bytes-near-requires : tie.Need-find-bytes-near-requires
-find-bytes-near-requires c κs = empty-mapped _ _ (c .empty .ensures .0) (c .empty .ensures .1)
+find-bytes-near-requires c κs = search needs
 
 returns : tie.Need-returns
-returns c = search needs
+returns c = c .find-bytes-near .ensures ∙ place-mapped _ _ _ (empty-mapped _ _ (c .before .empty .ensures)) _ _
 
 pub find-bytes-spec : {M : Type 1} → statement M
 find-bytes-spec = tie.close (tie.spec empty-requires find-bytes-near-requires returns)

@@ -1,6 +1,8 @@
 -- `runtime::reads::read_bytes` meets its contract: an empty mapping says nothing.
 -- Assumes nothing.
+use mathlib.Core.Path.{_∙_}
 use Rattle.util.specs.MappingLaws.{empty-mapped}
+use Rattle.runtime.specs.CallsLaws.{read-mapped}
 use borrow.Author.Needs.{needs}
 use Rattle.runtime.proofs.reads.read_bytes.Statement.{statement}
 use Rattle.runtime.proofs.reads.read_bytes.Tie as tie
@@ -13,10 +15,10 @@ empty-requires : tie.Need-empty-requires
 empty-requires c κs = search needs
 
 read-bytes-near-requires : tie.Need-read-bytes-near-requires
-read-bytes-near-requires c κs = empty-mapped _ _ (c .empty .ensures .0) (c .empty .ensures .1)
+read-bytes-near-requires c κs = search needs
 
 returns : tie.Need-returns
-returns c = search needs
+returns c = c .read-bytes-near .ensures ∙ read-mapped _ _ _ (empty-mapped _ _ (c .before .empty .ensures)) _ _
 
 pub read-bytes-spec : {M : Type 1} → statement M
 read-bytes-spec = tie.close (tie.spec empty-requires read-bytes-near-requires returns)

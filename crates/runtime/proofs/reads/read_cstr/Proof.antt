@@ -1,6 +1,8 @@
 -- `runtime::reads::read_cstr` meets its contract: an empty mapping says nothing.
 -- Assumes nothing.
+use mathlib.Core.Path.{_∙_}
 use Rattle.util.specs.MappingLaws.{empty-mapped}
+use Rattle.runtime.specs.CallsLaws.{text-mapped}
 use borrow.Author.Needs.{needs}
 use Rattle.runtime.proofs.reads.read_cstr.Statement.{statement}
 use Rattle.runtime.proofs.reads.read_cstr.Tie as tie
@@ -13,10 +15,10 @@ empty-requires : tie.Need-empty-requires
 empty-requires c κs = search needs
 
 read-cstr-near-requires : tie.Need-read-cstr-near-requires
-read-cstr-near-requires c κs = empty-mapped _ _ (c .empty .ensures .0) (c .empty .ensures .1)
+read-cstr-near-requires c κs = search needs
 
 returns : tie.Need-returns
-returns c = search needs
+returns c = c .read-cstr-near .ensures ∙ text-mapped _ _ _ (empty-mapped _ _ (c .before .empty .ensures)) _
 
 pub read-cstr-spec : {M : Type 1} → statement M
 read-cstr-spec = tie.close (tie.spec empty-requires read-cstr-near-requires returns)
