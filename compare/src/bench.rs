@@ -186,7 +186,7 @@ fn listing(input: &Input) -> Times {
                     row.length,
                     &mut buffer,
                 );
-                sum += black_box(name)[1] as usize;
+                sum += black_box(name[1]) as usize;
                 black_box(&buffer);
             }
         },

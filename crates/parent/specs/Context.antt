@@ -43,9 +43,12 @@ slotName v h =
     cond (eqb (unsignedIn 4 h 0) 0) nothing
     (text (relativePointer v (signedIn 4 h 0)) (λ p t. done (record { place = p; bytes = t })))
 
+unfoldable pub nameAt : ℕ → Reads Name
+nameAt a = cond (leb (2 ^ 64) (a + 8)) nothing (bytes (a + 8) 4 (slotName (a + 8)))
+
 -- modules, extensions, protocols and the three types have a name
 unfoldable pub name : ℕ → ℕ → Reads Name
-name a flags = cond (named (contextKind flags)) (cond (leb (2 ^ 64) (a + 8)) nothing (bytes (a + 8) 4 (slotName (a + 8)))) nothing
+name a flags = cond (named (contextKind flags)) (nameAt a) nothing
 
 unfoldable pub contextName : List ℕ → List ℕ → ℕ → ℕ → Option Name
 contextName image segments a flags = run image segments (name a flags)

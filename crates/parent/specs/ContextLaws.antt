@@ -20,52 +20,48 @@ use Rattle.util.specs.Mapping.{led, Mapped}
 use Rattle.util.specs.declared.segment.Mapping.{Mapping}
 use Rattle.runtime.specs.CallsLaws.{text-within, bytes-nowhere, read-nothing, run-bytes, run-no-bytes, run-text, run-no-text, run-mapped}
 use Rattle.context.specs.Context.{contextKind, named}
-use Rattle.context.specs.declared.descriptor.ContextDescriptorKind.{ContextDescriptorKind}
-use Rattle.parent.specs.Context.{Name, Header, headed, header, slotName, name, contextName, Context, contextRead, nameRead, Inside}
+use Rattle.parent.specs.Context.{Name, Header, headed, header, slotName, nameAt, name, contextName, Context, contextRead, nameRead, Inside}
 use Rattle.parent.specs.Chain.{chain, Step, chainStep}
 
 -- ---- the name
 
--- the test on a context's kind
-pub named-is : (r b : Bool) (k j : ContextDescriptorKind) → r ≡ named k → k ≡ j → r ≡ b → named j ≡ b
-named-is r b k j e f t = ap named (sym f) ∙ sym e ∙ t
-
-module _ (image segments : List ℕ) (a flags : ℕ) where
-  pub unnamed : named (contextKind flags) ≡ false → none ≡ contextName image segments a flags
-  unfolding contextName name run
-  unnamed e = rw e
-
-  module _ (e : named (contextKind flags) ≡ true) where
-    pub name-wraps : 2 ^ 64 ≤ a + 8 → none ≡ contextName image segments a flags
+module _ (image segments : List ℕ) (a : ℕ) where
+  module _ (flags : ℕ) (r : Bool) (e : r ≡ named (contextKind flags)) where
+    pub unnamed : r ≡ false → none ≡ contextName image segments a flags
     unfolding contextName name run
-    name-wraps w = rw e (simp (le-leb (2 ^ 64) (a + 8) w))
+    unnamed t = rw (← e, t)
 
-    module _ (h : List ℕ) (eh : h ≡ bytesRead image segments (a + 8) 4) where
-      pub no-slot : length h < 4 → a + 8 < 2 ^ 64 → none ≡ contextName image segments a flags
-      unfolding contextName name
-      no-slot l w = rw e (simp (lt-leb (2 ^ 64) (a + 8) w) (sym (run-no-bytes image segments (a + 8) 4 (slotName (a + 8)) h eh l)))
+    pub is-named : r ≡ true → (n : Option Name) → n ≡ run image segments (nameAt a) → n ≡ contextName image segments a flags
+    unfolding contextName name
+    is-named t n f = f ∙ rw (← e, t)
 
-      slot : 4 ≤ length h → a + 8 < 2 ^ 64 → contextName image segments a flags ≡ run image segments (slotName (a + 8) h)
-      unfolding contextName name
-      slot l w = rw e (simp (lt-leb (2 ^ 64) (a + 8) w) (run-bytes image segments (a + 8) 4 (slotName (a + 8)) h eh (omega arith) l))
+  pub name-wraps : 2 ^ 64 ≤ a + 8 → none ≡ run image segments (nameAt a)
+  unfolding nameAt run
+  name-wraps w = simp (le-leb (2 ^ 64) (a + 8) w)
 
-      pub no-offset : unsignedIn 4 h 0 ≡ 0 → 4 ≤ length h → a + 8 < 2 ^ 64 → none ≡ contextName image segments a flags
-      unfolding slotName run
-      no-offset z l w = rw (slot l w) (simp z)
+  module _ (h : List ℕ) (eh : h ≡ bytesRead image segments (a + 8) 4) where
+    pub no-slot : length h < 4 → a + 8 < 2 ^ 64 → none ≡ run image segments (nameAt a)
+    unfolding nameAt
+    no-slot l w = simp (lt-leb (2 ^ 64) (a + 8) w) (sym (run-no-bytes image segments (a + 8) 4 (slotName (a + 8)) h eh l))
 
-      pub name-at : (v : ℕ) (r : Text) → (unsignedIn 4 h 0 ≡ 0 → ⊥) → v ≡ relativePointer (a + 8) (signedIn 4 h 0) → textOf r ≡ textPlace image segments v
-          → 4 ≤ length h → a + 8 < 2 ^ 64 → nameRead image r ≡ contextName image segments a flags
-      unfolding slotName run
-      name-at v (Text.At o n) z ev er l w = rw (slot l w) (simp (ne-eqb (unsignedIn 4 h 0) 0 z) (rw (← ev) (sym (run-text image segments v (λ p t. done (record { place = p; bytes = t })) (place o n) er))))
-      name-at v Text.Nothing z ev er l w = rw (slot l w) (simp (ne-eqb (unsignedIn 4 h 0) 0 z) (rw (← ev) (sym (run-no-text image segments v (λ p t. done (record { place = p; bytes = t })) er))))
+    slot : 4 ≤ length h → a + 8 < 2 ^ 64 → run image segments (nameAt a) ≡ run image segments (slotName (a + 8) h)
+    unfolding nameAt
+    slot l w = simp (lt-leb (2 ^ 64) (a + 8) w) (run-bytes image segments (a + 8) 4 (slotName (a + 8)) h eh (omega arith) l)
+
+    pub no-offset : unsignedIn 4 h 0 ≡ 0 → 4 ≤ length h → a + 8 < 2 ^ 64 → none ≡ run image segments (nameAt a)
+    unfolding slotName run
+    no-offset z l w = rw (slot l w) (simp z)
+
+    pub name-at : (v : ℕ) (r : Text) → (unsignedIn 4 h 0 ≡ 0 → ⊥) → v ≡ relativePointer (a + 8) (signedIn 4 h 0) → textOf r ≡ textPlace image segments v
+        → 4 ≤ length h → a + 8 < 2 ^ 64 → nameRead image r ≡ run image segments (nameAt a)
+    unfolding slotName run
+    name-at v (Text.At o n) z ev er l w = rw (slot l w) (simp (ne-eqb (unsignedIn 4 h 0) 0 z) (rw (← ev) (sym (run-text image segments v (λ p t. done (record { place = p; bytes = t })) (place o n) er))))
+    name-at v Text.Nothing z ev er l w = rw (slot l w) (simp (ne-eqb (unsignedIn 4 h 0) 0 z) (rw (← ev) (sym (run-no-text image segments v (λ p t. done (record { place = p; bytes = t })) er))))
 
 -- a text that was read
 pub inside : (image segments : List ℕ) (v : ℕ) (r : Text) → textOf r ≡ textPlace image segments v → Inside image r
 inside image segments v (Text.At o n) e = text-within image segments v (place o n) e
 inside image segments v Text.Nothing e = tt
-
-pub inside-as : (image : List ℕ) (r t : Text) → Inside image r → r ≡ t → Inside image t
-inside-as image r t h e = subst (Inside image) e h
 
 -- ---- the context
 

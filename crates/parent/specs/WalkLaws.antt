@@ -95,10 +95,6 @@ pub context-located : (segments : List ℕ) (a : ℕ) (r : Around) → (a ≡ 0 
 context-located segments a (Around.Mapping m) z h = h .0
 context-located segments a Around.Nothing z h = λ image. nowhere image segments a z h
 
--- what the case of an answer says
-pub located-as : (segments : List ℕ) (a : ℕ) (r v : Around) → ContextLocated segments a r → r ≡ v → ContextLocated segments a v
-located-as segments a r v h e = subst (λ (x : Around). ContextLocated segments a x) e h
-
 module _ (image segments : List ℕ) (left a rest : ℕ) (places lengths : List ℕ) (count left′ a′ rest′ : ℕ) (b : Block image segments left a rest places lengths count left′ a′ rest′) where
   pub block-ends : none ≡ contextRead image segments a′ → Last image segments left a rest places lengths count rest′
   block-ends e =
@@ -197,11 +193,6 @@ module _ (image places lengths : List ℕ) (count : ℕ) (b : List ℕ) (at k en
       put-length b (u .text) b′ at end (u .put) (omega arith)
 
 -- ---- the answers
-
--- what the case of an answer says
-pub walked-as : (image segments : List ℕ) (left a rest : ℕ) (places lengths : List ℕ) (w v : Walk) → Walked image segments left a rest places lengths w → w ≡ v
-    → Walked image segments left a rest places lengths v
-walked-as image segments left a rest places lengths w v h e = subst (λ (x : Walk). Walked image segments left a rest places lengths x) e h
 
 pub walk-deep : (image segments : List ℕ) (left a rest size : ℕ) → tooDeep image segments left a ≡ true → refused 4 ≡ hopsAnswer image segments left a rest size
 unfolding hopsAnswer

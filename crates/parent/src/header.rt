@@ -2,7 +2,8 @@ ghost use mathlib.Core.Path.{_≡_};
 ghost use Rattle.util.specs.Mapping.{led};
 ghost use Rattle.runtime.specs.Reads.{run};
 ghost use Rattle.parent.specs.Walk.{ContextLocated};
-ghost use Rattle.parent.specs.Context.{header, headerOf, contextRead, contextOf, contextName, nameRead, Inside};
+ghost use Rattle.parent.specs.Context.{header, headerOf, contextRead, contextOf, nameAt, nameRead, Inside};
+ghost use Rattle.context.specs.Context.{contextKind, named};
 use context::ContextDescriptorFlags;
 use util::Around;
 use util::Mapping;
@@ -62,20 +63,23 @@ pub fn read_header(
     }
 }
 
+// Whether a context with these flags has a name.
+pub fn has_name(flags: u32) -> bool
+    ensures { λ r. ⌜ r ≡ named (contextKind flags) ⌝ }
+{
+    ContextDescriptorFlags(flags).kind().has_name()
+}
+
 // The name that the word after the context's header refers to. An offset of 0 is no name.
 pub fn read_context_name(
     image: &[u8],
     segments: &[u64],
     mapping: Mapping,
     descriptor_va: u64,
-    flags: u32,
 ) -> Text
-    ensures { λ r. ⌜ nameRead (now (image .entry)) r ≡ contextName (now (image .entry)) (led mapping (now (segments .entry))) «descriptor_va» flags ⌝ }
+    ensures { λ r. ⌜ nameRead (now (image .entry)) r ≡ run (now (image .entry)) (led mapping (now (segments .entry))) (nameAt «descriptor_va») ⌝ }
     ensures { λ r. ⌜ Inside (now (image .entry)) r ⌝ }
 {
-    if !ContextDescriptorFlags(flags).kind().has_name() {
-        return Text::Nothing;
-    }
     if descriptor_va > 0xffff_ffff_ffff_fff7 {
         return Text::Nothing;
     }
@@ -96,12 +100,19 @@ pub fn read_context(image: &[u8], segments: &[u64], descriptor_va: u64) -> Conte
 {
     let mapping = Mapping::empty();
     match read_header(image, segments, mapping, descriptor_va) {
-        HeaderRead::Header { flags, parent } => ContextRead::Context(ParentContext {
-            address: descriptor_va,
-            flags,
-            parent,
-            name: read_context_name(image, segments, mapping, descriptor_va, flags),
-        }),
+        HeaderRead::Header { flags, parent } => {
+            let name = if has_name(flags) {
+                read_context_name(image, segments, mapping, descriptor_va)
+            } else {
+                Text::Nothing
+            };
+            ContextRead::Context(ParentContext {
+                address: descriptor_va,
+                flags,
+                parent,
+                name,
+            })
+        }
         HeaderRead::Nothing => ContextRead::Nothing,
     }
 }

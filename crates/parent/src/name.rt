@@ -8,6 +8,7 @@ ghost use Rattle.typedescriptor.specs.Row.{rowOf};
 ghost use Rattle.util.specs.Buffer.{Put};
 ghost use Rattle.util.specs.Mapping.{Mapped};
 use crate::header::HeaderRead;
+use crate::header::has_name;
 use crate::header::locate_context;
 use crate::header::read_context_name;
 use crate::header::read_header;
@@ -83,18 +84,18 @@ fn collect(
                     return Walk::TooDeep;
                 }
                 allowed -= 1;
-                match read_context_name(image, segments, mapping, next, flags) {
-                    Text::At { place, length } => {
-                        places[count] = place;
-                        lengths[count] = length;
-                        room = saturating_add(room, length + 1);
-                        count += 1;
-                        next = parent;
-                    }
-                    Text::Nothing => {
-                        next = parent;
+                if has_name(flags) {
+                    match read_context_name(image, segments, mapping, next) {
+                        Text::At { place, length } => {
+                            places[count] = place;
+                            lengths[count] = length;
+                            room = saturating_add(room, length + 1);
+                            count += 1;
+                        }
+                        Text::Nothing => {}
                     }
                 }
+                next = parent;
             }
             HeaderRead::Nothing => {
                 return Walk::Ended { count, room };

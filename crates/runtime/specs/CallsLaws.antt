@@ -128,24 +128,31 @@ module _ (image segments : List ℕ) (a : ℕ) where
     unfolding textPlace textOffset
     text-nowhere e = simp (ne-eqb a 0 h) (rw (← e))
 
-  -- a text that was looked up at an offset lies within the image, and its bytes are those before the NUL
-  found-there : (o : ℕ) (p : Place) → textAt image o ≡ some p → (p .start + p .size ≤ length image) × (untilNul (drop o image) ≡ partOf image p)
+  -- a text that was looked up at an offset lies there, within the image, and its bytes are those before the NUL
+  abbrev There : ℕ → Place → Type 0
+  There o p = (p .start + p .size ≤ length image) × (untilNul (drop o image) ≡ partOf image p) × (place o (p .size) ≡ p)
+
+  found-there : (o : ℕ) (p : Place) → textAt image o ≡ some p → There o p
   unfolding textAt
   found-there o p e = go (decLe o (length image))
     where
       at : o ≤ length image → (x : Option ℕ) → textLength (drop o image) ≡ x → Option·map (place o) x ≡ some p
-          → (p .start + p .size ≤ length image) × (untilNul (drop o image) ≡ partOf image p)
+          → There o p
       at h none t f = let z : _≡_ {A = ℕ} 0 1 = cc in absurd (omega arith)
       at h (some n) t f =
           let q : p ≡ place o n = cc in
           let fits : o + n ≤ length image = omega (arith, simp length-drop at (text-length-le (drop o image) n t)) in
-          (rw q fits, sym (text-bytes (drop o image) n t) ∙ sym (part-in image o n fits) ∙ ap (partOf image) (sym q))
+          (rw q fits, sym (text-bytes (drop o image) n t) ∙ sym (part-in image o n fits) ∙ ap (partOf image) (sym q), rw q)
 
-      go : Dec (o ≤ length image) → (p .start + p .size ≤ length image) × (untilNul (drop o image) ≡ partOf image p)
+      go : Dec (o ≤ length image) → There o p
       go (yes h) = at h (textLength (drop o image)) refl (simp (le-leb o (length image) h) at e)
       go (no h) =
           let f : _≡_ {A = Option Place} none (some p) = simp (lt-leb o (length image) (omega arith)) at e in
           let z : _≡_ {A = ℕ} 0 1 = cc in absurd (omega arith)
+
+  pub text-there : (a ≡ 0 → ⊥) → (o : ℕ) (p : Place) → some o ≡ fileOffset (segmentsOf segments) a → some p ≡ textAt image o
+      → some (place o (p .size)) ≡ textPlace image segments a
+  text-there h o p e t = ap some (found-there o p (sym t) .2) ∙ text-at h o (some p) e t
 
   pub text-within : (p : Place) → some p ≡ textPlace image segments a → p .start + p .size ≤ length image
   unfolding textPlace

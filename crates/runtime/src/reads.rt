@@ -68,12 +68,15 @@ pub fn read_cstr_near(image: &[u8], segments: &[u64], mapping: Mapping, vmaddr: 
     if vmaddr == 0 {
         return Text::Nothing;
     }
-    // The answer is taken apart, so that place and length pass as numbers and not by a copy.
     match util::vm_to_file_offset_near(segments, mapping, vmaddr) {
-        FileOffset::At(offset) => match util::read_cstr_at(image, offset as usize) {
-            Text::At { place, length } => Text::At { place, length },
-            Text::Nothing => Text::Nothing,
-        },
+        FileOffset::At(offset) => {
+            let off = offset as usize;
+            // The place is `off`, and is given as that: copied from the answer it would be waited for, together with the length.
+            match util::read_cstr_at(image, off) {
+                Text::At { place: _, length } => Text::At { place: off, length },
+                Text::Nothing => Text::Nothing,
+            }
+        }
         FileOffset::Nothing => Text::Nothing,
     }
 }

@@ -3,12 +3,13 @@
 use Rattle.util.specs.Answers.{told}
 use Rattle.util.specs.MappingLaws.{empty-mapped}
 use Rattle.parent.specs.Context.{headerOf}
-use Rattle.parent.specs.ContextLaws.{no-context-near, context-near}
+use Rattle.parent.specs.ContextLaws.{unnamed, is-named, no-context-near, context-near}
 use borrow.Author.Needs.{needs}
 use Rattle.parent.proofs.header.read_context.Statement.{statement}
 use Rattle.parent.proofs.header.read_context.Tie as tie
 use Rattle.parent.proofs.header.read_context.Reads as reads
 use Rattle.parent.proofs.header.read_context.Lts as lts
+use Rattle.parent.proofs.header.has_name.Reads as has-name-reads
 use Rattle.parent.proofs.header.read_context_name.Reads as read-context-name-reads
 use Rattle.parent.proofs.header.read_header.Reads as read-header-reads
 use Rattle.util.proofs.segment.Mapping.empty.Reads as empty-reads
@@ -22,6 +23,9 @@ read-header-requires c κs = search needs
 enum-known-flags : tie.Need-enum-known-flags
 enum-known-flags c = search needs
 
+has-name-requires : tie.Need-has-name-requires
+has-name-requires c κs = search needs
+
 read-context-name-requires : tie.Need-read-context-name-requires
 read-context-name-requires c κs = search needs
 
@@ -30,11 +34,16 @@ enum-told c = search needs
 
 returns : tie.Need-returns
 returns c =
-    context-near _ _ _ _ (empty-mapped _ _ (c .before .before .before .before .before .empty .ensures)) _ _ (told (headerOf _) (c .before .before .before .before .read-header .ensures) (c .before .before .flags .given .1))
-    (c .read-context-name .ensures .0)
+    context-near _ _ _ _ (empty-mapped _ _ (c .before .before .before .before .before .before .before .empty .ensures)) _ _ (told (headerOf _) (c .before .before .before .before .before .before .read-header .ensures) (c .before .before .before .before .flags .given .1))
+    (is-named _ _ _ _ _ (c .before .before .has-name .ensures) (c .before .if1 .taken) _ (c .read-context-name .ensures .0))
 
 returns-2 : tie.Need-returns-2
 returns-2 c =
+    context-near _ _ _ _ (empty-mapped _ _ (c .before .before .before .before .before .before .empty .ensures)) _ _ (told (headerOf _) (c .before .before .before .before .before .read-header .ensures) (c .before .before .before .flags .given .1))
+    (unnamed _ _ _ _ _ (c .before .has-name .ensures) (c .if1 .left))
+
+returns-3 : tie.Need-returns-3
+returns-3 c =
     no-context-near _ _ _ _ (empty-mapped _ _ (c .before .before .before .empty .ensures)) (told (headerOf _) (c .before .before .read-header .ensures) (c .enum-told .given .1))
 
 pub read-context-spec : {M : Type 1} → statement M
@@ -44,7 +53,9 @@ read-context-spec =
     empty-requires
     read-header-requires
     enum-known-flags
+    has-name-requires
     read-context-name-requires
     enum-told
     returns
-    returns-2)
+    returns-2
+    returns-3)

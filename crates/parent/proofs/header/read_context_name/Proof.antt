@@ -1,32 +1,20 @@
--- `parent::header::read_context_name` meets its contract: each `return` is a case of `name`.
+-- `parent::header::read_context_name` meets its contract: each `return` is a case of `nameAt`.
 -- Assumes nothing.
 use native.Mathlib.Omega.{arith}
 use mathlib.Core.Path.{sym, _∙_}
-use borrow.Author.Tests.{not-true, not-false}
-use Rattle.parent.specs.ContextLaws.{inside, named-is, unnamed, name-wraps, no-slot, no-offset, name-at}
+use Rattle.parent.specs.ContextLaws.{inside, name-wraps, no-slot, no-offset, name-at}
 use borrow.Author.Needs.{needs}
 use Rattle.parent.proofs.header.read_context_name.Statement.{statement}
 use Rattle.parent.proofs.header.read_context_name.Tie as tie
 use Rattle.parent.proofs.header.read_context_name.Reads as reads
 use Rattle.parent.proofs.header.read_context_name.Lts as lts
-use Rattle.context.proofs.descriptor.ContextDescriptorFlags.kind.Reads as kind-reads
-use Rattle.context.proofs.descriptor.ContextDescriptorKind.has_name.Reads as has-name-reads
 use Rattle.runtime.proofs.read_bytes_near.Reads as read-bytes-near-reads
 use Rattle.runtime.proofs.read_cstr_near.Reads as read-cstr-near-reads
 use Rattle.util.proofs.pointer_in.Reads as pointer-in-reads
 use Rattle.util.proofs.u32_at.Reads as u32-at-reads
 
-kind-requires : tie.Need-kind-requires
-kind-requires c κs = search needs
-
-has-name-requires : tie.Need-has-name-requires
-has-name-requires c κs = search needs
-
 returns : tie.Need-returns
-returns c = (unnamed _ _ _ _ (named-is _ _ _ _ (c .before .has-name .ensures) (c .before .before .kind .ensures) (not-true _ (c .if1 .taken))), tt)
-
-returns-2 : tie.Need-returns-2
-returns-2 c = (name-wraps _ _ _ _ (named-is _ _ _ _ (c .before .before .has-name .ensures) (c .before .before .before .kind .ensures) (not-false _ (c .before .if1 .left))) (omega arith), tt)
+returns c = (name-wraps _ _ _ (omega arith), tt)
 
 add-slot-va : tie.Need-add-slot-va
 add-slot-va c = search needs
@@ -34,16 +22,15 @@ add-slot-va c = search needs
 read-bytes-near-requires : tie.Need-read-bytes-near-requires
 read-bytes-near-requires c κs = search needs
 
-returns-3 : tie.Need-returns-3
-returns-3 c = (no-slot _ _ _ _ (named-is _ _ _ _ (c .before .before .before .before .has-name .ensures) (c .before .before .before .before .before .kind .ensures) (not-false _ (c .before .before .before .if1 .left))) _ (c .before .read-bytes-near .ensures) (omega arith) (omega arith), tt)
+returns-2 : tie.Need-returns-2
+returns-2 c = (no-slot _ _ _ _ (c .before .read-bytes-near .ensures) (omega arith) (omega arith), tt)
 
 u32-at-requires : tie.Need-u32-at-requires
 u32-at-requires c κs = search needs
 
-returns-4 : tie.Need-returns-4
-returns-4 c = (
-  no-offset _ _ _ _ (named-is _ _ _ _ (c .before .before .before .before .before .before .has-name .ensures) (c .before .before .before .before .before .before .before .kind .ensures) (not-false _ (c .before .before .before .before .before .if1 .left))) _ (c .before .before .before .read-bytes-near .ensures)
-      (sym (c .before .u32-at .ensures) ∙ c .if4 .taken) (omega arith) (omega arith),
+returns-3 : tie.Need-returns-3
+returns-3 c = (
+  no-offset _ _ _ _ (c .before .before .before .read-bytes-near .ensures) (sym (c .before .u32-at .ensures) ∙ c .if3 .taken) (omega arith) (omega arith),
   tt,
 )
 
@@ -53,10 +40,10 @@ pointer-in-requires c κs = search needs
 read-cstr-near-requires : tie.Need-read-cstr-near-requires
 read-cstr-near-requires c κs = search needs
 
-returns-5 : tie.Need-returns-5
-returns-5 c = (
-  name-at _ _ _ _ (named-is _ _ _ _ (c .before .before .before .before .before .before .before .before .has-name .ensures) (c .before .before .before .before .before .before .before .before .before .kind .ensures) (not-false _ (c .before .before .before .before .before .before .before .if1 .left))) _ (c .before .before .before .before .before .read-bytes-near .ensures) _ (c .read-cstr-near .result)
-      (λ z. c .before .before .if4 .left (c .before .before .before .u32-at .ensures ∙ z)) (c .before .pointer-in .ensures) (c .read-cstr-near .ensures) (omega arith) (omega arith),
+returns-4 : tie.Need-returns-4
+returns-4 c = (
+  name-at _ _ _ _ (c .before .before .before .before .before .read-bytes-near .ensures) _ (c .read-cstr-near .result) (λ z. c .before .before .if3 .left (c .before .before .before .u32-at .ensures ∙ z)) (c .before .pointer-in .ensures)
+      (c .read-cstr-near .ensures) (omega arith) (omega arith),
   inside _ _ _ (c .read-cstr-near .result) (c .read-cstr-near .ensures),
 )
 
@@ -64,15 +51,12 @@ pub read-context-name-spec : {M : Type 1} → statement M
 read-context-name-spec =
     tie.close
     (tie.spec
-    kind-requires
-    has-name-requires
     returns
-    returns-2
     add-slot-va
     read-bytes-near-requires
-    returns-3
+    returns-2
     u32-at-requires
-    returns-4
+    returns-3
     pointer-in-requires
     read-cstr-near-requires
-    returns-5)
+    returns-4)

@@ -3,10 +3,11 @@
 use borrow.Author.Needs.{needs}
 use native.Mathlib.Omega.{arith}
 use mathlib.Core.Path.{refl, ap}
-use Rattle.util.specs.Answers.{told}
+use Rattle.util.specs.Answers.{told, case}
+use Rattle.parent.specs.Walk.{ContextLocated, Walked}
 use Rattle.parent.specs.Name.{hopsOf}
 use Rattle.parent.specs.NameLaws.{kept, filled-as, refused-as, hops-written}
-use Rattle.parent.specs.WalkLaws.{located-as, walked-as, walk-deep, last-long, last-fits, last-written, last-filled, none-long, none-written, none-filled, further-fits, further-written, further-refused, further-filled}
+use Rattle.parent.specs.WalkLaws.{walk-deep, last-long, last-fits, last-written, last-filled, none-long, none-written, none-filled, further-fits, further-written, further-refused, further-filled}
 use Prim.Native.Nat.{ℕ, _<_}
 use borrow.Fn.Kinds.{In}
 use borrow.Fn.PlainCycle.{Measures, is, falls, and}
@@ -57,14 +58,14 @@ write-hops-slice-aggregate-collect-2 t c = search needs
 
 write-hops-collect-requires : (t : ℕ) → write-hops-lts.Need-collect-requires (claims t) (write-hops-at t) write-hops.Post
 write-hops-collect-requires t c κs =
-    (located-as _ _ _ _ (c .before .before .before .before .before .locate-context .ensures) (c .before .before .before .mapping .given .1), (refl, refl))
+    (case (ContextLocated _ _) (c .before .before .before .before .before .locate-context .ensures) (c .before .before .before .mapping .given .1), (refl, refl))
 
 write-hops-enum-known-count : (t : ℕ) → write-hops-lts.Need-enum-known-count (claims t) (write-hops-at t) write-hops.Post
 write-hops-enum-known-count t c = search needs
 
 write-hops-returns : (t : ℕ) → write-hops-lts.Need-returns (claims t) (write-hops-at t) write-hops.Post
 write-hops-returns t c =
-    let w = walked-as _ _ _ _ _ _ _ _ _ (c .before .before .before .before .before .before .collect .ensures) (c .before .before .count .given .1) in (
+    let w = case (Walked _ _ _ _ _ _ _) (c .before .before .before .before .before .before .collect .ensures) (c .before .before .count .given .1) in (
       last-long _ _ _ _ _ _ _ _ _ w _ (omega arith) (omega (arith, c .before .before .before .before .before .before .before .before .before .before .before .before .before .before .before .before .good)),
       kept _ _ _,
     )
@@ -77,7 +78,7 @@ write-hops-slice-aggregate-put-hops-2 t c = search needs
 
 write-hops-put-hops-requires : (t : ℕ) → write-hops-lts.Need-put-hops-requires (claims t) (write-hops-at t) write-hops.Post
 write-hops-put-hops-requires t c κs =
-    let w = walked-as _ _ _ _ _ _ _ _ _ (c .before .before .before .before .before .before .before .before .before .collect .ensures) (c .before .before .before .before .before .count .given .1) in (
+    let w = case (Walked _ _ _ _ _ _ _) (c .before .before .before .before .before .before .before .before .before .collect .ensures) (c .before .before .before .before .before .count .given .1) in (
       (omega (arith, w .few, c .before .before .before .before .before .before .before .before .before .collect .kept), omega (arith, w .few, c .before .before .before .before .before .before .before .before .before .collect .kept)),
       omega (arith, last-fits _ _ _ _ _ _ _ _ _ w _ (c .before .before .before .if1 .left) (omega (arith, c .before .before .before .before .before .before .before .before .before .before .before .before .before .before .before .before .before .before .before .good))),
     )
@@ -87,7 +88,7 @@ write-hops-enum-known-next t c = search needs
 
 write-hops-write-hops-requires : (t : ℕ) → write-hops-lts.Need-write-hops-requires (claims t) (write-hops-at t) write-hops.Post
 write-hops-write-hops-requires t c κs =
-    let w = walked-as _ _ _ _ _ _ _ _ _ (c .before .before .before .before .before .before .collect .ensures) (c .before .before .next .given .1) in
+    let w = case (Walked _ _ _ _ _ _ _) (c .before .before .before .before .before .before .collect .ensures) (c .before .before .next .given .1) in
     (omega (arith, w .fewer), tt)
 
 write-hops-enum-known-at : (t : ℕ) → write-hops-lts.Need-enum-known-at (claims t) (write-hops-at t) write-hops.Post
@@ -101,7 +102,7 @@ write-hops-slice-aggregate-put-hops-4 t c = search needs
 
 write-hops-put-hops-requires-2 : (t : ℕ) → write-hops-lts.Need-put-hops-requires-2 (claims t) (write-hops-at t) write-hops.Post
 write-hops-put-hops-requires-2 t c κs =
-    let w = walked-as _ _ _ _ _ _ _ _ _ (c .before .before .before .before .before .before .before .before .before .before .before .before .before .before .before .collect .ensures) (c .before .before .before .before .before .before .before .before .before .before .before .next .given .1) in (
+    let w = case (Walked _ _ _ _ _ _ _) (c .before .before .before .before .before .before .before .before .before .before .before .before .before .before .before .collect .ensures) (c .before .before .before .before .before .before .before .before .before .before .before .next .given .1) in (
       (omega (arith, c .before .before .before .before .before .before .before .before .before .before .before .before .before .before .before .collect .kept), omega (arith, c .before .before .before .before .before .before .before .before .before .before .before .before .before .before .before .collect .kept)),
       omega (
         arith,
@@ -124,7 +125,7 @@ write-hops-enum-told-4 t c = search needs
 
 write-hops-returns-2 : (t : ℕ) → write-hops-lts.Need-returns-2 (claims t) (write-hops-at t) write-hops.Post
 write-hops-returns-2 t c =
-    let e = located-as _ _ _ _ (c .before .before .before .locate-context .ensures) (c .before .enum-told4 .given .1) _ in
+    let e = case (ContextLocated _ _) (c .before .before .before .locate-context .ensures) (c .before .enum-told4 .given .1) _ in
     (none-long _ _ _ _ e _ _ (omega arith) (omega arith) (omega (arith, c .before .before .before .before .before .before .before .good)), kept _ _ _)
 
 write-hops-same-length : (t : ℕ) → write-hops-lts.Need-same-length (claims t) (write-hops-at t) write-hops.Post
@@ -132,7 +133,7 @@ write-hops-same-length t c = search needs
 
 write-hops-returns-3 : (t : ℕ) → write-hops-lts.Need-returns-3 (claims t) (write-hops-at t) write-hops.Post
 write-hops-returns-3 t c =
-    let w = walked-as _ _ _ _ _ _ _ _ _ (c .before .before .before .before .before .before .before .before .before .before .before .before .collect .ensures) (c .before .before .before .before .before .before .before .before .count .given .1) in (
+    let w = case (Walked _ _ _ _ _ _ _) (c .before .before .before .before .before .before .before .before .before .before .before .before .collect .ensures) (c .before .before .before .before .before .before .before .before .count .given .1) in (
       last-written _ _ _ _ _ _ _ _ _ w _ _ (c .before .before .put-hops .ensures .ends) (c .before .before .before .before .before .before .if1 .left) (omega (arith, c .before .before .before .before .before .before .before .before .before .before .before .before .before .before .before .before .before .before .before .before .before .before .good)),
       last-filled _ _ _ _ _ _ _ _ _ w _ _ _ (c .before .before .put-hops .ensures),
     )
@@ -142,7 +143,7 @@ write-hops-same-length-2 t c = search needs
 
 write-hops-returns-4 : (t : ℕ) → write-hops-lts.Need-returns-4 (claims t) (write-hops-at t) write-hops.Post
 write-hops-returns-4 t c =
-    let w = walked-as _ _ _ _ _ _ _ _ _ (c .before .before .before .before .before .before .before .before .before .before .before .before .before .before .before .before .before .before .collect .ensures) (c .before .before .before .before .before .before .before .before .before .before .before .before .before .before .next .given .1) in
+    let w = case (Walked _ _ _ _ _ _ _) (c .before .before .before .before .before .before .before .before .before .before .before .before .before .before .before .before .before .before .collect .ensures) (c .before .before .before .before .before .before .before .before .before .before .before .before .before .before .next .given .1) in
     let f = told hopsOf (c .before .before .before .before .before .before .before .before .before .before .before .write-hops .ensures .0) (c .before .before .before .before .before .before .before .at .given .1) in
     let h = hops-written _ _ _ _ _ _ _ f in (
       further-written _ _ _ _ _ _ _ _ _ _ _ w _ _ _ f (c .before .before .put-hops2 .ensures .ends) (omega (arith, c .before .before .before .before .before .before .before .before .before .before .before .before .before .before .before .before .before .before .before .before .before .before .before .before .before .before .before .before .good)),
@@ -154,7 +155,7 @@ write-hops-same-length-3 t c = search needs
 
 write-hops-returns-5 : (t : ℕ) → write-hops-lts.Need-returns-5 (claims t) (write-hops-at t) write-hops.Post
 write-hops-returns-5 t c =
-    let w = walked-as _ _ _ _ _ _ _ _ _ (c .before .before .before .before .before .before .before .before .before .before .before .collect .ensures) (c .before .before .before .before .before .before .before .next .given .1) in (
+    let w = case (Walked _ _ _ _ _ _ _) (c .before .before .before .before .before .before .before .before .before .before .before .collect .ensures) (c .before .before .before .before .before .before .before .next .given .1) in (
       further-refused _ _ _ _ _ _ _ _ _ _ _ w _ _ (told hopsOf (c .before .before .before .before .write-hops .ensures .0) (c .enum-told .given .1)) (omega (arith, c .before .before .before .before .before .before .before .before .before .before .before .before .before .before .before .before .before .before .before .before .before .good)),
       refused-as _ _ _ _ _ _ (c .before .before .before .before .write-hops .ensures .1) (ap hopsOf (c .enum-told .given .1)),
     )
@@ -164,17 +165,17 @@ write-hops-same-length-4 t c = search needs
 
 write-hops-returns-6 : (t : ℕ) → write-hops-lts.Need-returns-6 (claims t) (write-hops-at t) write-hops.Post
 write-hops-returns-6 t c =
-    let w = walked-as _ _ _ _ _ _ _ _ _ (c .before .before .before .before .before .before .before .before .before .before .before .collect .ensures) (c .before .before .before .before .before .before .before .next .given .1) in (
+    let w = case (Walked _ _ _ _ _ _ _) (c .before .before .before .before .before .before .before .before .before .before .before .collect .ensures) (c .before .before .before .before .before .before .before .next .given .1) in (
       further-refused _ _ _ _ _ _ _ _ _ _ _ w _ _ (told hopsOf (c .before .before .before .before .write-hops .ensures .0) (c .enum-told2 .given .1)) (omega (arith, c .before .before .before .before .before .before .before .before .before .before .before .before .before .before .before .before .before .before .before .before .before .good)),
       refused-as _ _ _ _ _ _ (c .before .before .before .before .write-hops .ensures .1) (ap hopsOf (c .enum-told2 .given .1)),
     )
 
 write-hops-returns-7 : (t : ℕ) → write-hops-lts.Need-returns-7 (claims t) (write-hops-at t) write-hops.Post
-write-hops-returns-7 t c = (walk-deep _ _ _ _ _ _ (walked-as _ _ _ _ _ _ _ _ _ (c .before .before .before .before .collect .ensures) (c .enum-told3 .given .1)), kept _ _ _)
+write-hops-returns-7 t c = (walk-deep _ _ _ _ _ _ (case (Walked _ _ _ _ _ _ _) (c .before .before .before .before .collect .ensures) (c .enum-told3 .given .1)), kept _ _ _)
 
 write-hops-returns-8 : (t : ℕ) → write-hops-lts.Need-returns-8 (claims t) (write-hops-at t) write-hops.Post
 write-hops-returns-8 t c =
-    let e = located-as _ _ _ _ (c .before .before .before .locate-context .ensures) (c .before .enum-told4 .given .1) _ in
+    let e = case (ContextLocated _ _) (c .before .before .before .locate-context .ensures) (c .before .enum-told4 .given .1) _ in
     (none-written _ _ _ _ e _ _ (omega arith) (omega (arith, c .before .before .before .before .before .before .before .good)), none-filled _ _ _ _ e _)
 
 pub +write-hops-spec : {M : Type 1} → statement M

@@ -4,9 +4,9 @@ use borrow.Author.Needs.{needs}
 use native.Mathlib.Omega.{arith}
 use mathlib.Core.Path.{_≡_, refl}
 use lib.ListN.{length}
-use Rattle.util.specs.Answers.{told}
-use Rattle.parent.specs.Context.{headerOf, nameRead}
-use Rattle.parent.specs.ContextLaws.{inside-as, no-context-near, context-near}
+use Rattle.util.specs.Answers.{told, case}
+use Rattle.parent.specs.Context.{headerOf, nameRead, Inside}
+use Rattle.parent.specs.ContextLaws.{unnamed, is-named, no-context-near, context-near}
 use Rattle.parent.specs.Walk.{Block}
 use Rattle.parent.specs.WalkLaws.{no-block, block-ends, block-full, block-deep, block-unnamed, block-named}
 use Rattle.parent.proofs.name.collect.Statement.{statement}
@@ -42,6 +42,9 @@ returns c =
 sub-allowed : tie.Need-sub-allowed Inv-loop μ-loop
 sub-allowed c = search needs
 
+has-name-requires : tie.Need-has-name-requires Inv-loop μ-loop
+has-name-requires c κs = search needs
+
 read-context-name-requires : tie.Need-read-context-name-requires Inv-loop μ-loop
 read-context-name-requires c κs = search needs
 
@@ -62,13 +65,16 @@ slice-write-lengths c = search needs
 
 add-saturating-add : tie.Need-add-saturating-add Inv-loop μ-loop
 add-saturating-add c =
-    omega (arith, inside-as _ _ _ (c .before .before .before .read-context-name .ensures .1) (c .before .place .given .1), c .before .before .before .before .before .before .before .before .before .before .before .before .before .before .before .good)
+    omega (arith, case (Inside _) (c .before .before .before .read-context-name .ensures .1) (c .before .place .given .1), c .before .before .before .before .before .before .before .before .before .before .before .before .before .before .before .before .before .good)
 
 saturating-add-requires : tie.Need-saturating-add-requires Inv-loop μ-loop
 saturating-add-requires c κs = search needs
 
 add-count : tie.Need-add-count Inv-loop μ-loop
 add-count c = search needs
+
+enum-told : tie.Need-enum-told Inv-loop μ-loop
+enum-told c = search needs
 
 loop-less : tie.Need-loop-less Inv-loop μ-loop
 loop-less c = search needs
@@ -77,12 +83,10 @@ loop-again : tie.Need-loop-again Inv-loop μ-loop
 loop-again c = (
   search needs,
   search needs,
-  block-named _ _ _ _ _ _ _ _ _ _ _ (c .before .before .before .before .before .before .before .before .before .before .before .loop .inv .2) _ _ _ (context-near _ _ _ _ (c .before .before .before .before .before .before .before .before .before .before .before .before .before .before .before .before .pre .0) _ _ (told (headerOf _) (c .before .before .before .before .before .before .before .before .before .read-header .ensures) (c .before .before .before .before .before .before .before .flags .given .1)) (told (nameRead _) (c .before .before .before .before .read-context-name .ensures .0) (c .before .before .place .given .1))) _
-      (c .saturating-add .ensures) (inside-as _ _ _ (c .before .before .before .before .read-context-name .ensures .1) (c .before .before .place .given .1)) (omega arith) (omega arith) (omega arith) (omega arith),
+  block-named _ _ _ _ _ _ _ _ _ _ _ (c .before .before .before .before .before .before .before .before .before .before .before .before .before .loop .inv .2) _ _ _ (context-near _ _ _ _ (c .before .before .before .before .before .before .before .before .before .before .before .before .before .before .before .before .before .before .pre .0) _ _ (told (headerOf _) (c .before .before .before .before .before .before .before .before .before .before .before .read-header .ensures) (c .before .before .before .before .before .before .before .before .before .flags .given .1))
+      (is-named _ _ _ _ _ (c .before .before .before .before .before .before .has-name .ensures) (c .before .before .before .before .before .if2 .taken) _ (told (nameRead _) (c .before .before .before .before .read-context-name .ensures .0) (c .before .before .place .given .1)))) _ (c .saturating-add .ensures)
+      (case (Inside _) (c .before .before .before .before .read-context-name .ensures .1) (c .before .before .place .given .1)) (omega arith) (omega arith) (omega arith) (omega arith),
 )
-
-enum-told : tie.Need-enum-told Inv-loop μ-loop
-enum-told c = search needs
 
 loop-less-2 : tie.Need-loop-less-2 Inv-loop μ-loop
 loop-less-2 c = search needs
@@ -91,8 +95,19 @@ loop-again-2 : tie.Need-loop-again-2 Inv-loop μ-loop
 loop-again-2 c = (
   search needs,
   search needs,
-  block-unnamed _ _ _ _ _ _ _ _ _ _ _ (c .before .before .before .before .before .before .before .before .before .loop .inv .2) _ (context-near _ _ _ _ (c .before .before .before .before .before .before .before .before .before .before .before .before .before .before .pre .0) _ _ (told (headerOf _) (c .before .before .before .before .before .before .before .read-header .ensures) (c .before .before .before .before .before .flags .given .1)) (told (nameRead _) (c .before .before .read-context-name .ensures .0) (c .enum-told .given .1)))
-      (omega arith),
+  block-unnamed _ _ _ _ _ _ _ _ _ _ _ (c .before .before .before .before .before .before .before .before .before .before .before .loop .inv .2) _ (context-near _ _ _ _ (c .before .before .before .before .before .before .before .before .before .before .before .before .before .before .before .before .pre .0) _ _ (told (headerOf _) (c .before .before .before .before .before .before .before .before .before .read-header .ensures) (c .before .before .before .before .before .before .before .flags .given .1))
+      (is-named _ _ _ _ _ (c .before .before .before .before .has-name .ensures) (c .before .before .before .if2 .taken) _ (told (nameRead _) (c .before .before .read-context-name .ensures .0) (c .enum-told .given .1)))) (omega arith),
+)
+
+loop-less-3 : tie.Need-loop-less-3 Inv-loop μ-loop
+loop-less-3 c = search needs
+
+loop-again-3 : tie.Need-loop-again-3 Inv-loop μ-loop
+loop-again-3 c = (
+  search needs,
+  search needs,
+  block-unnamed _ _ _ _ _ _ _ _ _ _ _ (c .before .before .before .before .before .before .before .before .loop .inv .2) _ (context-near _ _ _ _ (c .before .before .before .before .before .before .before .before .before .before .before .before .before .pre .0) _ _ (told (headerOf _) (c .before .before .before .before .before .before .read-header .ensures) (c .before .before .before .before .flags .given .1))
+      (unnamed _ _ _ _ _ (c .before .has-name .ensures) (c .if2 .left))) (omega arith),
 )
 
 enum-told-2 : tie.Need-enum-told-2 Inv-loop μ-loop
@@ -129,6 +144,7 @@ collect-spec =
     same-length-2
     returns
     sub-allowed
+    has-name-requires
     read-context-name-requires
     enum-known-place
     mul-places
@@ -138,11 +154,13 @@ collect-spec =
     add-saturating-add
     saturating-add-requires
     add-count
+    enum-told
     loop-less
     loop-again
-    enum-told
     loop-less-2
     loop-again-2
+    loop-less-3
+    loop-again-3
     enum-told-2
     same-length-3
     same-length-4

@@ -3,7 +3,7 @@
 use Rattle.util.specs.Answers.{told}
 use Rattle.util.specs.Segments.{offsetOf}
 use Rattle.util.specs.Cstr.{textOf}
-use Rattle.runtime.specs.CallsLaws.{text-zero, text-at, text-nowhere}
+use Rattle.runtime.specs.CallsLaws.{text-zero, text-at, text-there, text-nowhere}
 use borrow.Author.Needs.{needs}
 use Rattle.runtime.proofs.reads.read_cstr_near.Statement.{statement}
 use Rattle.runtime.proofs.reads.read_cstr_near.Tie as tie
@@ -24,8 +24,8 @@ enum-known-offset c = search needs
 read-cstr-at-requires : tie.Need-read-cstr-at-requires
 read-cstr-at-requires c κs = search needs
 
-enum-known-place : tie.Need-enum-known-place
-enum-known-place c = search needs
+enum-known-length : tie.Need-enum-known-length
+enum-known-length c = search needs
 
 enum-told : tie.Need-enum-told
 enum-told c = search needs
@@ -35,8 +35,8 @@ enum-told-2 c = search needs
 
 returns-2 : tie.Need-returns-2
 returns-2 c =
-    text-at _ _ _ (c .before .before .before .before .before .before .before .before .if1 .left) _ _ (told offsetOf (c .before .before .before .before .before .before .before .vm-to-file-offset-near .ensures) (c .before .before .before .before .before .offset .given .1))
-    (told textOf (c .before .before .before .read-cstr-at .ensures) (c .before .place .given .1))
+    text-there _ _ _ (c .before .before .before .before .before .before .before .before .if1 .left) _ _ (told offsetOf (c .before .before .before .before .before .before .before .vm-to-file-offset-near .ensures) (c .before .before .before .before .before .offset .given .1))
+    (told textOf (c .before .before .before .read-cstr-at .ensures) (c .before .length .given .1))
 
 returns-3 : tie.Need-returns-3
 returns-3 c =
@@ -54,7 +54,7 @@ read-cstr-near-spec =
     vm-to-file-offset-near-requires
     enum-known-offset
     read-cstr-at-requires
-    enum-known-place
+    enum-known-length
     enum-told
     enum-told-2
     returns-2

@@ -1,0 +1,23 @@
+-- `parent::header::has_name` meets its contract.
+-- Assumes nothing.
+use mathlib.Core.Path.{_∙_, ap}
+use Rattle.context.specs.Context.{named}
+use borrow.Author.Needs.{needs}
+use Rattle.parent.proofs.header.has_name.Statement.{statement}
+use Rattle.parent.proofs.header.has_name.Tie as tie
+use Rattle.parent.proofs.header.has_name.Reads as reads
+use Rattle.parent.proofs.header.has_name.Lts as lts
+use Rattle.context.proofs.descriptor.ContextDescriptorFlags.kind.Reads as kind-reads
+use Rattle.context.proofs.descriptor.ContextDescriptorKind.has_name.Reads as has-name-reads
+
+kind-requires : tie.Need-kind-requires
+kind-requires c κs = search needs
+
+has-name-requires : tie.Need-has-name-requires
+has-name-requires c κs = search needs
+
+returns : tie.Need-returns
+returns c = c .has-name .ensures ∙ ap named (c .before .kind .ensures)
+
+pub has-name-spec : {M : Type 1} → statement M
+has-name-spec = tie.close (tie.spec kind-requires has-name-requires returns)
