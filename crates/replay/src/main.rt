@@ -16,8 +16,8 @@
 //   text OFFSET PLACE LENGTH                                the text at the image's offset ADDRESS % (length + 2)
 // with `nothing` where there is none. `target/compare/compare sample OUT crates/replay` (after compare/build) makes both
 // files, stdin and stdout, anew from the Rust; OUT gets them as one.
-ghost use Prim.Native.Nat.{_≤_};
-ghost use lib.ListN.{length};
+use fields::Count;
+use fields::Number;
 use listing::JoinedName;
 use listing::NextContext;
 use listing::NextRow;
@@ -29,124 +29,7 @@ use typedescriptor::TypeIter;
 use util::FileOffset;
 use util::Text;
 
-// The fields of a line.
-
-enum Number {
-    Value(u64),
-    Bad,
-}
-
-// How many bytes or numbers a lent buffer got.
-enum Count {
-    Of(usize),
-    Bad,
-}
-
-// The first place of `stop` from `at` on, or the slice's length.
-fn find(s: &[u8], at: usize, stop: u8) -> usize
-    requires { ⌜ at ≤ length (now s) ⌝ }
-    ensures { λ r. ⌜ (at ≤ r) × (r ≤ length (now (s .entry))) ⌝ }
-{
-    let mut i = at;
-    while i < s.len() {
-        if s[i] == stop {
-            return i;
-        }
-        i += 1;
-    }
-    i
-}
-
-// A field by its number, from 0 on: empty where the line has fewer.
-fn field(line: &[u8], number: usize) -> &[u8] {
-    let mut at = 0;
-    let mut left = number;
-    while left > 0 {
-        let end = find(line, at, b' ');
-        if end == line.len() {
-            return &line[..0];
-        }
-        at = end + 1;
-        left -= 1;
-    }
-    let end = find(line, at, b' ');
-    &line[at..end]
-}
-
-// The value of a hexadecimal digit, or 16.
-fn digit(b: u8) -> u64
-    ensures { λ r. ⌜ r ≤ 16 ⌝ }
-{
-    if b < b'0' {
-        return 16;
-    }
-    if b <= b'9' {
-        return (b - b'0') as u64;
-    }
-    if b < b'a' {
-        return 16;
-    }
-    if b <= b'f' {
-        return (b - b'a') as u64 + 10;
-    }
-    16
-}
-
-fn parse_number(s: &[u8]) -> Number {
-    if s.len() == 0 {
-        return Number::Bad;
-    }
-    let mut value: u64 = 0;
-    let mut i = 0;
-    while i < s.len() {
-        let d = digit(s[i]);
-        if d > 15 {
-            return Number::Bad;
-        }
-        if value > 0x0fff_ffff_ffff_ffff {
-            return Number::Bad;
-        }
-        value = value * 16 + d;
-        i += 1;
-    }
-    Number::Value(value)
-}
-
-fn is_dash(s: &[u8]) -> bool {
-    if s.len() == 1 { s[0] == b'-' } else { false }
-}
-
-fn parse_bytes(s: &[u8], out: &mut [u8]) -> Count {
-    if s.len() == 0 {
-        return Count::Bad;
-    }
-    if is_dash(s) {
-        return Count::Of(0);
-    }
-    let mut n = 0;
-    let mut at = 0;
-    while 2 <= s.len() - at {
-        let high = digit(s[at]);
-        let low = digit(s[at + 1]);
-        if high > 15 {
-            return Count::Bad;
-        }
-        if low > 15 {
-            return Count::Bad;
-        }
-        if out.len() <= n {
-            return Count::Bad;
-        }
-        out[n] = (high * 16 + low) as u8;
-        n += 1;
-        at += 2;
-    }
-    if at == s.len() {
-        Count::Of(n)
-    } else {
-        Count::Bad
-    }
-}
+// The lists of numbers in a line.
 
 // A decimal number, at most a few thousand.
 fn parse_count(s: &[u8]) -> Count {
@@ -156,7 +39,7 @@ fn parse_count(s: &[u8]) -> Count {
     let mut count: u64 = 0;
     let mut i = 0;
     while i < s.len() {
-        let d = digit(s[i]);
+        let d = fields::digit(s[i]);
         if d > 9 {
             return Count::Bad;
         }
@@ -174,7 +57,7 @@ fn parse_list(line: &[u8], from: usize, out: &mut [u64]) -> Count {
     if from > 1000 {
         return Count::Bad;
     }
-    let Count::Of(count) = parse_count(field(line, from)) else {
+    let Count::Of(count) = parse_count(fields::field(line, from)) else {
         return Count::Bad;
     };
     if out.len() < count {
@@ -185,32 +68,13 @@ fn parse_list(line: &[u8], from: usize, out: &mut [u64]) -> Count {
     }
     let mut n = 0;
     while n < count {
-        let Number::Value(value) = parse_number(field(line, from + 1 + n)) else {
+        let Number::Value(value) = fields::parse_number(fields::field(line, from + 1 + n)) else {
             return Count::Bad;
         };
         out[n] = value;
         n += 1;
     }
     Count::Of(n)
-}
-
-// The first numbers of a list: none where it has fewer.
-fn first(s: &[u64], n: usize) -> &[u64] {
-    if n <= s.len() { &s[..n] } else { &s[..0] }
-}
-
-fn same(a: &[u8], b: &[u8]) -> bool {
-    if a.len() != b.len() {
-        return false;
-    }
-    let mut i = 0;
-    while i < a.len() {
-        if a[i] != b[i] {
-            return false;
-        }
-        i += 1;
-    }
-    true
 }
 
 // Parts of lines.
@@ -478,9 +342,15 @@ fn run_lists(
         bad_line();
         return;
     };
-    let list = first(&segments, numbers);
+    let list = fields::first(&segments, numbers);
     all_rows(image, list, types, types_va);
-    all_addresses(image, list, strings, strings_va, first(&addresses, given));
+    all_addresses(
+        image,
+        list,
+        strings,
+        strings_va,
+        fields::first(&addresses, given),
+    );
 }
 
 // The line's three pieces of bytes.
@@ -488,15 +358,15 @@ fn run_line(line: &[u8], types_va: u64, strings_va: u64) {
     let mut image = [0u8; 4096];
     let mut types = [0u8; 1024];
     let mut strings = [0u8; 1024];
-    let Count::Of(bytes) = parse_bytes(field(line, 1), &mut image) else {
+    let Count::Of(bytes) = fields::parse_bytes(fields::field(line, 1), &mut image) else {
         bad_line();
         return;
     };
-    let Count::Of(slots) = parse_bytes(field(line, 3), &mut types) else {
+    let Count::Of(slots) = fields::parse_bytes(fields::field(line, 3), &mut types) else {
         bad_line();
         return;
     };
-    let Count::Of(names) = parse_bytes(field(line, 5), &mut strings) else {
+    let Count::Of(names) = fields::parse_bytes(fields::field(line, 5), &mut strings) else {
         bad_line();
         return;
     };
@@ -511,15 +381,15 @@ fn run_line(line: &[u8], types_va: u64, strings_va: u64) {
 }
 
 fn answer_line(line: &[u8]) {
-    if !same(field(line, 0), b"input") {
+    if !fields::same(fields::field(line, 0), b"input") {
         bad_line();
         return;
     }
-    let Number::Value(types_va) = parse_number(field(line, 2)) else {
+    let Number::Value(types_va) = fields::parse_number(fields::field(line, 2)) else {
         bad_line();
         return;
     };
-    let Number::Value(strings_va) = parse_number(field(line, 4)) else {
+    let Number::Value(strings_va) = fields::parse_number(fields::field(line, 4)) else {
         bad_line();
         return;
     };
@@ -529,7 +399,7 @@ fn answer_line(line: &[u8]) {
 fn answer_lines(input: &[u8]) {
     let mut at = 0;
     while at < input.len() {
-        let end = find(input, at, b'\n');
+        let end = fields::find(input, at, b'\n');
         answer_line(&input[at..end]);
         if end == input.len() {
             return;

@@ -3,8 +3,8 @@
 // A line is FUNCTION A B BYTES STRINGS SEGMENT.., with one space between: the function called, two numbers, the image's (or the
 // slice's) bytes, the string section's bytes and the segments' numbers, as many as there are. Numbers and bytes are in lowercase
 // hexadecimal; `-` stands for no bytes. tests/vectors.py writes the lines and the answers.
-ghost use Prim.Native.Nat.{_≤_};
-ghost use lib.ListN.{length};
+use fields::Count;
+use fields::Number;
 use runtime::Bytes;
 use runtime::FieldName;
 use util::FileOffset;
@@ -14,134 +14,15 @@ use util::ReadU32;
 use util::ReadU64;
 use util::Text;
 
-// The fields of a line.
-
-enum Number {
-    Value(u64),
-    Bad,
-}
-
-// How many bytes or numbers a lent buffer got.
-enum Count {
-    Of(usize),
-    Bad,
-}
-
-// The first place of `stop` from `at` on, or the slice's length.
-fn find(s: &[u8], at: usize, stop: u8) -> usize
-    requires { ⌜ at ≤ length (now s) ⌝ }
-    ensures { λ r. ⌜ (at ≤ r) × (r ≤ length (now (s .entry))) ⌝ }
-{
-    let mut i = at;
-    while i < s.len() {
-        if s[i] == stop {
-            return i;
-        }
-        i += 1;
-    }
-    i
-}
-
-// A field by its number, from 0 on: empty where the line has fewer.
-fn field(line: &[u8], number: usize) -> &[u8] {
-    let mut at = 0;
-    let mut left = number;
-    while left > 0 {
-        let end = find(line, at, b' ');
-        if end == line.len() {
-            return &line[..0];
-        }
-        at = end + 1;
-        left -= 1;
-    }
-    let end = find(line, at, b' ');
-    &line[at..end]
-}
-
-// The value of a hexadecimal digit, or 16.
-fn digit(b: u8) -> u64
-    ensures { λ r. ⌜ r ≤ 16 ⌝ }
-{
-    if b < b'0' {
-        return 16;
-    }
-    if b <= b'9' {
-        return (b - b'0') as u64;
-    }
-    if b < b'a' {
-        return 16;
-    }
-    if b <= b'f' {
-        return (b - b'a') as u64 + 10;
-    }
-    16
-}
-
-fn parse_number(s: &[u8]) -> Number {
-    if s.len() == 0 {
-        return Number::Bad;
-    }
-    let mut value: u64 = 0;
-    let mut i = 0;
-    while i < s.len() {
-        let d = digit(s[i]);
-        if d > 15 {
-            return Number::Bad;
-        }
-        if value > 0x0fff_ffff_ffff_ffff {
-            return Number::Bad;
-        }
-        value = value * 16 + d;
-        i += 1;
-    }
-    Number::Value(value)
-}
-
-fn is_dash(s: &[u8]) -> bool {
-    if s.len() == 1 { s[0] == b'-' } else { false }
-}
-
-fn parse_bytes(s: &[u8], out: &mut [u8]) -> Count {
-    if s.len() == 0 {
-        return Count::Bad;
-    }
-    if is_dash(s) {
-        return Count::Of(0);
-    }
-    let mut n = 0;
-    let mut at = 0;
-    while 2 <= s.len() - at {
-        let high = digit(s[at]);
-        let low = digit(s[at + 1]);
-        if high > 15 {
-            return Count::Bad;
-        }
-        if low > 15 {
-            return Count::Bad;
-        }
-        if out.len() <= n {
-            return Count::Bad;
-        }
-        out[n] = (high * 16 + low) as u8;
-        n += 1;
-        at += 2;
-    }
-    if at == s.len() {
-        Count::Of(n)
-    } else {
-        Count::Bad
-    }
-}
-
 // The numbers from the sixth field to the line's end.
 fn parse_numbers(line: &[u8], out: &mut [u64]) -> Count {
     let mut n = 0;
     while n < 64 {
-        let text = field(line, 5 + n);
+        let text = fields::field(line, 5 + n);
         if text.len() == 0 {
             return Count::Of(n);
         }
-        let Number::Value(value) = parse_number(text) else {
+        let Number::Value(value) = fields::parse_number(text) else {
             return Count::Bad;
         };
         if out.len() <= n {
@@ -151,25 +32,6 @@ fn parse_numbers(line: &[u8], out: &mut [u64]) -> Count {
         n += 1;
     }
     Count::Bad
-}
-
-// The first numbers of a list: none where it has fewer.
-fn first(s: &[u64], n: usize) -> &[u64] {
-    if n <= s.len() { &s[..n] } else { &s[..0] }
-}
-
-fn same(a: &[u8], b: &[u8]) -> bool {
-    if a.len() != b.len() {
-        return false;
-    }
-    let mut i = 0;
-    while i < a.len() {
-        if a[i] != b[i] {
-            return false;
-        }
-        i += 1;
-    }
-    true
 }
 
 // A call each, and its whole answer on a line.
@@ -195,7 +57,7 @@ fn byte_digits(b: u8) {
 
 // The bytes of a part that two calls give; `differs` where they give two.
 fn bytes_line(part: &[u8], again: &[u8]) {
-    if !same(part, again) {
+    if !fields::same(part, again) {
         io::write_all(1, b"differs\n");
         return;
     }
@@ -347,27 +209,27 @@ fn lookup_field_name<'a>(
 // From a function's name to its call. The answers are whether the name is known.
 
 fn number_call(name: &[u8], a: u64, bytes: &[u8]) -> bool {
-    if same(name, b"read_u16_le_at") {
+    if fields::same(name, b"read_u16_le_at") {
         read_u16_le_at(bytes, a as usize);
         return true;
     }
-    if same(name, b"read_u32_le_at") {
+    if fields::same(name, b"read_u32_le_at") {
         read_u32_le_at(bytes, a as usize);
         return true;
     }
-    if same(name, b"read_u64_le_at") {
+    if fields::same(name, b"read_u64_le_at") {
         read_u64_le_at(bytes, a as usize);
         return true;
     }
-    if same(name, b"read_i32_le_at") {
+    if fields::same(name, b"read_i32_le_at") {
         read_i32_le_at(bytes, a as usize);
         return true;
     }
-    if same(name, b"relative_pointer") {
+    if fields::same(name, b"relative_pointer") {
         relative_pointer(a, bytes);
         return true;
     }
-    if same(name, b"read_cstr_at") {
+    if fields::same(name, b"read_cstr_at") {
         read_cstr_at(bytes, a as usize);
         return true;
     }
@@ -375,19 +237,19 @@ fn number_call(name: &[u8], a: u64, bytes: &[u8]) -> bool {
 }
 
 fn address_call(name: &[u8], a: u64, b: u64, image: &[u8], segments: &[u64]) -> bool {
-    if same(name, b"vm_to_file_offset_in") {
+    if fields::same(name, b"vm_to_file_offset_in") {
         vm_to_file_offset_in(segments, a);
         return true;
     }
-    if same(name, b"vm_to_file_offset") {
+    if fields::same(name, b"vm_to_file_offset") {
         vm_to_file_offset(segments, a);
         return true;
     }
-    if same(name, b"read_bytes") {
+    if fields::same(name, b"read_bytes") {
         read_bytes(image, segments, a, b as usize);
         return true;
     }
-    if same(name, b"read_cstr") {
+    if fields::same(name, b"read_cstr") {
         read_cstr(image, segments, a);
         return true;
     }
@@ -402,7 +264,7 @@ fn answer<'a>(
     strings: &'a [u8],
     segments: &[u64],
 ) -> bool {
-    if same(name, b"lookup_field_name") {
+    if fields::same(name, b"lookup_field_name") {
         lookup_field_name(image, segments, strings, b, a);
         return true;
     }
@@ -420,11 +282,11 @@ fn run_line(line: &[u8], a: u64, b: u64) {
     let mut image = [0u8; 1024];
     let mut strings = [0u8; 1024];
     let mut segments = [0u64; 64];
-    let Count::Of(bytes) = parse_bytes(field(line, 3), &mut image) else {
+    let Count::Of(bytes) = fields::parse_bytes(fields::field(line, 3), &mut image) else {
         bad_line();
         return;
     };
-    let Count::Of(names) = parse_bytes(field(line, 4), &mut strings) else {
+    let Count::Of(names) = fields::parse_bytes(fields::field(line, 4), &mut strings) else {
         bad_line();
         return;
     };
@@ -433,12 +295,12 @@ fn run_line(line: &[u8], a: u64, b: u64) {
         return;
     };
     let known = answer(
-        field(line, 0),
+        fields::field(line, 0),
         a,
         b,
         util::part(&image, 0, bytes),
         util::part(&strings, 0, names),
-        first(&segments, numbers),
+        fields::first(&segments, numbers),
     );
     if !known {
         bad_line();
@@ -446,11 +308,11 @@ fn run_line(line: &[u8], a: u64, b: u64) {
 }
 
 fn answer_line(line: &[u8]) {
-    let Number::Value(a) = parse_number(field(line, 1)) else {
+    let Number::Value(a) = fields::parse_number(fields::field(line, 1)) else {
         bad_line();
         return;
     };
-    let Number::Value(b) = parse_number(field(line, 2)) else {
+    let Number::Value(b) = fields::parse_number(fields::field(line, 2)) else {
         bad_line();
         return;
     };
@@ -460,7 +322,7 @@ fn answer_line(line: &[u8]) {
 fn answer_lines(input: &[u8]) {
     let mut at = 0;
     while at < input.len() {
-        let end = find(input, at, b'\n');
+        let end = fields::find(input, at, b'\n');
         answer_line(&input[at..end]);
         if end == input.len() {
             return;

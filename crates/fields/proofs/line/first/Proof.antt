@@ -1,10 +1,12 @@
--- `replay::first` is safe: the first part is as long as it says.
+-- `fields::line::first` meets its contract. At each `return` the test says whether there are so many numbers.
+-- Assumes nothing.
 use native.Mathlib.Omega.{arith}
 use mathlib.Core.Path.{sym}
 use lib.Seq.{length-take-le}
+use Rattle.fields.specs.FieldsLaws.{first-in, first-out}
 use borrow.Author.Needs.{needs}
-use Rattle.replay.proofs.first.Statement.{statement}
-use Rattle.replay.proofs.first.Tie as tie
+use Rattle.fields.proofs.line.first.Statement.{statement}
+use Rattle.fields.proofs.line.first.Tie as tie
 
 slice-aggregate-result : tie.Need-slice-aggregate-result
 slice-aggregate-result c = sym (length-take-le _ _ (omega arith))
@@ -13,10 +15,10 @@ slice-aggregate-result-2 : tie.Need-slice-aggregate-result-2
 slice-aggregate-result-2 c = search needs
 
 returns : tie.Need-returns
-returns c = search needs
+returns c = first-in _ _ (omega arith)
 
 returns-2 : tie.Need-returns-2
-returns-2 c = search needs
+returns-2 c = first-out _ _ (omega arith)
 
 pub first-spec : {M : Type 1} → statement M
 first-spec = tie.close (tie.spec slice-aggregate-result slice-aggregate-result-2 returns returns-2)

@@ -1,0 +1,13 @@
+// The fields of the lines that the tests' programs read.
+mod hex;
+mod line;
+
+pub use hex::Count;
+pub use hex::Number;
+pub use hex::digit;
+pub use hex::parse_bytes;
+pub use hex::parse_number;
+pub use line::field;
+pub use line::find;
+pub use line::first;
+pub use line::same;
