@@ -25,7 +25,7 @@ use Rattle.runtime.specs.FieldName.{Name, inImage, inStrings, sectionTex
 module _ (image segments : List ℕ) (m : Mapping) (w : Mapped segments m) where
   pub place-mapped : (a n : ℕ) → bytesPlace image (led m segments) a n ≡ bytesPlace image segments a n
   unfolding bytesPlace
-  place-mapped a n = rw (w .same a)
+  place-mapped a n = simp (w .same)
 
   pub read-mapped : (a n : ℕ) → bytesRead image (led m segments) a n ≡ bytesRead image segments a n
   unfolding bytesRead
