@@ -11,7 +11,7 @@ use lib.Dec.{leb, eqb}
 use borrow.Author.Tests.{le-leb, leb-true, eqb-true}
 use Rattle.util.specs.LittleEndian.{littleEndian}
 use Rattle.util.specs.CstrLaws.{part-in}
-use Rattle.bundle.specs.Bundle.{Record, bundleBytes, bodyFits, part, placeOf, sectionIn}
+use Rattle.bundle.specs.Bundle.{Record, bundleBytes, bodyFits, placeOf, sectionIn}
 use Rattle.bundle.specs.Open.{sizeAt, kindAt, isAt, takeAt, bundle, image, openBundle, Within}
 use Rattle.bundle.specs.OpenLaws.{take-none, take-some, taken-within, opens}
 use Rattle.bundle.specs.BundleLaws.{from-body, from-next, read-within, takenLayout, opened-short, opened-image, opened-all}

@@ -10,11 +10,11 @@ use mathlib.Core.Bool.{Bool, true, false, cond}
 use mathlib.Core.Option.{Option, some, none}
 use lib.ListN.{length, take, drop, length-append, length-drop, take-append-drop}
 use lib.Seq.{take-all, take-length, take-take, drop-drop, take-at, drop-at, take-append-le, length-take-le}
-use lib.Dec.{ltb, leb}
+use lib.Dec.{ltb}
 use borrow.Author.Tests.{le-leb, lt-leb, lt-ltb, le-ltb}
 use borrow.Rule.Slice.PartMut.{putMid, midOf, put-same}
 use Rattle.util.specs.Buffer.{pasted, putEnd, putInto, Put}
-use Rattle.util.specs.BufferLaws.{put-in, put-fits, put-length, past-end, past-into, fits-end, fits-into}
+use Rattle.util.specs.BufferLaws.{put-in, put-fits, put-length, past-end, past-into}
 use Rattle.runtime.specs.Reads.{run}
 use Rattle.typedescriptor.specs.Row.{TypeRow}
 use Rattle.typedescriptor.specs.Slots.{slots, slotRow, Found, found, firstRow, nextRow, rowsFrom, rows}

@@ -1,5 +1,5 @@
 -- The printed listing, line by line: document 01, "Bundle and program".
-use Prim.Native.Nat.{ℕ, zero, suc, _+_, _%_, _^_}
+use Prim.Native.Nat.{ℕ, _+_, _%_, _^_}
 use mathlib.Core.List.{List, [], _∷_, _++_, map}
 use mathlib.Core.Bool.{Bool, true, false, cond}
 use mathlib.Core.Option.{Option, some, none}
@@ -9,7 +9,6 @@ use Rattle.typedescriptor.specs.Row.{TypeRow}
 use Rattle.typedescriptor.specs.Slots.{Found, nextRow, rows}
 use Rattle.parent.specs.Name.{Answer, written, refused, nameAnswer, qualifiedName}
 use Rattle.listing.specs.Digits.{hex, decimal}
-use Rattle.listing.specs.declared.lines.Lister.{Lister}
 use Rattle.listing.specs.declared.lines.LineStep.{LineStep}
 
 abbrev pub space : List ℕ

@@ -2,7 +2,7 @@
 use Prim.Native.Nat.{ℕ, zero, suc, _/_, _≤_, min}
 use mathlib.Core.Path.{_≡_}
 use mathlib.Core.List.{List, [], _∷_, _++_}
-use mathlib.Core.Bool.{Bool, true, false}
+use mathlib.Core.Bool.{false}
 use mathlib.Core.Option.{Option, some, none}
 use lib.ListN.{length, take, drop}
 use Rattle.util.specs.LittleEndian.{littleEndian}
@@ -10,7 +10,7 @@ use Rattle.bundle.specs.Open as Open
 use Rattle.bundle.specs.Parts.{bytesOf}
 use Rattle.bundle.specs.declared.open.Layout.{Layout}
 use Rattle.listing.specs.Lines.{newline, refusedText, lines, Step, lineStep}
-use Rattle.listing.specs.Calls.{Guarded, answered, refused, guarded}
+use Rattle.listing.specs.Calls.{Guarded, answered, refused}
 use Rattle.listing.specs.declared.lines.Lister.{Lister}
 use Rattle.listing.specs.declared.printer.Printer.{Printer}
 use Rattle.listing.specs.declared.printer.PrintStep.{PrintStep}

@@ -1,15 +1,14 @@
 -- Stepping to the end gives the lines of the definition: for every bundle `printed` is what the program's steps give, in 16,385 steps at most.
-use Prim.Native.Nat.{ℕ, zero, suc, _+_, _-_, _*_, _/_, _%_, _^_, _≤_, _<_, min}
+use Prim.Native.Nat.{ℕ, zero, suc, _+_, _-_, _/_, _%_, _^_, _≤_, _<_, min}
 use native.Mathlib.Nat.{add-zero, zero-add, mod-eq-of-lt}
 use native.Mathlib.Numerals.{add-one}
 use native.Mathlib.Omega.{arith}
 use mathlib.Core.Path.{_≡_, refl, sym, _∙_, ap}
 use mathlib.Core.List.{List, [], _∷_, _++_, map}
-use mathlib.Core.Bool.{Bool, true, false, cond}
+use mathlib.Core.Bool.{true, false}
 use mathlib.Core.Option.{Option, some, none}
 use lib.ListN.{length, drop, length-drop}
 use lib.Seq.{length-take-le}
-use lib.Dec.{eqb}
 use Rattle.util.specs.Cstr.{place, partOf}
 use Rattle.util.specs.CstrLaws.{part-in}
 use Rattle.runtime.specs.Reads.{run}
@@ -20,8 +19,8 @@ use Rattle.bundle.specs.declared.open.Layout.{Layout}
 use Rattle.typedescriptor.specs.Row.{TypeRow}
 use Rattle.typedescriptor.specs.Slots.{slots, slotRow, Found, found, firstRow, nextRow, rowsFrom}
 use Rattle.typedescriptor.specs.Slots as Slots
-use Rattle.listing.specs.Lines.{rowLine, endLine, lines, Step, stepAt, lineStep}
-use Rattle.listing.specs.Printed.{numbers, segmentNumbers, refusedLine, printed, Pending, rows, refusal, finished, startOf, Line, lineOf, printStep, numbersFor}
+use Rattle.listing.specs.Lines.{rowLine, endLine, lines, stepAt, lineStep}
+use Rattle.listing.specs.Printed.{numbers, segmentNumbers, refusedLine, printed, Pending, rows, refusal, startOf, lineOf, printStep, numbersFor}
 use Rattle.listing.specs.PrintedLaws.{numbers-length}
 use Rattle.listing.specs.declared.lines.Lister.{Lister}
 

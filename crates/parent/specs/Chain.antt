@@ -5,7 +5,6 @@ use mathlib.Core.Bool.{cond}
 use mathlib.Core.Option.{Option, some, none, Option·map}
 use lib.Dec.{leb}
 use Rattle.parent.specs.Context.{Context, contextRead, contextIn}
-use Rattle.parent.specs.declared.chain.ParentChain.{ParentChain}
 use Rattle.parent.specs.declared.chain.ParentStep.{ParentStep}
 
 -- at most `n` contexts from an address on, the innermost first

@@ -43,6 +43,7 @@ slotName v h =
     cond (eqb (unsignedIn 4 h 0) 0) nothing
     (text (relativePointer v (signedIn 4 h 0)) (λ p t. done (record { place = p; bytes = t })))
 
+-- where the slot lies below 2^64
 unfoldable pub nameAt : ℕ → Reads Name
 nameAt a = cond (leb (2 ^ 64) (a + 8)) nothing (bytes (a + 8) 4 (slotName (a + 8)))
 

@@ -1,19 +1,17 @@
 -- What the tests on a context and on its name say of their programs, and what a context says of a chain.
-use Prim.Native.Nat.{ℕ, zero, suc, _+_, _-_, _*_, _^_, _≤_, _<_}
+use Prim.Native.Nat.{ℕ, _+_, _-_, _^_, _≤_, _<_}
 use native.Mathlib.Omega.{arith}
-use native.Mathlib.Numerals.{add-one}
-use mathlib.Core.Path.{_≡_, refl, sym, _∙_, ap, subst}
-use mathlib.Core.List.{List, [], _∷_, _++_}
+use mathlib.Core.Path.{_≡_, sym, _∙_}
+use mathlib.Core.List.{List, []}
 use mathlib.Core.Bool.{Bool, true, false}
-use mathlib.Core.Option.{Option, some, none, Option·map}
+use mathlib.Core.Option.{Option, some, none}
 use lib.ListN.{length}
-use lib.Dec.{ltb, leb, eqb}
 use borrow.Author.Tests.{le-leb, lt-leb, eq-eqb, ne-eqb}
 use Rattle.util.specs.LittleEndian.{unsignedIn, signedIn}
 use Rattle.util.specs.Pointer.{relativePointer, relativeAddress}
-use Rattle.util.specs.Cstr.{Place, place, partOf, textOf}
+use Rattle.util.specs.Cstr.{place, textOf}
 use Rattle.util.specs.declared.cstr.Text.{Text}
-use Rattle.runtime.specs.Reads.{Reads, done, bytes, text, run, textPlace}
+use Rattle.runtime.specs.Reads.{done, bytes, text, run, textPlace}
 use Rattle.runtime.specs.Bytes.{bytesRead}
 use Rattle.util.specs.Segments.{segmentsOf, fileOffset}
 use Rattle.util.specs.Mapping.{led, Mapped}
@@ -21,7 +19,7 @@ use Rattle.util.specs.declared.segment.Mapping.{Mapping}
 use Rattle.runtime.specs.CallsLaws.{text-within, bytes-nowhere, read-nothing, run-bytes, run-no-bytes, run-text, run-no-text, run-mapped}
 use Rattle.context.specs.Context.{contextKind, named}
 use Rattle.parent.specs.Context.{Name, Header, headed, header, slotName, nameAt, name, contextName, Context, contextRead, nameRead, Inside}
-use Rattle.parent.specs.Chain.{chain, Step, chainStep}
+use Rattle.parent.specs.Chain.{chain, chainStep}
 
 -- ---- the name
 

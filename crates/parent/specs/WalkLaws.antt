@@ -19,12 +19,10 @@ use Rattle.parent.specs.Context.{Header, Context, contextRead, nameRead}
 use Rattle.parent.specs.Chain.{chain}
 use Rattle.parent.specs.Name.{hop, hops, written, refused, tooDeep, before, hopsAnswer, filled}
 use Rattle.parent.specs.NameLaws.{onward, measured, hops-written, at-start, from-start}
-use Rattle.parent.specs.Walk.{ContextLocated, gathered, Block, Last, Walked}
+use Rattle.parent.specs.Walk.{ContextLocated, gathered, Block, Last}
 use Rattle.parent.specs.ContextLaws.{nowhere}
-use Rattle.util.specs.Segments.{segmentsOf}
 use Rattle.util.specs.Mapping.{Located}
 use Rattle.util.specs.declared.segment.Around.{Around}
-use Rattle.parent.specs.declared.name.Walk.{Walk}
 
 -- ---- the names
 

@@ -1,14 +1,13 @@
 -- What the calls' answers say of the language of reads: a caller gets what `run` says from a call's contract in one step
 -- (`run-bytes`, `run-no-bytes`, `run-text`, `run-no-text`). And the cases of the definitions, as the calls' tests leave them.
-use Prim.Native.Nat.{ℕ, zero, suc, _+_, _-_, _≤_, _<_, min}
+use Prim.Native.Nat.{ℕ, _+_, _-_, _≤_, _<_}
 use native.Mathlib.Decide.{decLe}
 use native.Mathlib.Omega.{arith}
-use mathlib.Core.Path.{_≡_, refl, sym, _∙_, ap, subst}
+use mathlib.Core.Path.{_≡_, refl, sym, _∙_, ap}
 use mathlib.Core.List.{List, []}
-use mathlib.Core.Bool.{true, false}
+use mathlib.Core.Bool.{true}
 use mathlib.Core.Option.{Option, some, none, Option·map}
 use lib.ListN.{length, take, drop, length-take, length-drop}
-use lib.Dec.{leb, eqb}
 use borrow.Author.Tests.{le-leb, lt-leb, lt-ltb, le-ltb, eq-eqb, ne-eqb}
 use Rattle.utf8.specs.Text.{untilNul, textLength}
 use Rattle.utf8.specs.Utf8Laws.{text-bytes, text-length-le}
@@ -19,7 +18,7 @@ use Rattle.util.specs.Cstr.{Place, place, textAt, partOf}
 use Rattle.util.specs.CstrLaws.{part-in}
 use Rattle.runtime.specs.Reads.{Reads, done, nothing, bytes, text, andThen, within, bytesPlace, textOffset, textPlace, run}
 use Rattle.runtime.specs.Bytes.{bytesRead, bytesFrom}
-use Rattle.runtime.specs.FieldName.{Name, inImage, inStrings, sectionText, orElse, fieldName}
+use Rattle.runtime.specs.FieldName.{inImage, inStrings, sectionText, fieldName}
 
 -- a true mapping changes no answer
 module _ (image segments : List ℕ) (m : Mapping) (w : Mapped segments m) where

@@ -1,11 +1,11 @@
 -- The language of reads. What a call answers is defined as a program that reads bytes and texts of an image at addresses:
 -- `run` is the program's answer, `path` the image bytes that it depends on.
-use Prim.Native.Nat.{ℕ, zero, suc, _+_, _≤_, _<_}
+use Prim.Native.Nat.{ℕ, zero, suc, _+_}
 use mathlib.Core.List.{List, [], _∷_}
-use mathlib.Core.Bool.{Bool, true, false, cond, _&&_}
+use mathlib.Core.Bool.{Bool, true, false, cond}
 use mathlib.Core.Option.{Option, some, none}
 use lib.ListN.{length, take, drop}
-use lib.Dec.{T, leb, eqb}
+use lib.Dec.{leb, eqb}
 use Rattle.util.specs.Segments.{segmentsOf, fileOffset}
 use Rattle.utf8.specs.Text.{untilNul}
 use Rattle.util.specs.Cstr.{Place, textAt}

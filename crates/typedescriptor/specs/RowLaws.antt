@@ -1,22 +1,21 @@
 -- What the tests on a descriptor and on a slot say of their programs.
-use Prim.Native.Nat.{ℕ, zero, suc, _+_, _-_, _*_, _/_, _%_, _^_, _≤_, _<_}
+use Prim.Native.Nat.{ℕ, suc, _+_, _-_, _*_, _%_, _^_, _≤_, _<_}
 use native.Mathlib.Nat.{sub-eq-zero-of-le}
 use native.Mathlib.Omega.{arith}
 use native.Mathlib.Numerals.{add-one}
-use mathlib.Core.Path.{_≡_, refl, sym, _∙_, ap}
-use mathlib.Core.List.{List, [], _∷_}
+use mathlib.Core.Path.{_≡_, sym, _∙_, ap}
+use mathlib.Core.List.{List}
 use mathlib.Core.Option.{Option, some, none}
 use lib.ListN.{length}
-use lib.Dec.{ltb, leb, eqb}
-use borrow.Author.Tests.{le-leb, lt-leb, lt-ltb, le-ltb, eq-eqb, ne-eqb}
+use borrow.Author.Tests.{le-leb, lt-leb, lt-ltb, le-ltb, ne-eqb}
 use Rattle.util.specs.LittleEndian.{unsignedIn, signedIn}
 use Rattle.util.specs.Pointer.{relativePointer, relativeAddress}
 use Rattle.util.specs.Cstr.{Place, partOf}
-use Rattle.runtime.specs.Reads.{Reads, done, run, textPlace}
+use Rattle.runtime.specs.Reads.{done, run, textPlace}
 use Rattle.runtime.specs.Bytes.{bytesRead}
 use Rattle.runtime.specs.CallsLaws.{run-bytes, run-no-bytes, run-text, run-no-text}
 use Rattle.typedescriptor.specs.Row.{TypeRow, typeRow, named, descriptor}
-use Rattle.typedescriptor.specs.Slots.{slots, slotAddress, slotRow, Found, found, firstRow, nextRow}
+use Rattle.typedescriptor.specs.Slots.{slots, slotRow, found, firstRow, nextRow}
 
 module _ (image segments : List ℕ) (a : ℕ) (h : List ℕ) (e : h ≡ bytesRead image segments a 20) where
   pub no-header : length h < 20 → none ≡ run image segments (descriptor a)

@@ -10,7 +10,6 @@ use Rattle.util.specs.LittleEndian.{unsignedIn, signedIn}
 use Rattle.util.specs.Pointer.{relativePointer}
 use Rattle.runtime.specs.Reads.{Reads, nothing, run}
 use Rattle.typedescriptor.specs.Row.{TypeRow, descriptor, rowOf}
-use Rattle.typedescriptor.specs.declared.iter.TypeIter.{TypeIter}
 use Rattle.typedescriptor.specs.declared.iter.TypeStep.{TypeStep}
 
 abbrev pub slots : List ℕ → ℕ

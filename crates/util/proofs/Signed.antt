@@ -1,19 +1,18 @@
 -- Signed numbers as the checker leaves them: read back from their bits. Each law says what a need asks of them.
-use Prim.Native.Nat.{ℕ, zero, suc, _+_, _-_, _*_, _%_, _^_, _≤_, _<_}
-use native.Mathlib.Nat.{mod-eq-of-lt}
+use Prim.Native.Nat.{ℕ, suc, _+_, _-_, _%_, _^_, _≤_, _<_}
 use native.Mathlib.Decide.{decLt}
 use native.Mathlib.Omega.{arith}
-use mathlib.Core.Path.{_≡_, refl, sym, _∙_, ap, subst, subst⁻¹}
-use mathlib.Core.Bool.{true, false, cond, true≢false, false≢true}
-use lib.IntN.{ℤ, pos, negsuc, negℤ, natAbs, _+ℤ_, _-ℤ_}
-use lib.Signed.{mag, leZ, nonNeg}
-use lib.Dec.{T, ltb, leb}
+use mathlib.Core.Path.{_≡_, sym, _∙_, ap, subst, subst⁻¹}
+use mathlib.Core.Bool.{true, false, true≢false, false≢true}
+use lib.IntN.{ℤ, pos, negsuc, natAbs, _-ℤ_}
+use lib.Signed.{leZ, nonNeg}
+use lib.Dec.{T}
 use borrow.Author.Tests.{lt-ltb, le-ltb, le-leb}
 use mir.Syntax.{w32, w64}
 use mir.Val.{Fits, SFits, toZ, ofZ}
 use mir.Facts.{toZ-ofZ, toZ-pos, sfits-widen}
 use Rattle.util.specs.LittleEndian.{twosComplement}
-use Rattle.util.specs.Pointer.{relativePointer, modulo}
+use Rattle.util.specs.Pointer.{relativePointer}
 
 -- the numbers of 32 bits below 2^31 mean themselves
 pub twos-low : (n : ℕ) → n < 2147483648 → toZ w32 n ≡ twosComplement 32 n

@@ -1,14 +1,14 @@
 -- What the segments that a walk passes, and the one that decides, say of the addresses around one.
-use Prim.Native.Nat.{ℕ, zero, suc, _+_, _-_, _^_, _≤_, _<_, min, max}
+use Prim.Native.Nat.{ℕ, _+_, _-_, _^_, _≤_, _<_, min, max}
 use native.Mathlib.Decide.{decLt}
 use native.Mathlib.Omega.{arith}
 use mathlib.Core.Path.{_≡_, refl, sym, ap, _∙_}
-use mathlib.Core.Option.{Option, some, none, Option·getD}
+use mathlib.Core.Option.{Option, some, none}
 use mathlib.Core.List.{List}
 use lib.ListN.{length, drop, getD}
 use Rattle.util.specs.Segments.{Segment, segmentsOf, fileOffset, decides, inFile, decided, offsetOf}
 use Rattle.util.specs.SegmentsLaws.{wraps, below, above, no-bytes, held, past-file, offset-wraps, in-file, segmentAt, segments-step}
-use Rattle.util.specs.Mapping.{led, Mapped, Has, InFile, Clipped}
+use Rattle.util.specs.Mapping.{led, Mapped, InFile, Clipped}
 use Rattle.util.specs.declared.segment.Mapping.{Mapping}
 use Rattle.util.specs.declared.segment.FileOffset.{FileOffset}
 use Rattle.util.specs.declared.segment.Lookup.{Lookup}

@@ -1,6 +1,6 @@
 -- Each turn leaves one fewer of the numbers below 1,000,000; the lent bytes stay as many.
 use Prim.Native.Nat.{_-_}
-use mathlib.Core.Path.{_≡_, refl, sym, _∙_}
+use mathlib.Core.Path.{_≡_, refl}
 use native.Mathlib.Omega.{arith}
 use lib.ListN.{length}
 use borrow.Author.Needs.{needs}
