@@ -3,7 +3,6 @@ ghost use lib.ListN.{length};
 ghost use Rattle.util.specs.Segments.{fileOffset, segmentsOf};
 ghost use Rattle.util.specs.Cstr.{textAt, place};
 ghost use Rattle.runtime.specs.FieldName.{fieldName};
-ghost use Rattle.typedescriptor.specs.Row.{rowOf};
 ghost use Rattle.typedescriptor.specs.Slots.{nextRow};
 ghost use Rattle.parent.specs.Chain.{chainStep};
 ghost use Rattle.parent.specs.Name.{nameAnswer, filled, qualifiedName};

@@ -9,8 +9,6 @@ use Rattle.utf8.specs.Plain.{Plain}
 use Rattle.utf8.proofs.Walk.{plain-none, plain-more}
 use Rattle.utf8.proofs.plain.Statement.{statement}
 use Rattle.utf8.proofs.plain.Tie as tie
-use Rattle.utf8.proofs.plain.Reads as reads
-use Rattle.utf8.proofs.plain.Lts as lts
 
 abbrev Inv-loop : tie.InvT-loop
 Inv-loop s at all₀ k₀ all k = (k ≤ 8) × (all ≡ true → Plain s at k)

@@ -9,9 +9,6 @@ use Rattle.utf8.specs.Plain.{Plain}
 use Rattle.utf8.proofs.Walk.{plain-none, plain-join}
 use Rattle.utf8.proofs.plain_prefix.Statement.{statement}
 use Rattle.utf8.proofs.plain_prefix.Tie as tie
-use Rattle.utf8.proofs.plain_prefix.Reads as reads
-use Rattle.utf8.proofs.plain_prefix.Lts as lts
-use Rattle.utf8.proofs.plain.Reads as plain-reads
 
 abbrev Inv-loop : tie.InvT-loop
 Inv-loop s i₀ i = (i ≤ length s) × Plain s 0 i

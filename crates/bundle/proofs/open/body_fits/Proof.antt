@@ -3,8 +3,6 @@
 use Rattle.bundle.specs.OpenLaws.{fits-segments, fits-image, fits-led}
 use Rattle.bundle.proofs.open.body_fits.Statement.{statement}
 use Rattle.bundle.proofs.open.body_fits.Tie as tie
-use Rattle.bundle.proofs.open.body_fits.Reads as reads
-use Rattle.bundle.proofs.open.body_fits.Lts as lts
 
 returns : tie.Need-returns
 returns c = fits-segments _ _ (c .if1 .taken)

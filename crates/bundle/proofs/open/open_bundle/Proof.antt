@@ -6,10 +6,6 @@ use Rattle.bundle.specs.OpenLaws.{too-long, taken-within, no-image, left
 use borrow.Author.Needs.{needs}
 use Rattle.bundle.proofs.open.open_bundle.Statement.{statement}
 use Rattle.bundle.proofs.open.open_bundle.Tie as tie
-use Rattle.bundle.proofs.open.open_bundle.Reads as reads
-use Rattle.bundle.proofs.open.open_bundle.Lts as lts
-use Rattle.bundle.proofs.open.section_of.Reads as section-of-reads
-use Rattle.bundle.proofs.open.take_record.Reads as take-record-reads
 
 returns : tie.Need-returns
 returns c = too-long _ (omega arith)

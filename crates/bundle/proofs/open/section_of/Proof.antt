@@ -8,9 +8,6 @@ use Rattle.bundle.specs.OpenLaws.{section-there, section-missing}
 use borrow.Author.Needs.{needs}
 use Rattle.bundle.proofs.open.section_of.Statement.{statement}
 use Rattle.bundle.proofs.open.section_of.Tie as tie
-use Rattle.bundle.proofs.open.section_of.Reads as reads
-use Rattle.bundle.proofs.open.section_of.Lts as lts
-use Rattle.util.proofs.read_u64_le_at.Reads as read-u64-le-at-reads
 
 read-u64-le-at-requires : tie.Need-read-u64-le-at-requires
 read-u64-le-at-requires c κs = search needs

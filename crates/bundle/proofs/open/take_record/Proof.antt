@@ -9,12 +9,6 @@ use Rattle.bundle.specs.OpenLaws.{take-past, take-cut, take-other, take-
 use borrow.Author.Needs.{needs}
 use Rattle.bundle.proofs.open.take_record.Statement.{statement}
 use Rattle.bundle.proofs.open.take_record.Tie as tie
-use Rattle.bundle.proofs.open.take_record.Reads as reads
-use Rattle.bundle.proofs.open.take_record.Lts as lts
-use Rattle.bundle.proofs.open.body_fits.Reads as body-fits-reads
-use Rattle.bundle.proofs.open.not_taken.Reads as not-taken-reads
-use Rattle.util.proofs.read_u16_le_at.Reads as read-u16-le-at-reads
-use Rattle.util.proofs.read_u32_le_at.Reads as read-u32-le-at-reads
 
 read-u32-le-at-requires : tie.Need-read-u32-le-at-requires
 read-u32-le-at-requires c κs = search needs

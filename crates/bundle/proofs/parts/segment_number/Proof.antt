@@ -10,10 +10,6 @@ use Rattle.util.specs.LittleEndianLaws.{little-nothing}
 use borrow.Author.Needs.{needs}
 use Rattle.bundle.proofs.parts.segment_number.Statement.{statement}
 use Rattle.bundle.proofs.parts.segment_number.Tie as tie
-use Rattle.bundle.proofs.parts.segment_number.Reads as reads
-use Rattle.bundle.proofs.parts.segment_number.Lts as lts
-use Rattle.util.proofs.part.Reads as part-reads
-use Rattle.util.proofs.read_u64_le_at.Reads as read-u64-le-at-reads
 
 part-requires : tie.Need-part-requires
 part-requires c κs = search needs

@@ -6,10 +6,6 @@ use Rattle.exports.specs.NumbersLaws.{image-field, strings-field, no-fie
 use borrow.Author.Needs.{needs}
 use Rattle.exports.proofs.calls.hodrupec_field_name.Statement.{statement}
 use Rattle.exports.proofs.calls.hodrupec_field_name.Tie as tie
-use Rattle.exports.proofs.calls.hodrupec_field_name.Reads as reads
-use Rattle.exports.proofs.calls.hodrupec_field_name.Lts as lts
-use Rattle.exports.proofs.calls.size.Reads as size-reads
-use Rattle.runtime.proofs.lookup_field_name.Reads as lookup-field-name-reads
 
 lookup-field-name-requires : tie.Need-lookup-field-name-requires
 lookup-field-name-requires c κs = search needs

@@ -6,9 +6,6 @@ use Rattle.exports.specs.NumbersLaws.{offset-given, no-offset}
 use borrow.Author.Needs.{needs}
 use Rattle.exports.proofs.calls.hodrupec_file_offset.Statement.{statement}
 use Rattle.exports.proofs.calls.hodrupec_file_offset.Tie as tie
-use Rattle.exports.proofs.calls.hodrupec_file_offset.Reads as reads
-use Rattle.exports.proofs.calls.hodrupec_file_offset.Lts as lts
-use Rattle.util.proofs.vm_to_file_offset_in.Reads as vm-to-file-offset-in-reads
 
 vm-to-file-offset-in-requires : tie.Need-vm-to-file-offset-in-requires
 vm-to-file-offset-in-requires c κs = search needs

@@ -6,11 +6,6 @@ use Rattle.exports.specs.NumbersLaws.{name-there, no-name, step-given, n
 use borrow.Author.Needs.{needs}
 use Rattle.exports.proofs.calls.hodrupec_next_context.Statement.{statement}
 use Rattle.exports.proofs.calls.hodrupec_next_context.Tie as tie
-use Rattle.exports.proofs.calls.hodrupec_next_context.Reads as reads
-use Rattle.exports.proofs.calls.hodrupec_next_context.Lts as lts
-use Rattle.exports.proofs.calls.size.Reads as size-reads
-use Rattle.exports.proofs.calls.wide.Reads as wide-reads
-use Rattle.parent.proofs.chain.ParentChain.next.Reads as next-reads
 
 next-requires : tie.Need-next-requires
 next-requires c κs = search needs

@@ -6,11 +6,6 @@ use Rattle.exports.specs.NumbersLaws.{row-given, no-row}
 use borrow.Author.Needs.{needs}
 use Rattle.exports.proofs.calls.hodrupec_next_row.Statement.{statement}
 use Rattle.exports.proofs.calls.hodrupec_next_row.Tie as tie
-use Rattle.exports.proofs.calls.hodrupec_next_row.Reads as reads
-use Rattle.exports.proofs.calls.hodrupec_next_row.Lts as lts
-use Rattle.exports.proofs.calls.size.Reads as size-reads
-use Rattle.exports.proofs.calls.wide.Reads as wide-reads
-use Rattle.typedescriptor.proofs.iter.TypeIter.next.Reads as next-reads
 
 next-requires : tie.Need-next-requires
 next-requires c κs = search needs

@@ -7,10 +7,6 @@ use Rattle.exports.specs.NumbersLaws.{name-written, name-refused}
 use borrow.Author.Needs.{needs}
 use Rattle.exports.proofs.calls.hodrupec_qualified_name.Statement.{statement}
 use Rattle.exports.proofs.calls.hodrupec_qualified_name.Tie as tie
-use Rattle.exports.proofs.calls.hodrupec_qualified_name.Reads as reads
-use Rattle.exports.proofs.calls.hodrupec_qualified_name.Lts as lts
-use Rattle.exports.proofs.calls.size.Reads as size-reads
-use Rattle.parent.proofs.qualified_name.Reads as qualified-name-reads
 
 qualified-name-requires : tie.Need-qualified-name-requires
 qualified-name-requires c κs = search needs

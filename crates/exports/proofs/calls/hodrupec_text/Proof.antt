@@ -6,10 +6,6 @@ use Rattle.exports.specs.NumbersLaws.{text-given, no-text}
 use borrow.Author.Needs.{needs}
 use Rattle.exports.proofs.calls.hodrupec_text.Statement.{statement}
 use Rattle.exports.proofs.calls.hodrupec_text.Tie as tie
-use Rattle.exports.proofs.calls.hodrupec_text.Reads as reads
-use Rattle.exports.proofs.calls.hodrupec_text.Lts as lts
-use Rattle.exports.proofs.calls.size.Reads as size-reads
-use Rattle.util.proofs.read_cstr_at.Reads as read-cstr-at-reads
 
 read-cstr-at-requires : tie.Need-read-cstr-at-requires
 read-cstr-at-requires c κs = search needs

@@ -5,8 +5,6 @@ use Rattle.exports.specs.Listing.{headBytes}
 use borrow.Author.Needs.{needs}
 use Rattle.exports.proofs.listing.head.Statement.{statement}
 use Rattle.exports.proofs.listing.head.Tie as tie
-use Rattle.exports.proofs.listing.head.Reads as reads
-use Rattle.exports.proofs.listing.head.Lts as lts
 
 cast-t4 : tie.Need-cast-t4
 cast-t4 c = search needs

@@ -9,10 +9,6 @@ use Rattle.typedescriptor.specs.Slots.{slots, rows, rowsFrom, stepOf}
 use Rattle.exports.specs.ListingLaws.{Going, start-going, left-as, ended, stops, goes-on, row-left, none-left, rows-start, rows-out}
 use Rattle.exports.proofs.listing.hodrupec_listing.Statement.{statement}
 use Rattle.exports.proofs.listing.hodrupec_listing.Tie as tie
-use Rattle.exports.proofs.listing.hodrupec_listing.Reads as reads
-use Rattle.exports.proofs.listing.hodrupec_listing.Lts as lts
-use Rattle.exports.proofs.listing.put_record.Reads as put-record-reads
-use Rattle.typedescriptor.proofs.iter.TypeIter.next.Reads as next-reads
 
 abbrev Inv-loop : tie.InvT-loop
 Inv-loop image segments types vmaddr buffer₀ count slot₀ at₀ buffer slot at =

@@ -14,11 +14,6 @@ use Rattle.exports.specs.ListingLaws.{head-long, row-long, written-bytes
 use borrow.Author.Needs.{needs}
 use Rattle.exports.proofs.listing.put_record.Statement.{statement}
 use Rattle.exports.proofs.listing.put_record.Tie as tie
-use Rattle.exports.proofs.listing.put_record.Reads as reads
-use Rattle.exports.proofs.listing.put_record.Lts as lts
-use Rattle.exports.proofs.listing.head.Reads as head-reads
-use Rattle.parent.proofs.qualified_name.Reads as qualified-name-reads
-use Rattle.util.proofs.put.Reads as put-reads
 
 returns : tie.Need-returns
 returns c = (past-end _ _ _ (omega arith), past-into _ _ _ (omega arith))

@@ -8,9 +8,6 @@ use Rattle.listing.specs.CallsLaws.{joined-ragged, joined-whole}
 use borrow.Author.Needs.{needs}
 use Rattle.listing.proofs.calls.joined_name.Statement.{statement}
 use Rattle.listing.proofs.calls.joined_name.Tie as tie
-use Rattle.listing.proofs.calls.joined_name.Reads as reads
-use Rattle.listing.proofs.calls.joined_name.Lts as lts
-use Rattle.parent.proofs.qualified_name.Reads as qualified-name-reads
 
 returns : tie.Need-returns
 returns c = (joined-ragged _ _ _ _ (c .if1 .taken), kept _ _ _)

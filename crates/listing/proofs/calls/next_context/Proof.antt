@@ -6,9 +6,6 @@ use Rattle.listing.specs.CallsLaws.{ragged, whole}
 use borrow.Author.Needs.{needs}
 use Rattle.listing.proofs.calls.next_context.Statement.{statement}
 use Rattle.listing.proofs.calls.next_context.Tie as tie
-use Rattle.listing.proofs.calls.next_context.Reads as reads
-use Rattle.listing.proofs.calls.next_context.Lts as lts
-use Rattle.parent.proofs.chain.ParentChain.next.Reads as next-reads
 
 returns : tie.Need-returns
 returns c = ragged _ _ (c .if1 .taken)

@@ -6,9 +6,6 @@ use Rattle.listing.specs.CallsLaws.{line-ragged, line-whole}
 use borrow.Author.Needs.{needs}
 use Rattle.listing.proofs.calls.next_line.Statement.{statement}
 use Rattle.listing.proofs.calls.next_line.Tie as tie
-use Rattle.listing.proofs.calls.next_line.Reads as reads
-use Rattle.listing.proofs.calls.next_line.Lts as lts
-use Rattle.listing.proofs.lines.next_line_into.Reads as next-line-into-reads
 
 returns : tie.Need-returns
 returns c = line-ragged _ _ _ (c .if1 .taken)

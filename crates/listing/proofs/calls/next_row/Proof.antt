@@ -6,9 +6,6 @@ use Rattle.listing.specs.CallsLaws.{ragged, whole}
 use borrow.Author.Needs.{needs}
 use Rattle.listing.proofs.calls.next_row.Statement.{statement}
 use Rattle.listing.proofs.calls.next_row.Tie as tie
-use Rattle.listing.proofs.calls.next_row.Reads as reads
-use Rattle.listing.proofs.calls.next_row.Lts as lts
-use Rattle.typedescriptor.proofs.iter.TypeIter.next.Reads as next-reads
 
 returns : tie.Need-returns
 returns c = ragged _ _ (c .if1 .taken)

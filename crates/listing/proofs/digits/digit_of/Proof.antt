@@ -5,8 +5,6 @@ use Rattle.listing.specs.DigitsLaws.{digit-low, digit-high}
 use borrow.Author.Needs.{needs}
 use Rattle.listing.proofs.digits.digit_of.Statement.{statement}
 use Rattle.listing.proofs.digits.digit_of.Tie as tie
-use Rattle.listing.proofs.digits.digit_of.Reads as reads
-use Rattle.listing.proofs.digits.digit_of.Lts as lts
 
 cast-d : tie.Need-cast-d
 cast-d c = search needs

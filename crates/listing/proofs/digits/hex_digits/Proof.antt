@@ -5,9 +5,6 @@ use native.Mathlib.Omega.{arith}
 use Rattle.listing.specs.DigitsLaws.{Made, made-none, made-more, made-all}
 use Rattle.listing.proofs.digits.hex_digits.Statement.{statement}
 use Rattle.listing.proofs.digits.hex_digits.Tie as tie
-use Rattle.listing.proofs.digits.hex_digits.Reads as reads
-use Rattle.listing.proofs.digits.hex_digits.Lts as lts
-use Rattle.listing.proofs.digits.digit_of.Reads as digit-of-reads
 
 abbrev Inv-loop : tie.InvT-loop
 Inv-loop value digits₀ rest₀ left₀ digits rest left = Made value left digits rest

@@ -6,12 +6,6 @@ use Rattle.listing.specs.LinesLaws.{step-done, step-row, step-end}
 use borrow.Author.Needs.{needs}
 use Rattle.listing.proofs.lines.next_into.Statement.{statement}
 use Rattle.listing.proofs.lines.next_into.Tie as tie
-use Rattle.listing.proofs.lines.next_into.Reads as reads
-use Rattle.listing.proofs.lines.next_into.Lts as lts
-use Rattle.listing.proofs.lines.put_end.Reads as put-end-reads
-use Rattle.listing.proofs.lines.put_row.Reads as put-row-reads
-use Rattle.std.proofs.num.wrapping_add_usize.Reads as wrapping-add-usize-reads
-use Rattle.typedescriptor.proofs.iter.TypeIter.next.Reads as next-reads
 
 returns : tie.Need-returns
 returns c = step-done _ _ _ _ _ _ _ _ (c .if1 .taken)

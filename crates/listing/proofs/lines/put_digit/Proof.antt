@@ -5,10 +5,6 @@ use Rattle.listing.specs.LinesLaws.{put-one}
 use borrow.Author.Needs.{needs}
 use Rattle.listing.proofs.lines.put_digit.Statement.{statement}
 use Rattle.listing.proofs.lines.put_digit.Tie as tie
-use Rattle.listing.proofs.lines.put_digit.Reads as reads
-use Rattle.listing.proofs.lines.put_digit.Lts as lts
-use Rattle.listing.proofs.digits.digit_of.Reads as digit-of-reads
-use Rattle.util.proofs.put.Reads as put-reads
 
 digit-of-requires : tie.Need-digit-of-requires
 digit-of-requires c κs = search needs

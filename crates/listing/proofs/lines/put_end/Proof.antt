@@ -7,10 +7,6 @@ use Rattle.listing.specs.LinesLaws.{end-put}
 use borrow.Author.Needs.{needs}
 use Rattle.listing.proofs.lines.put_end.Statement.{statement}
 use Rattle.listing.proofs.lines.put_end.Tie as tie
-use Rattle.listing.proofs.lines.put_end.Reads as reads
-use Rattle.listing.proofs.lines.put_end.Lts as lts
-use Rattle.listing.proofs.lines.put_decimal.Reads as put-decimal-reads
-use Rattle.util.proofs.put.Reads as put-reads
 
 slice-aggregate-put : tie.Need-slice-aggregate-put
 slice-aggregate-put c = search needs

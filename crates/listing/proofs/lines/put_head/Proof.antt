@@ -5,11 +5,6 @@ use Rattle.listing.specs.LinesLaws.{head-room, head-put}
 use borrow.Author.Needs.{needs}
 use Rattle.listing.proofs.lines.put_head.Statement.{statement}
 use Rattle.listing.proofs.lines.put_head.Tie as tie
-use Rattle.listing.proofs.lines.put_head.Reads as reads
-use Rattle.listing.proofs.lines.put_head.Lts as lts
-use Rattle.listing.proofs.digits.hex_digits.Reads as hex-digits-reads
-use Rattle.listing.proofs.lines.put_kind.Reads as put-kind-reads
-use Rattle.util.proofs.put.Reads as put-reads
 
 hex-digits-requires : tie.Need-hex-digits-requires
 hex-digits-requires c κs = search needs

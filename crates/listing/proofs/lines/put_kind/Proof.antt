@@ -5,9 +5,6 @@ use Rattle.listing.specs.LinesLaws.{kind-class, kind-struct, kind-enum, 
 use borrow.Author.Needs.{needs}
 use Rattle.listing.proofs.lines.put_kind.Statement.{statement}
 use Rattle.listing.proofs.lines.put_kind.Tie as tie
-use Rattle.listing.proofs.lines.put_kind.Reads as reads
-use Rattle.listing.proofs.lines.put_kind.Lts as lts
-use Rattle.util.proofs.put.Reads as put-reads
 
 slice-aggregate-put : tie.Need-slice-aggregate-put
 slice-aggregate-put c = search needs

@@ -13,10 +13,6 @@ use Rattle.listing.specs.LinesLaws.{name-put, name-room, refusal-put}
 use borrow.Author.Needs.{needs}
 use Rattle.listing.proofs.lines.put_name.Statement.{statement}
 use Rattle.listing.proofs.lines.put_name.Tie as tie
-use Rattle.listing.proofs.lines.put_name.Reads as reads
-use Rattle.listing.proofs.lines.put_name.Lts as lts
-use Rattle.parent.proofs.qualified_name.Reads as qualified-name-reads
-use Rattle.util.proofs.put.Reads as put-reads
 
 add-qualified-name : tie.Need-add-qualified-name
 add-qualified-name c = search needs

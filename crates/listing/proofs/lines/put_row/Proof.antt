@@ -5,11 +5,6 @@ use Rattle.listing.specs.LinesLaws.{head-length, name-text-length, row-p
 use borrow.Author.Needs.{needs}
 use Rattle.listing.proofs.lines.put_row.Statement.{statement}
 use Rattle.listing.proofs.lines.put_row.Tie as tie
-use Rattle.listing.proofs.lines.put_row.Reads as reads
-use Rattle.listing.proofs.lines.put_row.Lts as lts
-use Rattle.listing.proofs.lines.put_head.Reads as put-head-reads
-use Rattle.listing.proofs.lines.put_name.Reads as put-name-reads
-use Rattle.util.proofs.put.Reads as put-reads
 
 put-head-requires : tie.Need-put-head-requires
 put-head-requires c κs = search needs

@@ -9,9 +9,6 @@ use Rattle.bundle.specs.Parts.{bytesOf}
 use Rattle.listing.specs.PrintedLaws.{Started, started-none, started-more, started-all, started-full}
 use Rattle.listing.proofs.printer.fill_into.Statement.{statement}
 use Rattle.listing.proofs.printer.fill_into.Tie as tie
-use Rattle.listing.proofs.printer.fill_into.Reads as reads
-use Rattle.listing.proofs.printer.fill_into.Lts as lts
-use Rattle.bundle.proofs.segment_number.Reads as segment-number-reads
 
 abbrev Inv-loop : tie.InvT-loop
 Inv-loop bytes layout out₀ i₀ out i = Started (bytesOf bytes (layout .segments)) out₀ out i

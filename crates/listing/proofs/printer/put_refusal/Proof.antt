@@ -5,9 +5,6 @@ use Rattle.util.specs.BufferLaws.{put-fits}
 use borrow.Author.Needs.{needs}
 use Rattle.listing.proofs.printer.put_refusal.Statement.{statement}
 use Rattle.listing.proofs.printer.put_refusal.Tie as tie
-use Rattle.listing.proofs.printer.put_refusal.Reads as reads
-use Rattle.listing.proofs.printer.put_refusal.Lts as lts
-use Rattle.util.proofs.put.Reads as put-reads
 
 put-requires : tie.Need-put-requires
 put-requires c κs = search needs

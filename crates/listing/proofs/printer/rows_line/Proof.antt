@@ -6,11 +6,6 @@ use Rattle.listing.specs.PrintedLaws.{rows-print}
 use borrow.Author.Needs.{needs}
 use Rattle.listing.proofs.printer.rows_line.Statement.{statement}
 use Rattle.listing.proofs.printer.rows_line.Tie as tie
-use Rattle.listing.proofs.printer.rows_line.Reads as reads
-use Rattle.listing.proofs.printer.rows_line.Lts as lts
-use Rattle.bundle.proofs.image_part.Reads as image-part-reads
-use Rattle.bundle.proofs.types_part.Reads as types-part-reads
-use Rattle.listing.proofs.calls.next_line.Reads as next-line-reads
 
 image-part-requires : tie.Need-image-part-requires
 image-part-requires c κs = search needs

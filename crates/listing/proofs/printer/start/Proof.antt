@@ -7,9 +7,6 @@ use Rattle.listing.specs.Printed.{startOf}
 use borrow.Author.Needs.{needs}
 use Rattle.listing.proofs.printer.start.Statement.{statement}
 use Rattle.listing.proofs.printer.start.Tie as tie
-use Rattle.listing.proofs.printer.start.Reads as reads
-use Rattle.listing.proofs.printer.start.Lts as lts
-use Rattle.bundle.proofs.open_bundle.Reads as open-bundle-reads
 
 open-bundle-requires : tie.Need-open-bundle-requires
 open-bundle-requires c κs = search needs

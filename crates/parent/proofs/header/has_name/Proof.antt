@@ -5,10 +5,6 @@ use Rattle.context.specs.Context.{named}
 use borrow.Author.Needs.{needs}
 use Rattle.parent.proofs.header.has_name.Statement.{statement}
 use Rattle.parent.proofs.header.has_name.Tie as tie
-use Rattle.parent.proofs.header.has_name.Reads as reads
-use Rattle.parent.proofs.header.has_name.Lts as lts
-use Rattle.context.proofs.descriptor.ContextDescriptorFlags.kind.Reads as kind-reads
-use Rattle.context.proofs.descriptor.ContextDescriptorKind.has_name.Reads as has-name-reads
 
 kind-requires : tie.Need-kind-requires
 kind-requires c κs = search needs

@@ -6,9 +6,6 @@ use Rattle.parent.specs.WalkLaws.{context-located}
 use borrow.Author.Needs.{needs}
 use Rattle.parent.proofs.header.locate_context.Statement.{statement}
 use Rattle.parent.proofs.header.locate_context.Tie as tie
-use Rattle.parent.proofs.header.locate_context.Reads as reads
-use Rattle.parent.proofs.header.locate_context.Lts as lts
-use Rattle.util.proofs.locate.Reads as locate-reads
 
 returns : tie.Need-returns
 returns c = λ image. no-context _ _ _ (zero-header _ _ _ (c .if1 .taken))

@@ -7,12 +7,6 @@ use Rattle.parent.specs.ContextLaws.{unnamed, is-named, no-context-near,
 use borrow.Author.Needs.{needs}
 use Rattle.parent.proofs.header.read_context.Statement.{statement}
 use Rattle.parent.proofs.header.read_context.Tie as tie
-use Rattle.parent.proofs.header.read_context.Reads as reads
-use Rattle.parent.proofs.header.read_context.Lts as lts
-use Rattle.parent.proofs.header.has_name.Reads as has-name-reads
-use Rattle.parent.proofs.header.read_context_name.Reads as read-context-name-reads
-use Rattle.parent.proofs.header.read_header.Reads as read-header-reads
-use Rattle.util.proofs.segment.Mapping.empty.Reads as empty-reads
 
 empty-requires : tie.Need-empty-requires
 empty-requires c κs = search needs

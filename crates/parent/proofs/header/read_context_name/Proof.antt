@@ -6,12 +6,6 @@ use Rattle.parent.specs.ContextLaws.{inside, name-wraps, no-slot, no-off
 use borrow.Author.Needs.{needs}
 use Rattle.parent.proofs.header.read_context_name.Statement.{statement}
 use Rattle.parent.proofs.header.read_context_name.Tie as tie
-use Rattle.parent.proofs.header.read_context_name.Reads as reads
-use Rattle.parent.proofs.header.read_context_name.Lts as lts
-use Rattle.runtime.proofs.read_bytes_near.Reads as read-bytes-near-reads
-use Rattle.runtime.proofs.read_cstr_near.Reads as read-cstr-near-reads
-use Rattle.util.proofs.pointer_in.Reads as pointer-in-reads
-use Rattle.util.proofs.u32_at.Reads as u32-at-reads
 
 returns : tie.Need-returns
 returns c = (name-wraps _ _ _ (omega arith), tt)

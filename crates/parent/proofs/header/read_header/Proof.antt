@@ -5,11 +5,6 @@ use Rattle.parent.specs.ContextLaws.{zero-header, no-header, parent-wrap
 use borrow.Author.Needs.{needs}
 use Rattle.parent.proofs.header.read_header.Statement.{statement}
 use Rattle.parent.proofs.header.read_header.Tie as tie
-use Rattle.parent.proofs.header.read_header.Reads as reads
-use Rattle.parent.proofs.header.read_header.Lts as lts
-use Rattle.runtime.proofs.read_bytes_near.Reads as read-bytes-near-reads
-use Rattle.util.proofs.address_in.Reads as address-in-reads
-use Rattle.util.proofs.u32_at.Reads as u32-at-reads
 
 returns : tie.Need-returns
 returns c = zero-header _ _ _ (c .if1 .taken)

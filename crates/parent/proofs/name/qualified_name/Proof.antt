@@ -9,11 +9,6 @@ use Rattle.parent.specs.NameLaws.{filled-as, refused-as, hops-written, n
 use borrow.Author.Needs.{needs}
 use Rattle.parent.proofs.name.qualified_name.Statement.{statement}
 use Rattle.parent.proofs.name.qualified_name.Tie as tie
-use Rattle.parent.proofs.name.qualified_name.Reads as reads
-use Rattle.parent.proofs.name.qualified_name.Lts as lts
-use Rattle.parent.proofs.name.write_hops.Reads as write-hops-reads
-use Rattle.util.proofs.put.Reads as put-reads
-use Rattle.util.proofs.part.Reads as part-reads
 
 part-requires : tie.Need-part-requires
 part-requires c κs = search needs

@@ -6,10 +6,6 @@ use Rattle.runtime.specs.CallsLaws.{place-mapped}
 use borrow.Author.Needs.{needs}
 use Rattle.runtime.proofs.reads.find_bytes.Statement.{statement}
 use Rattle.runtime.proofs.reads.find_bytes.Tie as tie
-use Rattle.runtime.proofs.reads.find_bytes.Reads as reads
-use Rattle.runtime.proofs.reads.find_bytes.Lts as lts
-use Rattle.runtime.proofs.reads.find_bytes_near.Reads as find-bytes-near-reads
-use Rattle.util.proofs.segment.Mapping.empty.Reads as empty-reads
 
 empty-requires : tie.Need-empty-requires
 empty-requires c κs = search needs

@@ -7,9 +7,6 @@ use Rattle.runtime.specs.CallsLaws.{bytes-at, bytes-past, bytes-nowhere}
 use borrow.Author.Needs.{needs}
 use Rattle.runtime.proofs.reads.find_bytes_near.Statement.{statement}
 use Rattle.runtime.proofs.reads.find_bytes_near.Tie as tie
-use Rattle.runtime.proofs.reads.find_bytes_near.Reads as reads
-use Rattle.runtime.proofs.reads.find_bytes_near.Lts as lts
-use Rattle.util.proofs.vm_to_file_offset_near.Reads as vm-to-file-offset-near-reads
 
 vm-to-file-offset-near-requires : tie.Need-vm-to-file-offset-near-requires
 vm-to-file-offset-near-requires c κs = search needs

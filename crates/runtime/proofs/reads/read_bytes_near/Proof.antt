@@ -6,10 +6,6 @@ use Rattle.runtime.specs.CallsLaws.{read-at, read-nothing}
 use borrow.Author.Needs.{needs}
 use Rattle.runtime.proofs.reads.read_bytes_near.Statement.{statement}
 use Rattle.runtime.proofs.reads.read_bytes_near.Tie as tie
-use Rattle.runtime.proofs.reads.read_bytes_near.Reads as reads
-use Rattle.runtime.proofs.reads.read_bytes_near.Lts as lts
-use Rattle.runtime.proofs.reads.find_bytes_near.Reads as find-bytes-near-reads
-use Rattle.util.proofs.part.Reads as part-reads
 
 find-bytes-near-requires : tie.Need-find-bytes-near-requires
 find-bytes-near-requires c κs = search needs

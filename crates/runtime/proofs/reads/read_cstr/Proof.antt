@@ -6,10 +6,6 @@ use Rattle.runtime.specs.CallsLaws.{text-mapped}
 use borrow.Author.Needs.{needs}
 use Rattle.runtime.proofs.reads.read_cstr.Statement.{statement}
 use Rattle.runtime.proofs.reads.read_cstr.Tie as tie
-use Rattle.runtime.proofs.reads.read_cstr.Reads as reads
-use Rattle.runtime.proofs.reads.read_cstr.Lts as lts
-use Rattle.runtime.proofs.reads.read_cstr_near.Reads as read-cstr-near-reads
-use Rattle.util.proofs.segment.Mapping.empty.Reads as empty-reads
 
 empty-requires : tie.Need-empty-requires
 empty-requires c κs = search needs

@@ -7,10 +7,6 @@ use Rattle.runtime.specs.CallsLaws.{text-zero, text-at, text-there, text
 use borrow.Author.Needs.{needs}
 use Rattle.runtime.proofs.reads.read_cstr_near.Statement.{statement}
 use Rattle.runtime.proofs.reads.read_cstr_near.Tie as tie
-use Rattle.runtime.proofs.reads.read_cstr_near.Reads as reads
-use Rattle.runtime.proofs.reads.read_cstr_near.Lts as lts
-use Rattle.util.proofs.read_cstr_at.Reads as read-cstr-at-reads
-use Rattle.util.proofs.vm_to_file_offset_near.Reads as vm-to-file-offset-near-reads
 
 returns : tie.Need-returns
 returns c = text-zero _ _ _ (c .if1 .taken)

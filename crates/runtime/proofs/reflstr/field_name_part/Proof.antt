@@ -6,9 +6,6 @@ use Rattle.runtime.specs.FieldName.{namePart, nameOf}
 use borrow.Author.Needs.{needs}
 use Rattle.runtime.proofs.reflstr.field_name_part.Statement.{statement}
 use Rattle.runtime.proofs.reflstr.field_name_part.Tie as tie
-use Rattle.runtime.proofs.reflstr.field_name_part.Reads as reads
-use Rattle.runtime.proofs.reflstr.field_name_part.Lts as lts
-use Rattle.util.proofs.part.Reads as part-reads
 
 enum-known-name : tie.Need-enum-known-name
 enum-known-name c = search needs

@@ -6,10 +6,6 @@ use Rattle.runtime.specs.CallsLaws.{name-zero, name-image, name-strings}
 use borrow.Author.Needs.{needs}
 use Rattle.runtime.proofs.reflstr.lookup_field_name.Statement.{statement}
 use Rattle.runtime.proofs.reflstr.lookup_field_name.Tie as tie
-use Rattle.runtime.proofs.reflstr.lookup_field_name.Reads as reads
-use Rattle.runtime.proofs.reflstr.lookup_field_name.Lts as lts
-use Rattle.runtime.proofs.reads.read_cstr.Reads as read-cstr-reads
-use Rattle.runtime.proofs.reflstr.section_text.Reads as section-text-reads
 
 returns : tie.Need-returns
 returns c = name-zero _ _ _ _ _ (c .if1 .taken)

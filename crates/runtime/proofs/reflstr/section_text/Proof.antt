@@ -5,9 +5,6 @@ use Rattle.runtime.specs.CallsLaws.{section-below, section-past, section
 use borrow.Author.Needs.{needs}
 use Rattle.runtime.proofs.reflstr.section_text.Statement.{statement}
 use Rattle.runtime.proofs.reflstr.section_text.Tie as tie
-use Rattle.runtime.proofs.reflstr.section_text.Reads as reads
-use Rattle.runtime.proofs.reflstr.section_text.Lts as lts
-use Rattle.util.proofs.read_cstr_at.Reads as read-cstr-at-reads
 
 returns : tie.Need-returns
 returns c = section-below _ _ _ (omega arith)

@@ -7,13 +7,6 @@ use Rattle.typedescriptor.specs.RowLaws.{no-header, no-slot, no-name, ro
 use borrow.Author.Needs.{needs}
 use Rattle.typedescriptor.proofs.descriptor.decode_type_descriptor.Statement.{statement}
 use Rattle.typedescriptor.proofs.descriptor.decode_type_descriptor.Tie as tie
-use Rattle.typedescriptor.proofs.descriptor.decode_type_descriptor.Reads as reads
-use Rattle.typedescriptor.proofs.descriptor.decode_type_descriptor.Lts as lts
-use Rattle.runtime.proofs.read_bytes.Reads as read-bytes-reads
-use Rattle.runtime.proofs.read_cstr.Reads as read-cstr-reads
-use Rattle.util.proofs.address_in.Reads as address-in-reads
-use Rattle.util.proofs.pointer_in.Reads as pointer-in-reads
-use Rattle.util.proofs.u32_at.Reads as u32-at-reads
 
 read-bytes-requires : tie.Need-read-bytes-requires
 read-bytes-requires c κs = search needs

@@ -10,12 +10,6 @@ use Rattle.typedescriptor.specs.RowLaws.{past-slots, zero-slot, slot-at}
 use borrow.Author.Needs.{needs}
 use Rattle.typedescriptor.proofs.iter.slot_row.Statement.{statement}
 use Rattle.typedescriptor.proofs.iter.slot_row.Tie as tie
-use Rattle.typedescriptor.proofs.iter.slot_row.Reads as reads
-use Rattle.typedescriptor.proofs.iter.slot_row.Lts as lts
-use Rattle.std.proofs.num.wrapping_add_u64.Reads as wrapping-add-u64-reads
-use Rattle.typedescriptor.proofs.descriptor.decode_type_descriptor.Reads as decode-type-descriptor-reads
-use Rattle.util.proofs.pointer_in.Reads as pointer-in-reads
-use Rattle.util.proofs.u32_at.Reads as u32-at-reads
 
 returns : tie.Need-returns
 returns c = past-slots _ _ _ _ _ (omega arith)

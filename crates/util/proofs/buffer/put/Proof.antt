@@ -6,9 +6,6 @@ use Rattle.util.specs.BufferLaws.{put-in, fits-end, fits-into, past-end,
 use borrow.Author.Needs.{needs}
 use Rattle.util.proofs.buffer.put.Statement.{statement}
 use Rattle.util.proofs.buffer.put.Tie as tie
-use Rattle.util.proofs.buffer.put.Reads as reads
-use Rattle.util.proofs.buffer.put.Lts as lts
-use Rattle.bytes.proofs.copy.Reads as copy-reads
 
 returns : tie.Need-returns
 returns c = (past-end _ _ _ (omega arith), past-into _ _ _ (omega arith))

@@ -6,10 +6,6 @@ use Rattle.util.specs.Cstr.{textPart}
 use borrow.Author.Needs.{needs}
 use Rattle.util.proofs.cstr.cstr_at.Statement.{statement}
 use Rattle.util.proofs.cstr.cstr_at.Tie as tie
-use Rattle.util.proofs.cstr.cstr_at.Reads as reads
-use Rattle.util.proofs.cstr.cstr_at.Lts as lts
-use Rattle.util.proofs.cstr.read_cstr_at.Reads as read-cstr-at-reads
-use Rattle.util.proofs.cstr.text_part.Reads as text-part-reads
 
 read-cstr-at-requires : tie.Need-read-cstr-at-requires
 read-cstr-at-requires c κs = search needs

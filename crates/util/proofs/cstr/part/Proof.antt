@@ -5,8 +5,6 @@ use Rattle.util.specs.CstrLaws.{part-range, part-out}
 use borrow.Author.Needs.{needs}
 use Rattle.util.proofs.cstr.part.Statement.{statement}
 use Rattle.util.proofs.cstr.part.Tie as tie
-use Rattle.util.proofs.cstr.part.Reads as reads
-use Rattle.util.proofs.cstr.part.Lts as lts
 
 sub-if2 : tie.Need-sub-if2
 sub-if2 c = search needs

@@ -7,9 +7,6 @@ use Rattle.util.specs.CstrLaws.{text-past, text-scanned}
 use borrow.Author.Needs.{needs}
 use Rattle.util.proofs.cstr.read_cstr_at.Statement.{statement}
 use Rattle.util.proofs.cstr.read_cstr_at.Tie as tie
-use Rattle.util.proofs.cstr.read_cstr_at.Reads as reads
-use Rattle.util.proofs.cstr.read_cstr_at.Lts as lts
-use Rattle.utf8.proofs.scan_text.Reads as scan-text-reads
 
 returns : tie.Need-returns
 returns c = text-past _ _ (omega arith)

@@ -6,9 +6,6 @@ use denote.Ref.{now}
 use Rattle.util.specs.Cstr.{textPart, textOf}
 use Rattle.util.proofs.cstr.text_part.Statement.{statement}
 use Rattle.util.proofs.cstr.text_part.Tie as tie
-use Rattle.util.proofs.cstr.text_part.Reads as reads
-use Rattle.util.proofs.cstr.text_part.Lts as lts
-use Rattle.util.proofs.cstr.part.Reads as part-reads
 
 enum-known-text : tie.Need-enum-known-text
 enum-known-text c = search needs

@@ -7,10 +7,6 @@ use Rattle.util.specs.Pointer.{relativeAddress}
 use borrow.Author.Needs.{needs}
 use Rattle.util.proofs.header.address_in.Statement.{statement}
 use Rattle.util.proofs.header.address_in.Tie as tie
-use Rattle.util.proofs.header.address_in.Reads as reads
-use Rattle.util.proofs.header.address_in.Lts as lts
-use Rattle.util.proofs.header.i32_at.Reads as i32-at-reads
-use Rattle.util.proofs.pointer.relative_address.Reads as relative-address-reads
 
 i32-at-requires : tie.Need-i32-at-requires
 i32-at-requires c κs = search needs

@@ -10,9 +10,6 @@ use Rattle.util.specs.LittleEndianLaws.{signed-in}
 use borrow.Author.Needs.{needs}
 use Rattle.util.proofs.header.i32_at.Statement.{statement}
 use Rattle.util.proofs.header.i32_at.Tie as tie
-use Rattle.util.proofs.header.i32_at.Reads as reads
-use Rattle.util.proofs.header.i32_at.Lts as lts
-use Rattle.util.proofs.read.read_i32_le_at.Reads as read-i32-le-at-reads
 
 read-i32-le-at-requires : tie.Need-read-i32-le-at-requires
 read-i32-le-at-requires c κs = search needs

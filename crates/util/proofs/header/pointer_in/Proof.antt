@@ -7,10 +7,6 @@ use Rattle.util.specs.Pointer.{relativePointer}
 use borrow.Author.Needs.{needs}
 use Rattle.util.proofs.header.pointer_in.Statement.{statement}
 use Rattle.util.proofs.header.pointer_in.Tie as tie
-use Rattle.util.proofs.header.pointer_in.Reads as reads
-use Rattle.util.proofs.header.pointer_in.Lts as lts
-use Rattle.util.proofs.header.i32_at.Reads as i32-at-reads
-use Rattle.util.proofs.pointer.relative_pointer.Reads as relative-pointer-reads
 
 i32-at-requires : tie.Need-i32-at-requires
 i32-at-requires c κs = search needs

@@ -6,9 +6,6 @@ use Rattle.util.specs.LittleEndianLaws.{unsigned-in}
 use borrow.Author.Needs.{needs}
 use Rattle.util.proofs.header.u16_at.Statement.{statement}
 use Rattle.util.proofs.header.u16_at.Tie as tie
-use Rattle.util.proofs.header.u16_at.Reads as reads
-use Rattle.util.proofs.header.u16_at.Lts as lts
-use Rattle.util.proofs.read.read_u16_le_at.Reads as read-u16-le-at-reads
 
 read-u16-le-at-requires : tie.Need-read-u16-le-at-requires
 read-u16-le-at-requires c κs = search needs

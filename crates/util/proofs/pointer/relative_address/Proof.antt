@@ -7,9 +7,6 @@ use Rattle.util.specs.PointerLaws.{zero-offset, other-offset, null-addre
 use borrow.Author.Needs.{needs}
 use Rattle.util.proofs.pointer.relative_address.Statement.{statement}
 use Rattle.util.proofs.pointer.relative_address.Tie as tie
-use Rattle.util.proofs.pointer.relative_address.Reads as reads
-use Rattle.util.proofs.pointer.relative_address.Lts as lts
-use Rattle.util.proofs.pointer.relative_pointer.Reads as relative-pointer-reads
 
 relative-pointer-requires : tie.Need-relative-pointer-requires
 relative-pointer-requires c κs = search needs

@@ -5,10 +5,6 @@ use Rattle.util.proofs.Signed.{forward-cast, forward, widened, negated-
 use borrow.Author.Needs.{needs}
 use Rattle.util.proofs.pointer.relative_pointer.Statement.{statement}
 use Rattle.util.proofs.pointer.relative_pointer.Tie as tie
-use Rattle.util.proofs.pointer.relative_pointer.Reads as reads
-use Rattle.util.proofs.pointer.relative_pointer.Lts as lts
-use Rattle.std.proofs.num.wrapping_add_u64.Reads as wrapping-add-u64-reads
-use Rattle.std.proofs.num.wrapping_sub_u64.Reads as wrapping-sub-u64-reads
 
 cast-wrapping-add-u64 : tie.Need-cast-wrapping-add-u64
 cast-wrapping-add-u64 c = forward-cast _ (c .before .fits .offset) (c .if1 .taken)

@@ -10,9 +10,6 @@ use denote.Ref.{now}
 use Rattle.util.specs.LittleEndianLaws.{little-found, little-nothing}
 use Rattle.util.proofs.read.read_u32_le_at.Statement.{statement}
 use Rattle.util.proofs.read.read_u32_le_at.Tie as tie
-use Rattle.util.proofs.read.read_u32_le_at.Reads as reads
-use Rattle.util.proofs.read.read_u32_le_at.Lts as lts
-use Rattle.util.proofs.read.byte32.Reads as byte32-reads
 
 returns : tie.Need-returns
 returns c = little-nothing 4 _ _ (omega arith)

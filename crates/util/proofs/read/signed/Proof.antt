@@ -5,8 +5,6 @@ use Rattle.util.proofs.Signed.{minus-fits, minus-cast, twos-low, twos-h
 use borrow.Author.Needs.{needs}
 use Rattle.util.proofs.read.signed.Statement.{statement}
 use Rattle.util.proofs.read.signed.Tie as tie
-use Rattle.util.proofs.read.signed.Reads as reads
-use Rattle.util.proofs.read.signed.Lts as lts
 
 cast-result : tie.Need-cast-result
 cast-result c = search needs

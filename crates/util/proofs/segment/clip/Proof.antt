@@ -5,10 +5,6 @@ use Rattle.util.specs.MappingLaws.{clipped}
 use borrow.Author.Needs.{needs}
 use Rattle.util.proofs.segment.clip.Statement.{statement}
 use Rattle.util.proofs.segment.clip.Tie as tie
-use Rattle.util.proofs.segment.clip.Reads as reads
-use Rattle.util.proofs.segment.clip.Lts as lts
-use Rattle.util.proofs.segment.higher.Reads as higher-reads
-use Rattle.util.proofs.segment.lower.Reads as lower-reads
 
 sub-if1 : tie.Need-sub-if1
 sub-if1 c = search needs

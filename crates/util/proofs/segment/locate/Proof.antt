@@ -12,12 +12,6 @@ use Rattle.util.specs.SegmentsLaws.{lookup-answer, lookup-next, lookup-e
 use Rattle.util.specs.MappingLaws.{next-fits, answer-in, around-next, low-next, high-next, around-mapped}
 use Rattle.util.proofs.segment.locate.Statement.{statement}
 use Rattle.util.proofs.segment.locate.Tie as tie
-use Rattle.util.proofs.segment.locate.Reads as reads
-use Rattle.util.proofs.segment.locate.Lts as lts
-use Rattle.util.proofs.segment.clip.Reads as clip-reads
-use Rattle.util.proofs.segment.high_before.Reads as high-before-reads
-use Rattle.util.proofs.segment.look_up.Reads as look-up-reads
-use Rattle.util.proofs.segment.low_past.Reads as low-past-reads
 
 abbrev Inv-loop : tie.InvT-loop
 Inv-loop segments address low₀ high₀ i₀ low high i =

@@ -5,8 +5,6 @@ use native.Mathlib.Omega.{arith}
 use Rattle.util.specs.SegmentsLaws.{wraps, below, above, no-bytes, held, past-file, offset-wraps, in-file}
 use Rattle.util.proofs.segment.look_up.Statement.{statement}
 use Rattle.util.proofs.segment.look_up.Tie as tie
-use Rattle.util.proofs.segment.look_up.Reads as reads
-use Rattle.util.proofs.segment.look_up.Lts as lts
 
 sub-if1 : tie.Need-sub-if1
 sub-if1 c = search needs

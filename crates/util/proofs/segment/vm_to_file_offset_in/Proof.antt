@@ -10,9 +10,6 @@ use Rattle.util.specs.Segments.{segmentsOf, fileOffset}
 use Rattle.util.specs.SegmentsLaws.{lookup-answer, lookup-next, lookup-end}
 use Rattle.util.proofs.segment.vm_to_file_offset_in.Statement.{statement}
 use Rattle.util.proofs.segment.vm_to_file_offset_in.Tie as tie
-use Rattle.util.proofs.segment.vm_to_file_offset_in.Reads as reads
-use Rattle.util.proofs.segment.vm_to_file_offset_in.Lts as lts
-use Rattle.util.proofs.segment.look_up.Reads as look-up-reads
 
 abbrev Inv-loop : tie.InvT-loop
 Inv-loop segments vmaddr i₀ i =

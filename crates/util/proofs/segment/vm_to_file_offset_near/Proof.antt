@@ -4,10 +4,6 @@ use Rattle.util.specs.MappingLaws.{near-answer, near-next}
 use borrow.Author.Needs.{needs}
 use Rattle.util.proofs.segment.vm_to_file_offset_near.Statement.{statement}
 use Rattle.util.proofs.segment.vm_to_file_offset_near.Tie as tie
-use Rattle.util.proofs.segment.vm_to_file_offset_near.Reads as reads
-use Rattle.util.proofs.segment.vm_to_file_offset_near.Lts as lts
-use Rattle.util.proofs.segment.look_up.Reads as look-up-reads
-use Rattle.util.proofs.segment.vm_to_file_offset_in.Reads as vm-to-file-offset-in-reads
 
 look-up-requires : tie.Need-look-up-requires
 look-up-requires c κs = search needs

@@ -6,10 +6,6 @@ use Rattle.listing.specs.PrintedLaws.{print-ragged, print-as, print-refu
 use borrow.Author.Needs.{needs}
 use Rattle.listing.proofs.printer.Printer.next_line.Statement.{statement}
 use Rattle.listing.proofs.printer.Printer.next_line.Tie as tie
-use Rattle.listing.proofs.printer.Printer.next_line.Reads as reads
-use Rattle.listing.proofs.printer.Printer.next_line.Lts as lts
-use Rattle.listing.proofs.printer.refusal_line.Reads as refusal-line-reads
-use Rattle.listing.proofs.printer.rows_line.Reads as rows-line-reads
 
 returns : tie.Need-returns
 returns c = print-ragged _ _ _ _ (c .if1 .taken)

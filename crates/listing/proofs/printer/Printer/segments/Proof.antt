@@ -6,9 +6,6 @@ use Rattle.listing.specs.PrintedLaws.{numbers-for}
 use borrow.Author.Needs.{needs}
 use Rattle.listing.proofs.printer.Printer.segments.Statement.{statement}
 use Rattle.listing.proofs.printer.Printer.segments.Tie as tie
-use Rattle.listing.proofs.printer.Printer.segments.Reads as reads
-use Rattle.listing.proofs.printer.Printer.segments.Lts as lts
-use Rattle.listing.proofs.printer.fill.Reads as fill-reads
 
 enum-known-self : tie.Need-enum-known-self
 enum-known-self c = search needs

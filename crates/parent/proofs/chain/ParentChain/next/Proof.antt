@@ -7,9 +7,6 @@ use Rattle.parent.specs.ContextLaws.{chain-full, chain-ends, chain-goes-
 use borrow.Author.Needs.{needs}
 use Rattle.parent.proofs.chain.ParentChain.next.Statement.{statement}
 use Rattle.parent.proofs.chain.ParentChain.next.Tie as tie
-use Rattle.parent.proofs.chain.ParentChain.next.Reads as reads
-use Rattle.parent.proofs.chain.ParentChain.next.Lts as lts
-use Rattle.parent.proofs.header.read_context.Reads as read-context-reads
 
 returns : tie.Need-returns
 returns c = chain-full _ _ _ _ (omega arith)

@@ -10,9 +10,6 @@ use Rattle.typedescriptor.specs.Slots.{slots, nextRow}
 use Rattle.typedescriptor.specs.RowLaws.{row-next, slot-passed, rows-end}
 use Rattle.typedescriptor.proofs.iter.TypeIter.next.Statement.{statement}
 use Rattle.typedescriptor.proofs.iter.TypeIter.next.Tie as tie
-use Rattle.typedescriptor.proofs.iter.TypeIter.next.Reads as reads
-use Rattle.typedescriptor.proofs.iter.TypeIter.next.Lts as lts
-use Rattle.typedescriptor.proofs.iter.slot_row.Reads as slot-row-reads
 
 abbrev Inv-loop : tie.InvT-loop
 Inv-loop image segments types vmaddr count slot₀ slot =
