@@ -12,31 +12,36 @@ use borrow.Author.Count.{below-more}
 use borrow.Author.Tests.{ltb-true}
 use Rattle.utf8.specs.Plain.{Plain}
 use mathlib.Core.Option.{Option, some, none}
-use lib.ListN.{length, getD, drop, replicate, drop-of-length-le}
+use lib.ListN.{length, getD, drop, replicate, length-replicate, drop-of-length-le}
 use lib.Seq.{drop-cons}
 use Rattle.utf8.specs.Table.{Range, table, _to_}
-use Rattle.utf8.specs.Text.{following, goesOn, untilNul, textLength, tailRanges}
+use Rattle.utf8.specs.Text.{following, goesOn, untilNul, textLength, leads}
+use Rattle.utf8.specs.declared.Lead.the-variants.{Tail}
 use Rattle.utf8.specs.Utf8Laws.{within-true, within-false, following-starts}
 use Rattle.utf8.proofs.Rows.{in-row}
 
--- no row lets a NUL be the second byte
-abbrev SecondHigh : List Range → Type 0
-SecondHigh [] = Unit {0}
-SecondHigh (r ∷ []) = Unit {0}
-SecondHigh (r ∷ q ∷ rs) = 0 < q .low
+-- no row lets a NUL be the second byte, or has more than two bytes after that
+abbrev Second : List Range → Type 0
+Second [] = Unit {0}
+Second (r ∷ []) = Unit {0}
+Second (r ∷ q ∷ rs) = (0 < q .low) × (length rs ≤ 2)
 
 abbrev Each : List (List Range) → Type 0
 Each [] = Unit {0}
-Each (row ∷ rows) = SecondHigh row × Each rows
+Each (row ∷ rows) = Second row × Each rows
 
-second-high : {row : List Range} {rows : List (List Range)} → List·Memᴰ row rows → Each rows → SecondHigh row
-second-high (List·Memᴰ·head e) all = subst SecondHigh (sym e) (all .0)
-second-high (List·Memᴰ·tail m) all = second-high m (all .1)
+second : {row : List Range} {rows : List (List Range)} → List·Memᴰ row rows → Each rows → Second row
+second (List·Memᴰ·head e) all = subst Second (sym e) (all .0)
+second (List·Memᴰ·tail m) all = second m (all .1)
 
-pub least-positive : (n low high b : ℕ) → some (tailRanges n low high) ≡ following table b → 0 < n → 0 < low
+pub tail-limits : (low high more b : ℕ) → leads (Tail low high more) ≡ following table b → (0 < low) × (more ≤ 2)
 unfolding table
-least-positive zero low high b e h = absurd (not-suc-le-zero h)
-least-positive (suc n) low high b e h = second-high (following-starts table b _ (sym e) .row) (omega arith)
+tail-limits low high more b e = rw length-replicate at (second (following-starts table b _ (sym e) .row) (omega arith))
+
+-- `n` continuation bytes, the first of them between `low` and `high`
+abbrev pub tailRanges : ℕ → ℕ → ℕ → List Range
+tailRanges zero low high = []
+tailRanges (suc n) low high = low to high ∷ replicate n (0x80 to 0xbf)
 
 -- the walk is at i, with these ranges pending: the text is well-formed if what is left goes on in them, and is i bytes longer than that
 pub record Walk (s : List ℕ) (i : ℕ) (rs : List Range) : Type 0 where
@@ -74,6 +79,9 @@ module _ (s : List ℕ) (i : ℕ) (inside : i < length s) where
   pub lead-step : (rs : List Range) → (getD s i 0 ≡ 0 → ⊥) → some rs ≡ following table (getD s i 0) → Walk s i [] → Walk s (i + 1) rs
   unfolding goesOn
   lead-step rs h e = step [] rs h (λ t. rw (← e, goesOn))
+
+  pub lead-tail : (low high more : ℕ) → (getD s i 0 ≡ 0 → ⊥) → leads (Tail low high more) ≡ following table (getD s i 0) → Walk s i [] → Walk s (i + 1) (tailRanges (more + 1) low high)
+  lead-tail low high more h e w = rw (add-one more) (lead-step _ h e w)
 
   pub ascii-step : (getD s i 0 ≡ 0 → ⊥) → getD s i 0 < 0x80 → Walk s i [] → Walk s (i + 1) []
   unfolding table

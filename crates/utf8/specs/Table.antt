@@ -1,4 +1,4 @@
--- Well-formed UTF-8: The Unicode Standard, Table 3-7 "Well-Formed UTF-8 Byte Sequences", row by row.
+-- Well-formed UTF-8: The Unicode Standard, Table 3-7 "Well-Formed UTF-8 Byte Sequences", row by row (docs/SPECIFICATION.md, "Texts").
 use Prim.Native.Nat.{ℕ, _≤_}
 use mathlib.Core.List.{List, [], _∷_, _++_, List·Memᴰ}
 

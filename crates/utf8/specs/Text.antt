@@ -8,7 +8,7 @@ use lib.Dec.{leb}
 use Rattle.utf8.specs.Table.{Range, table, _to_}
 use Rattle.utf8.specs.declared.Scan.{Scan}
 use Rattle.utf8.specs.declared.Lead.{Lead}
-use Rattle.utf8.specs.declared.Lead.the-variants.{Tail, Invalid}
+use Rattle.utf8.specs.declared.Lead.the-variants.{Alone, Tail, Invalid}
 use Rattle.utf8.specs.declared.Scan.the-variants.{Text, IllFormed}
 
 abbrev pub within : Range → ℕ → Bool
@@ -37,7 +37,7 @@ untilNul [] = []
 untilNul (zero ∷ s) = []
 untilNul (suc b ∷ s) = suc b ∷ untilNul s
 
--- document 01, "Bytes and texts at an address": the length of the text at the start of these bytes, if it is well-formed
+-- docs/SPECIFICATION.md, "Texts": the length of the text at the start of these bytes, if it is well-formed
 unfoldable pub textLength : List ℕ → Option ℕ
 textLength s = elim (wellFormed (untilNul s)) [ true ↦ some (length (untilNul s)) | false ↦ none ]
 
@@ -45,11 +45,8 @@ abbrev pub scanned : Scan → Option ℕ
 scanned (Text n) = some n
 scanned IllFormed = none
 
--- `n` continuation bytes, the first of them between `low` and `high`
-abbrev pub tailRanges : ℕ → ℕ → ℕ → List Range
-tailRanges zero low high = []
-tailRanges (suc n) low high = _to_ low high ∷ replicate n (_to_ 0x80 0xbf)
-
+-- what a lead byte's limits say of the bytes after it: one-to-one (`Utf8Laws.leads-injective`)
 abbrev pub leads : Lead → Option (List Range)
-leads (Tail n low high) = some (tailRanges n low high)
+leads Alone = some []
+leads (Tail low high more) = some (_to_ low high ∷ replicate more (_to_ 0x80 0xbf))
 leads Invalid = none

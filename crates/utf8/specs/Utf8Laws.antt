@@ -1,16 +1,18 @@
 -- What `wellFormed` accepts is well-formed by Table 3-7 (`sound`), and what is well-formed it accepts (`complete`).
--- And which bytes `untilNul` and `textLength` speak of. Assumes nothing.
+-- What `lead_limits` promises fixes its answer (`leads-injective`). And which bytes `untilNul` and `textLength` speak of. Assumes nothing.
 use Prim.Native.Nat.{ℕ, zero, suc, _≤_}
 use native.Mathlib.Omega.{arith}
-use mathlib.Core.Path.{_≡_, refl, ap, subst}
+use mathlib.Core.Path.{_≡_, refl, sym, ap, subst, _∙_}
 use mathlib.Core.List.{List, [], _∷_, _++_, List·Memᴰ, List·Memᴰ·head, List·Memᴰ·tail, List·Memᴰ·cases-cons, List·Memᴰ·not-nil}
 use mathlib.Core.Bool.{Bool, true, false, and-eq-true-iff, false≢true}
 use mathlib.Core.Option.{Option, some, none}
 use mathlib.Core.Logic.{⊎-elim}
-use lib.ListN.{length, take}
+use lib.ListN.{length, take, replicate, length-replicate}
 use borrow.Author.Tests.{le-leb, leb-true}
-use Rattle.utf8.specs.Table.{Range, table, Sequence, WellFormed}
-use Rattle.utf8.specs.Text.{within, following, goesOn, wellFormed, untilNul, textLength}
+use Rattle.utf8.specs.Table.{Range, table, _to_, Sequence, WellFormed}
+use Rattle.utf8.specs.Text.{within, following, goesOn, wellFormed, untilNul, textLength, leads}
+use Rattle.utf8.specs.declared.Lead.{Lead}
+use Rattle.utf8.specs.declared.Lead.the-variants.{Alone, Tail, Invalid}
 
 -- rows in the order of their lead bytes, the first of which is at least n
 abbrev Ordered : ℕ → List (List Range) → Type 0
@@ -132,6 +134,24 @@ complete _ (WellFormed.sequence {t = t} m q w) = go m q (complete t w)
     go m Sequence.none e = e
     go m (Sequence.byte {r = r} {rs = rs} {b = b} l h q) e =
         rw (starts-following 0 table b rs table-ordered (record { lead = r; row = m; bounds = (l, h) }) .1, goesOn) (goes-on t q e)
+
+-- two answers about a lead byte that ask for the same ranges are the same answer
+pub leads-injective : (a b : Lead) → leads a ≡ leads b → a ≡ b
+leads-injective Alone Alone e = refl
+leads-injective Invalid Invalid e = refl
+leads-injective Alone (Tail l h n) e = let z : _≡_ {A = ℕ} 0 1 = cc in absurd (omega arith)
+leads-injective Alone Invalid e = let z : _≡_ {A = ℕ} 0 1 = cc in absurd (omega arith)
+leads-injective (Tail l h n) Alone e = let z : _≡_ {A = ℕ} 0 1 = cc in absurd (omega arith)
+leads-injective (Tail l h n) Invalid e = let z : _≡_ {A = ℕ} 0 1 = cc in absurd (omega arith)
+leads-injective Invalid Alone e = let z : _≡_ {A = ℕ} 0 1 = cc in absurd (omega arith)
+leads-injective Invalid (Tail l h n) e = let z : _≡_ {A = ℕ} 0 1 = cc in absurd (omega arith)
+leads-injective (Tail l h n) (Tail l′ h′ n′) e =
+    let second : l to h ≡ l′ to h′ = cc in
+    let low : l ≡ l′ = ap (λ (r : Range). r .low) second in
+    let high : h ≡ h′ = ap (λ (r : Range). r .high) second in
+    let later : replicate n (0x80 to 0xbf) ≡ replicate n′ (0x80 to 0xbf) = cc in
+    let more : n ≡ n′ = sym (length-replicate n (0x80 to 0xbf)) ∙ ap length later ∙ length-replicate n′ (0x80 to 0xbf) in
+    cc
 
 pub until-nul-length : (s : List ℕ) → length (untilNul s) ≤ length s
 unfolding untilNul

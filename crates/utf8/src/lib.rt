@@ -18,8 +18,10 @@ pub enum Scan {
 
 // What a lead byte asks of the bytes after it.
 pub enum Lead {
-    // So many bytes follow; the second byte of the sequence is between `low` and `high`, any later one between 80 and BF.
-    Tail { count: usize, low: u8, high: u8 },
+    // Nothing: the byte is a sequence by itself.
+    Alone,
+    // A second byte between `low` and `high`, and then `more` bytes between 80 and BF.
+    Tail { low: u8, high: u8, more: usize },
     // No sequence starts with the byte.
     Invalid,
 }
@@ -29,20 +31,16 @@ pub fn lead_limits(b: u8) -> Lead
     ensures { λ r. ⌜ leads r ≡ following table b ⌝ }
 {
     if b < 0x80 {
-        return Lead::Tail {
-            count: 0,
-            low: 0x80,
-            high: 0xbf,
-        };
+        return Lead::Alone;
     }
     if b < 0xc2 {
         return Lead::Invalid;
     }
     if b < 0xe0 {
         return Lead::Tail {
-            count: 1,
             low: 0x80,
             high: 0xbf,
+            more: 0,
         };
     }
     if b < 0xf0 {
@@ -57,22 +55,22 @@ fn three_bytes(b: u8) -> Lead
 {
     if b == 0xe0 {
         return Lead::Tail {
-            count: 2,
             low: 0xa0,
             high: 0xbf,
+            more: 1,
         };
     }
     if b == 0xed {
         return Lead::Tail {
-            count: 2,
             low: 0x80,
             high: 0x9f,
+            more: 1,
         };
     }
     Lead::Tail {
-        count: 2,
         low: 0x80,
         high: 0xbf,
+        more: 1,
     }
 }
 
@@ -82,23 +80,23 @@ fn four_bytes(b: u8) -> Lead
 {
     if b == 0xf0 {
         return Lead::Tail {
-            count: 3,
             low: 0x90,
             high: 0xbf,
+            more: 2,
         };
     }
     if b < 0xf4 {
         return Lead::Tail {
-            count: 3,
             low: 0x80,
             high: 0xbf,
+            more: 2,
         };
     }
     if b == 0xf4 {
         return Lead::Tail {
-            count: 3,
             low: 0x80,
             high: 0x8f,
+            more: 2,
         };
     }
     Lead::Invalid
@@ -145,28 +143,32 @@ pub fn scan_text(s: &[u8]) -> Scan
         }
         i += 1;
         if b >= 0x80 {
-            let l = lead_limits(b);
-            let Lead::Tail { count, low, high } = l else {
-                formed = false;
-                break 'scan;
-            };
-            let mut left = count;
-            let mut least = low;
-            let mut most = high;
-            while left > 0 {
-                if s.len() <= i {
+            match lead_limits(b) {
+                Lead::Alone => {}
+                Lead::Tail { low, high, more } => {
+                    let mut left = more + 1;
+                    let mut least = low;
+                    let mut most = high;
+                    while left > 0 {
+                        if s.len() <= i {
+                            formed = false;
+                            break 'scan;
+                        }
+                        let c = s[i];
+                        if c < least || most < c {
+                            formed = false;
+                            break 'scan;
+                        }
+                        least = 0x80;
+                        most = 0xbf;
+                        left -= 1;
+                        i += 1;
+                    }
+                }
+                Lead::Invalid => {
                     formed = false;
                     break 'scan;
                 }
-                let c = s[i];
-                if c < least || most < c {
-                    formed = false;
-                    break 'scan;
-                }
-                least = 0x80;
-                most = 0xbf;
-                left -= 1;
-                i += 1;
             }
         }
     }

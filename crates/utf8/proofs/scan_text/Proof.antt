@@ -9,17 +9,17 @@ use mathlib.Core.Logic.{⊎-elim}
 use mathlib.Core.Bool.{true}
 use mathlib.Core.List.{[]}
 use lib.ListN.{length}
-use Rattle.utf8.specs.Text.{tailRanges, textLength, leads}
-use Rattle.utf8.proofs.Walk.{Walk, plain-walk, least-positive, lead-step, ascii-step, tail-step, tail-done, no-lead, no-tail, at-nul, at-end, outcome, ends, ill-formed}
+use Rattle.utf8.specs.Text.{textLength, leads}
+use Rattle.utf8.proofs.Walk.{Walk, tailRanges, plain-walk, tail-limits, lead-step, lead-tail, ascii-step, tail-step, tail-done, no-lead, no-tail, at-nul, at-end, outcome, ends, ill-formed}
 use Rattle.utf8.proofs.scan_text.Statement.{statement}
 use Rattle.utf8.proofs.scan_text.Tie as tie
 
 abbrev Inv-loop : tie.InvT-loop
-Inv-loop s i₀ formed₀ b count low high left₀ least₀ most₀ i formed left least most =
+Inv-loop s i₀ formed₀ b low high more left₀ least₀ most₀ i formed left least most =
     (i₀ ≤ i) × (i ≤ length s) × (formed ≡ true) × (0 < left → 0 < least) × Walk s i (tailRanges left least most)
 
 abbrev μ-loop : tie.MeasureT-loop
-μ-loop s i₀ formed₀ b count low high left₀ least₀ most₀ i formed left least most = left
+μ-loop s i₀ formed₀ b low high more left₀ least₀ most₀ i formed left least most = left
 
 abbrev Inv-scan : tie.InvT-scan
 Inv-scan s i₀ formed₀ i formed = (i ≤ length s) × (formed ≡ true) × Walk s i []
@@ -44,26 +44,44 @@ add-i c = search needs
 lead-limits-requires : tie.Need-lead-limits-requires Inv-loop μ-loop Inv-scan μ-scan
 lead-limits-requires c κs = search needs
 
-enum-known-l : tie.Need-enum-known-l Inv-loop μ-loop Inv-scan μ-scan
-enum-known-l c = search needs
-
 enum-told : tie.Need-enum-told Inv-loop μ-loop Inv-scan μ-scan
 enum-told c = search needs
-
-loop-holds : tie.Need-loop-holds Inv-loop μ-loop Inv-scan μ-scan
-loop-holds c =
-    let called = c .before .before .before in
-    let byte = called .before .before in
-    let at = byte .before .before .before .scan in
-    let asked = sym (ap leads (c .before .l .given .1)) ∙ called .lead-limits .ensures in
-    let walk = lead-step _ _ (byte .before .before .scan-test .taken) _ (byte .if1 .left) asked (at .inv .2) in
-    (omega arith, omega arith, at .inv .1, least-positive _ _ _ _ asked, walk)
 
 scan-less : tie.Need-scan-less Inv-loop μ-loop Inv-scan μ-scan
 scan-less c = search needs
 
 scan-again : tie.Need-scan-again Inv-loop μ-loop Inv-scan μ-scan
 scan-again c =
+    let byte = c .before .before .before .before in
+    let at = byte .before .before .before .scan in
+    let asked = sym (ap leads (c .enum-told .given .1)) ∙ c .before .before .lead-limits .ensures in
+    (omega arith, at .inv .1, lead-step _ _ (byte .before .before .scan-test .taken) _ (byte .if1 .left) asked (at .inv .2))
+
+enum-known-low : tie.Need-enum-known-low Inv-loop μ-loop Inv-scan μ-scan
+enum-known-low c = search needs
+
+add-left : tie.Need-add-left Inv-loop μ-loop Inv-scan μ-scan
+add-left c =
+    let asked = sym (ap leads (c .before .low .given .1)) ∙ c .before .before .before .lead-limits .ensures in
+    let more = c .before .low .given .0 .1 .1 .0 in
+    let limits = tail-limits _ _ more _ asked in
+    omega arith
+
+loop-holds : tie.Need-loop-holds Inv-loop μ-loop Inv-scan μ-scan
+loop-holds c =
+    let called = c .before .before .before in
+    let byte = called .before .before in
+    let at = byte .before .before .before .scan in
+    let asked = sym (ap leads (c .before .low .given .1)) ∙ called .lead-limits .ensures in
+    let more = c .before .low .given .0 .1 .1 .0 in
+    let walk = lead-tail _ _ (byte .before .before .scan-test .taken) _ _ more (byte .if1 .left) asked (at .inv .2) in
+    (omega arith, omega arith, at .inv .1, λ h. tail-limits _ _ more _ asked .0, walk)
+
+scan-less-2 : tie.Need-scan-less-2 Inv-loop μ-loop Inv-scan μ-scan
+scan-less-2 c = search needs
+
+scan-again-2 : tie.Need-scan-again-2 Inv-loop μ-loop Inv-scan μ-scan
+scan-again-2 c =
     let at = c .before .loop in
     (at .inv .1, at .inv .2, tail-done _ _ _ _ _ (c .loop-test .left) (at .inv .4))
 
@@ -87,16 +105,19 @@ loop-again c =
     let walk = tail-step _ _ (inside .if3 .left) _ _ _ more (at .inv .3 more) (c .before .if4 .left) (ltb-false _ _ (c .if5 .left)) (at .inv .4) in
     (omega arith, omega arith, at .inv .2, omega arith, walk)
 
-scan-less-2 : tie.Need-scan-less-2 Inv-loop μ-loop Inv-scan μ-scan
-scan-less-2 c = search needs
+enum-told-2 : tie.Need-enum-told-2 Inv-loop μ-loop Inv-scan μ-scan
+enum-told-2 c = search needs
 
-scan-again-2 : tie.Need-scan-again-2 Inv-loop μ-loop Inv-scan μ-scan
-scan-again-2 c =
+scan-less-3 : tie.Need-scan-less-3 Inv-loop μ-loop Inv-scan μ-scan
+scan-less-3 c = search needs
+
+scan-again-3 : tie.Need-scan-again-3 Inv-loop μ-loop Inv-scan μ-scan
+scan-again-3 c =
     let inside = c .before .before .before in
     let at = inside .before .scan in
     (omega arith, at .inv .1, ascii-step _ _ (inside .scan-test .taken) (c .before .if1 .left) (c .if2 .left) (at .inv .2))
 
--- the five ways out: the bytes' end, a NUL, a byte that starts no sequence, the end in a sequence, and a byte that does not go on with it
+-- the five ways out: the bytes' end, a NUL, the end in a sequence, a byte that does not go on with it, and a byte that starts none
 left-scan : (c : tie.Left-scan Inv-loop μ-loop Inv-scan μ-scan) → outcome (c .scan-test .formed) (c .scan-test .i) ≡ textLength (c .before .before .before .before .args .s .now)
 left-scan c =
     let s = c .before .before .before .before .args .s .now in
@@ -107,13 +128,13 @@ left-scan c =
     (⊎-elim
     (λ w. ends s (w .3) (w .4 ∙ at .inv .1) (at .inv .2) (at-nul s _ (w .0 .taken) (w .2 .taken)))
     (⊎-elim
-    (λ w. ill-formed s i (w .8) (at .inv .2) (no-lead s _ (w .0 .taken) (w .2 .left) (sym (ap leads (w .6 .given .1)) ∙ w .4 .ensures)))
-    (⊎-elim
     (λ w. ill-formed s i (w .12) (w .8 .inv .4) (no-tail s (w .8 .i) _ _ _ (w .9 .taken) (λ l low high. omega arith)))
+    (⊎-elim
     (λ w.
     ill-formed s i (w .14) (w .8 .inv .4)
     (no-tail s (w .8 .i) _ _ _ (w .9 .taken)
-    (λ l low high. ⊎-elim (λ v. omega arith) (λ v. omega (arith, ltb-true)) (w .12 .came)))))))
+    (λ l low high. ⊎-elim (λ v. omega arith) (λ v. omega (arith, ltb-true)) (w .12 .came))))
+    (λ w. ill-formed s i (w .8) (at .inv .2) (no-lead s _ (w .0 .taken) (w .2 .left) (sym (ap leads (w .6 .given .1)) ∙ w .4 .ensures))))))
     (c .scan-test .came)
 
 returns : tie.Need-returns Inv-loop μ-loop Inv-scan μ-scan
@@ -135,17 +156,21 @@ scan-text-spec =
     shared-slice-read-b
     add-i
     lead-limits-requires
-    enum-known-l
     enum-told
-    loop-holds
     scan-less
     scan-again
+    enum-known-low
+    add-left
+    loop-holds
+    scan-less-2
+    scan-again-2
     shared-slice-read-c
     sub-left
     add-i-2
     loop-less
     loop-again
-    scan-less-2
-    scan-again-2
+    enum-told-2
+    scan-less-3
+    scan-again-3
     returns
     returns-2)
