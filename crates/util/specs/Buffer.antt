@@ -1,14 +1,24 @@
--- A piece of a text in a buffer.
+-- A piece of a text in a buffer: docs/SPECIFICATION.md, "Lent buffers".
 use Prim.Native.Nat.{ℕ, _+_}
 use mathlib.Core.Path.{_≡_}
 use mathlib.Core.List.{List, _++_}
 use mathlib.Core.Bool.{Bool, cond}
+use mathlib.Core.Option.{Option, some, none}
 use lib.ListN.{length, take, drop}
 use lib.Dec.{leb}
 
 -- the buffer with a piece at a place
 abbrev pub pasted : List ℕ → ℕ → List ℕ → List ℕ
 pasted buffer at piece = take at buffer ++ (piece ++ drop (at + length piece) buffer)
+
+-- the buffer with a text at its start
+abbrev pub atStart : List ℕ → List ℕ → List ℕ
+atStart t buffer = t ++ drop (length t) buffer
+
+-- the buffer after a call that gives a text at its start: as it was where the call gives none
+abbrev pub overwritten : List ℕ → Option (List ℕ) → List ℕ
+overwritten buffer none = buffer
+overwritten buffer (some t) = atStart t buffer
 
 abbrev pub fitsIn : List ℕ → ℕ → List ℕ → Bool
 fitsIn buffer at piece = leb (at + length piece) (length buffer)

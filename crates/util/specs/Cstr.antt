@@ -1,11 +1,11 @@
--- A text at an offset: document 01, "Bytes and texts at an address".
+-- A text at an offset: docs/SPECIFICATION.md, "Texts".
 use Prim.Native.Nat.{ℕ, _+_}
 use mathlib.Core.List.{List, []}
 use mathlib.Core.Bool.{cond}
 use mathlib.Core.Option.{Option, some, none, Option·map}
 use lib.ListN.{length, take, drop}
 use lib.Dec.{leb}
-use Rattle.utf8.specs.Text.{textLength}
+use Rattle.utf8.specs.Text.{textLength, untilNul, wellFormed}
 use Rattle.util.specs.declared.cstr.Text.{Text}
 use Rattle.util.specs.declared.cstr.Text.the-variants.{At, Nothing}
 
@@ -33,3 +33,7 @@ textOf Nothing = none
 abbrev pub textPart : List ℕ → Option Place → List ℕ
 textPart s none = []
 textPart s (some p) = partOf s p
+
+-- the text of a field of fixed size (`segname` and `sectname` of mach-o/loader.h): up to the first NUL, the empty one where that is ill-formed
+unfoldable pub fixedText : List ℕ → List ℕ
+fixedText s = cond (wellFormed (untilNul s)) (untilNul s) []

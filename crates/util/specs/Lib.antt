@@ -1,8 +1,14 @@
 pub mod Answers
+pub mod BigEndian
+pub mod BigEndianLaws
 pub mod Buffer
 pub mod BufferLaws
 pub mod Cstr
 pub mod CstrLaws
+pub mod Leb128
+pub mod Leb128Laws
+pub mod Leb128Theorems
+pub mod Leb128Walk
 pub mod LittleEndian
 pub mod LittleEndianLaws
 pub mod Mapping
@@ -11,3 +17,5 @@ pub mod Pointer
 pub mod PointerLaws
 pub mod Segments
 pub mod SegmentsLaws
+pub mod VmAddress
+pub mod VmAddressLaws

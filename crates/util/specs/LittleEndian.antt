@@ -1,4 +1,4 @@
--- Numbers in bytes: little-endian, for every width.
+-- Numbers in bytes, little-endian, for every width: docs/SPECIFICATION.md, "Numbers in bytes".
 use Prim.Native.Nat.{ℕ, _+_, _-_, _*_, _^_, _<_}
 use mathlib.Core.Path.{_≡_}
 use mathlib.Core.List.{List, [], _∷_}

@@ -7,9 +7,9 @@ use mathlib.Core.Path.{_≡_, refl, sym, _∙_, ap}
 use mathlib.Core.List.{List, [], _∷_, _++_}
 use mathlib.Core.Option.{Option, some, none, Option·map, Option·getD}
 use lib.ListN.{length, take, drop, getD, length-take, length-drop}
-use lib.IntN.{ℤ, pos}
+use lib.IntN.{ℤ, pos, negsuc, _-ℤ_}
 use lib.Seq.{drop-cons, drop-drop, take-add, take-all, length-take-le}
-use borrow.Author.Tests.{le-leb, lt-leb}
+use borrow.Author.Tests.{le-leb, lt-leb, lt-ltb, le-ltb}
 use Rattle.util.specs.LittleEndian.{littleEndian, littleAt, bytesAt, signedAt, twosComplement, unsignedIn, signedIn}
 
 -- the sum of `n` bytes from `off + i` on, each at its weight
@@ -32,47 +32,64 @@ unfolding littleEndian
 little-append [] ys = omega arith
 little-append (b ∷ xs) ys = rw (little-append xs ys, pow-succ' 256 (length xs), mul-assoc 256 (256 ^ length xs) (littleEndian ys)) (omega arith)
 
-module _ (n : ℕ) (s : List ℕ) (off : ℕ) where
-  pub little-found : (v : ℕ) → off + n ≤ length s → v ≡ sumFrom s off 0 n → some v ≡ littleAt n s off
-  unfolding littleAt bytesAt
-  little-found v h e =
-      simp (le-leb _ _ h)
-      (ap some (e ∙ sym (little-sum n s off 0 (omega arith)) ∙ ap (λ (k : ℕ). littleEndian (take n (drop k s))) (add-zero off)))
+-- what the bytes at an offset mean, by any reading `f` of them
+module _ (f : List ℕ → ℕ) (n : ℕ) (s : List ℕ) (off : ℕ) where
+  pub bytes-found : (v : ℕ) → off + n ≤ length s → v ≡ f (take n (drop off s)) → some v ≡ Option·map f (bytesAt n s off)
+  unfolding bytesAt
+  bytes-found v h e = simp (le-leb _ _ h) (ap some e)
 
-  pub little-nothing : length s < off + n → none ≡ littleAt n s off
-  unfolding littleAt bytesAt
-  little-nothing h = simp (lt-leb _ _ h)
+  pub bytes-nothing : length s < off + n → none ≡ Option·map f (bytesAt n s off)
+  unfolding bytesAt
+  bytes-nothing h = simp (lt-leb _ _ h)
 
   -- bytes that were read lie within
-  pub little-within : (v : ℕ) → some v ≡ littleAt n s off → off + n ≤ length s
-  unfolding littleAt bytesAt
-  little-within v e =
+  pub bytes-within : (v : ℕ) → some v ≡ Option·map f (bytesAt n s off) → off + n ≤ length s
+  bytes-within v e =
       elim (decLe (off + n) (length s)) [
         | yes h ↦ h
         | no h ↦
-            let f : _≡_ {A = Option ℕ} (some v) none = simp (lt-leb (off + n) (length s) (omega arith)) at e in
+            let g : _≡_ {A = Option ℕ} (some v) none = e ∙ sym (bytes-nothing (omega arith)) in
             let z : _≡_ {A = ℕ} 0 1 = cc in
             absurd (omega arith)
       ]
 
   -- and bytes that were not run past the end
-  pub little-beyond : none ≡ littleAt n s off → length s < off + n
-  unfolding littleAt bytesAt
-  little-beyond e =
+  pub bytes-beyond : none ≡ Option·map f (bytesAt n s off) → length s < off + n
+  bytes-beyond e =
       elim (decLe (off + n) (length s)) [
         | yes h ↦
-            let f : _≡_ {A = Option ℕ} none (some (littleEndian (take n (drop off s)))) = simp (le-leb (off + n) (length s) h) at e in
+            let g : _≡_ {A = Option ℕ} none (some (f (take n (drop off s)))) = e ∙ sym (bytes-found _ h refl) in
             let z : _≡_ {A = ℕ} 0 1 = cc in
             absurd (omega arith)
         | no h ↦ omega arith
       ]
 
-  pub little-value : (v : ℕ) → some v ≡ littleAt n s off → v ≡ littleEndian (take n (drop off s))
-  unfolding littleAt bytesAt
-  little-value v e =
-      let h : off + n ≤ length s = little-within v e in
-      let f : some v ≡ some (littleEndian (take n (drop off s))) = simp (le-leb (off + n) (length s) h) at e in
+  pub bytes-value : (v : ℕ) → some v ≡ Option·map f (bytesAt n s off) → v ≡ f (take n (drop off s))
+  bytes-value v e =
+      let g : some v ≡ some (f (take n (drop off s))) = e ∙ sym (bytes-found _ (bytes-within v e) refl) in
       cc
+
+module _ (n : ℕ) (s : List ℕ) (off : ℕ) where
+  pub little-found : (v : ℕ) → off + n ≤ length s → v ≡ sumFrom s off 0 n → some v ≡ littleAt n s off
+  unfolding littleAt
+  little-found v h e =
+      bytes-found littleEndian n s off v h (e ∙ sym (little-sum n s off 0 (omega arith)) ∙ ap (λ (k : ℕ). littleEndian (take n (drop k s))) (add-zero off))
+
+  pub little-nothing : length s < off + n → none ≡ littleAt n s off
+  unfolding littleAt
+  little-nothing h = bytes-nothing littleEndian n s off h
+
+  pub little-within : (v : ℕ) → some v ≡ littleAt n s off → off + n ≤ length s
+  unfolding littleAt
+  little-within v e = bytes-within littleEndian n s off v e
+
+  pub little-beyond : none ≡ littleAt n s off → length s < off + n
+  unfolding littleAt
+  little-beyond e = bytes-beyond littleEndian n s off e
+
+  pub little-value : (v : ℕ) → some v ≡ littleAt n s off → v ≡ littleEndian (take n (drop off s))
+  unfolding littleAt
+  little-value v e = bytes-value littleEndian n s off v e
 
   -- the same bytes, read as signed
   pub signed-found : (v : ℕ) (z : ℤ) → some v ≡ littleAt n s off → z ≡ twosComplement (8 * n) v → some z ≡ signedAt n s off
@@ -82,6 +99,20 @@ module _ (n : ℕ) (s : List ℕ) (off : ℕ) where
   pub signed-nothing : none ≡ littleAt n s off → none ≡ signedAt n s off
   unfolding signedAt
   signed-nothing e = ap (Option·map (twosComplement (8 * n))) e
+
+-- two's complement by its two halves
+module _ (bits n : ℕ) where
+  pub twos-positive : n < 2 ^ (bits - 1) → twosComplement bits n ≡ pos n
+  unfolding twosComplement
+  twos-positive h = simp (lt-ltb n (2 ^ (bits - 1)) h)
+
+  pub twos-negative : 2 ^ (bits - 1) ≤ n → n < 2 ^ bits → twosComplement bits n ≡ negsuc (2 ^ bits - suc n)
+  unfolding twosComplement
+  twos-negative l h = rw (le-ltb n (2 ^ (bits - 1)) l) (less (2 ^ bits) h)
+    where
+      less : (m : ℕ) → n < m → pos n -ℤ pos m ≡ negsuc (m - suc n)
+      less zero g = absurd (omega arith)
+      less (suc m) g = simp (lt-ltb n (suc m) g)
 
 -- a number of a header
 module _ (n : ℕ) (s : List ℕ) (off : ℕ) where

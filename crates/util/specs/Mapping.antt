@@ -2,27 +2,32 @@
 use Prim.Native.Nat.{ℕ, _+_, _-_, _^_, _≤_, _<_}
 use mathlib.Core.Path.{_≡_}
 use mathlib.Core.List.{List, _∷_}
-use mathlib.Core.Option.{none}
+use mathlib.Core.Option.{some, none}
 use Rattle.util.specs.Segments.{Segment, segmentsOf, fileOffset}
 use Rattle.util.specs.declared.segment.Mapping.{Mapping}
 use Rattle.util.specs.declared.segment.Around.{Around}
 
 -- the segments' numbers with a mapping as one more segment before them: what a call that takes a mapping goes by
-unfoldable pub led : Mapping → List ℕ → List ℕ
-led m segments = m .vmaddr ∷ (m .size ∷ (m .fileoff ∷ (m .size ∷ segments)))
+unfoldable pub withMapping : Mapping → List ℕ → List ℕ
+withMapping m segments = m .vmaddr ∷ (m .size ∷ (m .fileoff ∷ (m .size ∷ segments)))
 
 -- a mapping is true of the segments: with it before them every address has the offset that it has without
 pub record Mapped (segments : List ℕ) (m : Mapping) : Type 0 where
-  pub same : (v : ℕ) → fileOffset (segmentsOf (led m segments)) v ≡ fileOffset (segmentsOf segments) v
+  pub same : (v : ℕ) → fileOffset (segmentsOf (withMapping m segments)) v ≡ fileOffset (segmentsOf segments) v
 
 -- an address is one of them
 pub record Has (m : Mapping) (v : ℕ) : Type 0 where
   pub from : m .vmaddr ≤ v
   pub to : v < m .vmaddr + m .size
 
--- the answer of `locate`: addresses with the one that was looked for, or that this one is not in the file
+-- and each of them lies in the file where the mapping says
+pub record Exact (segments : List ℕ) (m : Mapping) : Type 0 where
+  pub offset : (v : ℕ) → Has m v → fileOffset (segmentsOf segments) v ≡ some (m .fileoff + (v - m .vmaddr))
+
+-- the answer of `locate`: a mapping with the address that was looked for, or that this address is not in the file. How many addresses
+-- around it the mapping has is left open.
 abbrev pub Located : List ℕ → ℕ → Around → Type 0
-Located segments v (Around.Mapping m) = Mapped segments m × Has m v
+Located segments v (Around.Mapping m) = Mapped segments m × Has m v × Exact segments m
 Located segments v Around.Nothing = none ≡ fileOffset (segmentsOf segments) v
 
 -- a segment has an address in the file, between `low` and `high`

@@ -8,8 +8,9 @@ use mathlib.Core.List.{List}
 use lib.ListN.{length, drop, getD}
 use Rattle.util.specs.Segments.{Segment, segmentsOf, fileOffset, decides, inFile, decided, offsetOf}
 use Rattle.util.specs.SegmentsLaws.{wraps, below, above, no-bytes, held, past-file, offset-wraps, in-file, segmentAt, segments-step}
-use Rattle.util.specs.Mapping.{led, Mapped, InFile, Clipped}
+use Rattle.util.specs.Mapping.{withMapping, Mapped, Has, Exact, Located, InFile, Clipped}
 use Rattle.util.specs.declared.segment.Mapping.{Mapping}
+use Rattle.util.specs.declared.segment.Around.{Around}
 use Rattle.util.specs.declared.segment.FileOffset.{FileOffset}
 use Rattle.util.specs.declared.segment.Lookup.{Lookup}
 use Rattle.util.specs.declared.segment.Lookup.the-variants.{Answer, Next}
@@ -19,19 +20,19 @@ abbrev first : Mapping → Segment
 first m = record { vmaddr = m .vmaddr; vmsize = m .size; fileoff = m .fileoff; filesize = m .size }
 
 module _ (segments : List ℕ) (m : Mapping) (v : ℕ) (r : Lookup) (e : decided r ≡ decides (first m) v) where
-  pub near-answer : (o : FileOffset) → r ≡ Answer o → offsetOf o ≡ fileOffset (segmentsOf (led m segments)) v
-  unfolding fileOffset segmentsOf led
+  pub near-answer : (o : FileOffset) → r ≡ Answer o → offsetOf o ≡ fileOffset (segmentsOf (withMapping m segments)) v
+  unfolding fileOffset segmentsOf withMapping
   near-answer o t = rw (← e, t)
 
-  pub near-next : (x : Option ℕ) → r ≡ Next → x ≡ fileOffset (segmentsOf segments) v → x ≡ fileOffset (segmentsOf (led m segments)) v
-  unfolding fileOffset segmentsOf led
+  pub near-next : (x : Option ℕ) → r ≡ Next → x ≡ fileOffset (segmentsOf segments) v → x ≡ fileOffset (segmentsOf (withMapping m segments)) v
+  unfolding fileOffset segmentsOf withMapping
   near-next x t f = f ∙ rw (← e, t)
 
 -- a mapping whose addresses have the offsets that it says is true
 module _ (segments : List ℕ) (m : Mapping) (ends : m .vmaddr + m .size < 2 ^ 64) (fits : m .fileoff + m .size ≤ 2 ^ 64)
     (holds : (v : ℕ) → m .vmaddr ≤ v → v < m .vmaddr + m .size → fileOffset (segmentsOf segments) v ≡ some (m .fileoff + (v - m .vmaddr))) where
-  mapped-at : (v : ℕ) → fileOffset (segmentsOf (led m segments)) v ≡ fileOffset (segmentsOf segments) v
-  unfolding fileOffset segmentsOf led
+  mapped-at : (v : ℕ) → fileOffset (segmentsOf (withMapping m segments)) v ≡ fileOffset (segmentsOf segments) v
+  unfolding fileOffset segmentsOf withMapping
   mapped-at v =
       elim (decLt v (m .vmaddr)) [
         | yes b ↦ rw (← below (first m) v ends b)
@@ -210,13 +211,30 @@ module _ (l : List ℕ) (i low high : ℕ)
           ← passes (segmentAt l i) a low′ high′ (ap decided (sym n) ∙ e) (λ g. let x = el .0 g in omega arith) (λ g. let x = eh .0 g in omega arith) v f t,
         )
 
-  pub around-mapped : (a : ℕ) (m : Mapping) → Clipped low high (segmentAt l i) a m → getD l i 0 + getD l (i + 1) 0 < 2 ^ 64 → i + 4 ≤ length l → Mapped l m
-  unfolding fileOffset
-  around-mapped a m w fits h =
-      mapped l m (omega (arith, w .to)) (w .fits)
-      (λ v f t.
-      let s = segmentAt l i in
-      let d : some (some (m .fileoff + (v - m .vmaddr))) ≡ decides s v =
-      held s v fits (omega (arith, w .from)) (omega (arith, w .to)) _ (omega (arith, w .from, w .to))
-      (ap some (omega (arith, w .from, w .offset)) ∙ in-file s (v - s .vmaddr) (omega (arith, w .from, w .to)) (omega (arith, w .from, w .offset, w .fits))) in
-      inv v (omega (arith, w .from)) (omega (arith, w .to)) ∙ rw (segments-step l i 0 h, ← d))
+  module _ (a : ℕ) (m : Mapping) (w : Clipped low high (segmentAt l i) a m) (fits : getD l i 0 + getD l (i + 1) 0 < 2 ^ 64) (h : i + 4 ≤ length l) where
+    pub around-exact : Exact l m
+    unfolding fileOffset
+    around-exact = record { offset = at }
+      where
+        at : (v : ℕ) → Has m v → fileOffset (segmentsOf l) v ≡ some (m .fileoff + (v - m .vmaddr))
+        at v u =
+            let s = segmentAt l i in
+            let d : some (some (m .fileoff + (v - m .vmaddr))) ≡ decides s v =
+            held s v fits (omega (arith, w .from, u .from)) (omega (arith, w .to, u .to)) _ (omega (arith, w .from, w .to, u .from, u .to))
+            (ap some (omega (arith, w .from, w .offset, u .from)) ∙ in-file s (v - s .vmaddr) (omega (arith, w .from, w .to, u .from, u .to)) (omega (arith, w .from, w .offset, w .fits, u .from, u .to))) in
+            inv v (omega (arith, w .from, u .from)) (omega (arith, w .to, u .to)) ∙ rw (segments-step l i 0 h, ← d)
+
+    pub around-mapped : Mapped l m
+    around-mapped = mapped l m (omega (arith, w .to)) (w .fits) (λ v f t. around-exact .offset v (record { from = f; to = t }))
+
+-- ---- what `locate` promises fixes the address's offset, and where it has none, the answer
+
+pub located-offset : (segments : List ℕ) (v : ℕ) (m : Mapping) → Located segments v (Around.Mapping m) → fileOffset (segmentsOf segments) v ≡ some (m .fileoff + (v - m .vmaddr))
+located-offset segments v m w = w .2 .offset v (w .1)
+
+pub located-nowhere : (segments : List ℕ) (v : ℕ) (r : Around) → none ≡ fileOffset (segmentsOf segments) v → Located segments v r → r ≡ Around.Nothing
+located-nowhere segments v Around.Nothing e w = refl
+located-nowhere segments v (Around.Mapping m) e w =
+    let f : none ≡ some (m .fileoff + (v - m .vmaddr)) = e ∙ located-offset segments v m w in
+    let z : _≡_ {A = ℕ} 0 1 = cc in
+    absurd (omega arith)

@@ -1,4 +1,4 @@
--- Relative pointers: Metadata.h, `TargetRelativeDirectPointer` (RelativePointer.h): the address of the offset itself plus
+-- Relative pointers (docs/SPECIFICATION.md, "Relative pointers"): Metadata.h, `TargetRelativeDirectPointer` (RelativePointer.h): the address of the offset itself plus
 -- the signed offset, in the address space's 64 bits.
 use Prim.Native.Nat.{ℕ, zero, suc, _-_, _%_, _^_}
 use lib.IntN.{ℤ, pos, negsuc, _+ℤ_}

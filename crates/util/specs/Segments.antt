@@ -1,4 +1,4 @@
--- From an address to a file offset: document 01, "Bytes and texts at an address". A segment is what a
+-- From an address to a file offset: docs/SPECIFICATION.md, "File offsets". A segment is what a
 -- `segment_command_64` of mach-o/loader.h says of its place.
 use Prim.Native.Nat.{ℕ, _+_, _-_, _^_}
 use mathlib.Core.List.{List, [], _∷_}

@@ -1,6 +1,6 @@
 // Texts that end at a NUL or at the end of their bytes.
 ghost use mathlib.Core.Path.{_≡_};
-ghost use Rattle.util.specs.Cstr.{place, partOf, textAt, textOf, textPart};
+ghost use Rattle.util.specs.Cstr.{place, partOf, textAt, textOf, textPart, fixedText};
 use utf8::Scan;
 
 // Where a text lies: the NUL is not counted.
@@ -52,4 +52,11 @@ pub fn cstr_at(data: &[u8], off: usize) -> &[u8]
     ensures { λ r. ⌜ now r ≡ textPart (now («data» .entry)) (textAt (now («data» .entry)) off) ⌝ }
 {
     text_part(data, read_cstr_at(data, off))
+}
+
+// The text of a field of fixed size: the empty one where it is no well-formed UTF-8.
+pub fn cstr_from_fixed(bytes: &[u8]) -> &[u8]
+    ensures { λ r. ⌜ now r ≡ fixedText (now (bytes .entry)) ⌝ }
+{
+    cstr_at(bytes, 0)
 }

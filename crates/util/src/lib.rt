@@ -1,22 +1,34 @@
 // The lowest layer, carried over from darwinscope's src/util.rs: numbers in bytes, relative pointers, addresses, texts.
+mod big_endian;
 mod buffer;
 mod cstr;
+mod file_offset;
 mod header;
+mod leb128;
 mod pointer;
 mod read;
 mod segment;
 
+pub use big_endian::read_u32_be_at;
+pub use big_endian::read_u64_be_at;
 pub use buffer::put;
 pub use cstr::Text;
 pub use cstr::cstr_at;
+pub use cstr::cstr_from_fixed;
 pub use cstr::part;
 pub use cstr::read_cstr_at;
 pub use cstr::text_part;
+pub use file_offset::VmAddress;
+pub use file_offset::file_offset_to_vm_in;
 pub use header::address_in;
 pub use header::i32_at;
 pub use header::pointer_in;
 pub use header::u16_at;
 pub use header::u32_at;
+pub use leb128::Sleb128;
+pub use leb128::Uleb128;
+pub use leb128::read_sleb128;
+pub use leb128::read_uleb128;
 pub use pointer::relative_address;
 pub use pointer::relative_pointer;
 pub use read::ReadI32;

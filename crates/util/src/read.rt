@@ -28,7 +28,7 @@ fn byte16(b: u8) -> u16
     b as u16
 }
 
-fn byte32(b: u8) -> u32
+pub fn byte32(b: u8) -> u32
     ensures { λ r. ⌜ Widened b r ⌝ }
 {
     b as u32

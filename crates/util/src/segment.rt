@@ -2,7 +2,7 @@
 ghost use mathlib.Core.Path.{_≡_};
 ghost use Prim.Native.Nat.{_+_, _≤_, _<_, _^_, min, max};
 ghost use Rattle.util.specs.Segments.{fileOffset, segmentsOf, decides, offsetOf, decided};
-ghost use Rattle.util.specs.Mapping.{InFile, Clipped, Located, led};
+ghost use Rattle.util.specs.Mapping.{InFile, Clipped, Located, withMapping};
 
 pub enum FileOffset {
     At(u64),
@@ -198,7 +198,7 @@ pub fn locate(segments: &[u64], address: u64) -> Around
 
 // The file offset of an address, with no walk over the segments where the mapping has it: the mapping is asked as a segment before them.
 pub fn vm_to_file_offset_near(segments: &[u64], mapping: Mapping, vmaddr: u64) -> FileOffset
-    ensures { λ r. ⌜ offsetOf r ≡ fileOffset (segmentsOf (led mapping (now (segments .entry)))) vmaddr ⌝ }
+    ensures { λ r. ⌜ offsetOf r ≡ fileOffset (segmentsOf (withMapping mapping (now (segments .entry)))) vmaddr ⌝ }
 {
     let found = look_up(
         mapping.vmaddr,

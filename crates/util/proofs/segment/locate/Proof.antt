@@ -9,7 +9,7 @@ use denote.Ref.{now}
 use lib.ListN.{length, drop}
 use Rattle.util.specs.Segments.{segmentsOf, fileOffset, offsetOf}
 use Rattle.util.specs.SegmentsLaws.{lookup-answer, lookup-next, lookup-end}
-use Rattle.util.specs.MappingLaws.{next-fits, answer-in, around-next, low-next, high-next, around-mapped}
+use Rattle.util.specs.MappingLaws.{next-fits, answer-in, around-next, low-next, high-next, around-mapped, around-exact}
 use Rattle.util.proofs.segment.locate.Statement.{statement}
 use Rattle.util.proofs.segment.locate.Tie as tie
 
@@ -79,10 +79,12 @@ clip-requires c κs =
 
 returns : tie.Need-returns Inv-loop μ-loop
 returns c =
-    let p = c .before .before .before .before .before .before .before .before .before .before .before .before in (
-      around-mapped (now (p .before .before .args .segments)) (p .loop .i) _ _ (p .loop .inv .2) _ _ (c .clip .ensures)
-          (answer-in _ _ _ (c .before .before .before .before .before .before .look-up .ensures) _ _ (c .before .before .before .before .found .given .1) (c .before .enum-told .given .1) _ _ (p .loop .inv .3) (p .loop .inv .4) .ends) (omega arith),
+    let p = c .before .before .before .before .before .before .before .before .before .before .before .before in
+    let segments = now (p .before .before .args .segments) in
+    let ends = answer-in _ _ _ (c .before .before .before .before .before .before .look-up .ensures) _ _ (c .before .before .before .before .found .given .1) (c .before .enum-told .given .1) _ _ (p .loop .inv .3) (p .loop .inv .4) .ends in (
+      around-mapped segments (p .loop .i) _ _ (p .loop .inv .2) _ _ (c .clip .ensures) ends (omega arith),
       c .clip .ensures .has,
+      around-exact segments (p .loop .i) _ _ (p .loop .inv .2) _ _ (c .clip .ensures) ends (omega arith),
     )
 
 enum-told-2 : tie.Need-enum-told-2 Inv-loop μ-loop

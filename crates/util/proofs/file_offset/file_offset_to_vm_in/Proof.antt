@@ -1,0 +1,121 @@
+-- `util::file_offset::file_offset_to_vm_in` meets its contract. The invariant: what the numbers from `i` on say is what the whole list says.
+-- Assumes nothing.
+use borrow.Author.Needs.{needs}
+use native.Mathlib.Omega.{arith}
+use Prim.Native.Nat.{_≤_, _-_}
+use mathlib.Core.Path.{_≡_, refl}
+use denote.Ref.{now}
+use lib.ListN.{length, drop}
+use Rattle.util.specs.Segments.{segmentsOf}
+use Rattle.util.specs.VmAddress.{vmAddress}
+use Rattle.util.specs.VmAddressLaws.{turn-answer, turn-next, turn-end}
+use Rattle.util.proofs.file_offset.file_offset_to_vm_in.Statement.{statement}
+use Rattle.util.proofs.file_offset.file_offset_to_vm_in.Tie as tie
+
+abbrev Inv-loop : tie.InvT-loop
+Inv-loop segments offset i₀ i =
+    (i ≤ length segments) × (vmAddress (segmentsOf segments) offset ≡ vmAddress (segmentsOf (drop i segments)) offset)
+
+abbrev μ-loop : tie.MeasureT-loop
+μ-loop segments offset i₀ i = length segments - i
+
+loop-holds : tie.Need-loop-holds Inv-loop μ-loop
+loop-holds c = (omega arith, refl)
+
+sub-loop : tie.Need-sub-loop Inv-loop μ-loop
+sub-loop c = search needs
+
+mul-turn : tie.Need-mul-turn Inv-loop μ-loop
+mul-turn c = search needs
+
+shared-slice-read-turn : tie.Need-shared-slice-read-turn Inv-loop μ-loop
+shared-slice-read-turn c = search needs
+
+add-turn : tie.Need-add-turn Inv-loop μ-loop
+add-turn c = search needs
+
+mul-turn-2 : tie.Need-mul-turn-2 Inv-loop μ-loop
+mul-turn-2 c = search needs
+
+shared-slice-read-turn-2 : tie.Need-shared-slice-read-turn-2 Inv-loop μ-loop
+shared-slice-read-turn-2 c = search needs
+
+add-turn-2 : tie.Need-add-turn-2 Inv-loop μ-loop
+add-turn-2 c = search needs
+
+mul-turn-3 : tie.Need-mul-turn-3 Inv-loop μ-loop
+mul-turn-3 c = search needs
+
+shared-slice-read-turn-3 : tie.Need-shared-slice-read-turn-3 Inv-loop μ-loop
+shared-slice-read-turn-3 c = search needs
+
+add-turn-3 : tie.Need-add-turn-3 Inv-loop μ-loop
+add-turn-3 c = search needs
+
+mul-turn-4 : tie.Need-mul-turn-4 Inv-loop μ-loop
+mul-turn-4 c = search needs
+
+shared-slice-read-turn-4 : tie.Need-shared-slice-read-turn-4 Inv-loop μ-loop
+shared-slice-read-turn-4 c = search needs
+
+turn-requires : tie.Need-turn-requires Inv-loop μ-loop
+turn-requires c κs = search needs
+
+enum-known-found : tie.Need-enum-known-found Inv-loop μ-loop
+enum-known-found c = search needs
+
+returns : tie.Need-returns Inv-loop μ-loop
+returns c =
+    let p = c .before .before .before .before .before .before .before .before .before in
+    turn-answer (now (p .before .before .args .segments)) (p .loop .i) (p .before .before .args .offset) _ (p .loop .inv .1) _ _
+    (c .before .before .before .turn .ensures) (c .before .found .given .1) (omega arith)
+
+enum-told : tie.Need-enum-told Inv-loop μ-loop
+enum-told c = search needs
+
+add-i : tie.Need-add-i Inv-loop μ-loop
+add-i c = search needs
+
+loop-less : tie.Need-loop-less Inv-loop μ-loop
+loop-less c = search needs
+
+loop-again : tie.Need-loop-again Inv-loop μ-loop
+loop-again c =
+    let p = c .before .before .before .before .before .before .before .before in (
+      search needs,
+      turn-next (now (p .before .before .args .segments)) (p .loop .i) (p .before .before .args .offset) _ (p .loop .inv .1) _
+          (c .before .before .turn .ensures) (c .enum-told .given .1) (omega arith),
+    )
+
+returns-2 : tie.Need-returns-2 Inv-loop μ-loop
+returns-2 c =
+    let p = c .before in
+    turn-end (now (p .before .before .args .segments)) (p .loop .i) _ _ (p .loop .inv .1) (omega arith)
+
+pub file-offset-to-vm-in-spec : {M : Type 1} → statement M
+file-offset-to-vm-in-spec =
+    tie.close
+    (tie.spec
+    Inv-loop
+    μ-loop
+    loop-holds
+    sub-loop
+    mul-turn
+    shared-slice-read-turn
+    add-turn
+    mul-turn-2
+    shared-slice-read-turn-2
+    add-turn-2
+    mul-turn-3
+    shared-slice-read-turn-3
+    add-turn-3
+    mul-turn-4
+    shared-slice-read-turn-4
+    turn-requires
+    enum-known-found
+    returns
+    enum-told
+    add-i
+    loop-less
+    loop-again
+    returns-2)
