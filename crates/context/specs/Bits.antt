@@ -1,4 +1,4 @@
--- The bits of a flags word, bit 0 the lowest.
+-- The bits of a flags word, bit 0 the lowest: docs/SPECIFICATION.md, "Kinds and flags".
 use Prim.Native.Nat.{ℕ, _/_, _%_, _^_}
 use mathlib.Core.Bool.{Bool}
 use lib.Dec.{eqb}

@@ -1,4 +1,4 @@
--- Context descriptors: MetadataValues.h, `ContextDescriptorKind` and `ContextDescriptorFlags`.
+-- Context descriptors (docs/SPECIFICATION.md, "Kinds and flags"): MetadataValues.h, `ContextDescriptorKind` and `ContextDescriptorFlags`.
 use Prim.Native.Nat.{ℕ}
 use mathlib.Core.Bool.{Bool, true, false}
 use mathlib.Core.List.{List, [], _∷_}
@@ -52,13 +52,13 @@ isType Enum = true
 isType (Other n) = false
 
 -- the kinds whose third word is an offset to a name: darwinscope's parent.rs, `read_context_name`
-abbrev pub named : ContextDescriptorKind → Bool
-named Module = true
-named Extension = true
-named Anonymous = false
-named Protocol = true
-named OpaqueType = false
-named Class = true
-named Struct = true
-named Enum = true
-named (Other n) = false
+abbrev pub hasName : ContextDescriptorKind → Bool
+hasName Module = true
+hasName Extension = true
+hasName Anonymous = false
+hasName Protocol = true
+hasName OpaqueType = false
+hasName Class = true
+hasName Struct = true
+hasName Enum = true
+hasName (Other n) = false

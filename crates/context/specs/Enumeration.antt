@@ -1,4 +1,4 @@
--- The numbers of an enumeration's values.
+-- The numbers of an enumeration's values: docs/SPECIFICATION.md, "Kinds and flags".
 use Prim.Native.Nat.{ℕ}
 use mathlib.Core.Bool.{cond}
 use mathlib.Core.List.{List, [], _∷_}

@@ -1,4 +1,4 @@
--- Field descriptors: RemoteInspection/Records.h, `FieldDescriptorKind` and `FieldRecordFlags`.
+-- Field descriptors (docs/SPECIFICATION.md, "Kinds and flags"): RemoteInspection/Records.h, `FieldDescriptorKind` and `FieldRecordFlags`.
 use Prim.Native.Nat.{ℕ}
 use mathlib.Core.Bool.{Bool}
 use mathlib.Core.List.{List, [], _∷_}

@@ -1,4 +1,5 @@
 pub mod Bits
+pub mod Conformance
 pub mod Context
 pub mod Enumeration
 pub mod Field

@@ -1,4 +1,4 @@
--- Method descriptors: MetadataValues.h, `MethodDescriptorFlags`.
+-- Method descriptors (docs/SPECIFICATION.md, "Kinds and flags"): MetadataValues.h, `MethodDescriptorFlags`.
 use Prim.Native.Nat.{ℕ}
 use mathlib.Core.Bool.{Bool}
 use mathlib.Core.List.{List, [], _∷_}

@@ -1,4 +1,4 @@
--- The flags of a class, a struct or an enum: MetadataValues.h, `TypeContextDescriptorFlags` and `TypeReferenceKind`.
+-- The flags of a class, a struct or an enum (docs/SPECIFICATION.md, "Kinds and flags"): MetadataValues.h, `TypeContextDescriptorFlags` and `TypeReferenceKind`.
 use Prim.Native.Nat.{ℕ}
 use mathlib.Core.Bool.{Bool, not, _&&_}
 use mathlib.Core.List.{List, [], _∷_}

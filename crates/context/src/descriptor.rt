@@ -1,6 +1,6 @@
 // The word that every context descriptor starts with.
 ghost use mathlib.Core.Path.{_≡_};
-ghost use Rattle.context.specs.Context.{kindOf, contextKind, hasInvertibleProtocols, isUnique, isGeneric, kindSpecificFlags, isType, named};
+ghost use Rattle.context.specs.Context.{kindOf, contextKind, hasInvertibleProtocols, isUnique, isGeneric, kindSpecificFlags, isType, hasName};
 use crate::types::TypeContextDescriptorFlags;
 
 pub enum ContextDescriptorKind {
@@ -59,7 +59,7 @@ impl ContextDescriptorKind {
 
     // Whether the descriptor has a name slot.
     pub fn has_name(self) -> bool
-        ensures { λ r. ⌜ r ≡ named self ⌝ }
+        ensures { λ r. ⌜ r ≡ hasName self ⌝ }
     {
         match self {
             ContextDescriptorKind::Module => true,

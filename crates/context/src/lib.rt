@@ -1,9 +1,11 @@
 // Kinds and flags of Swift's descriptors, carried over from darwinscope's src/swift/context.rs: functions of the number alone.
+mod conformance;
 mod descriptor;
 mod field;
 mod method;
 mod types;
 
+pub use conformance::ConformanceFlags;
 pub use descriptor::ContextDescriptorFlags;
 pub use descriptor::ContextDescriptorKind;
 pub use field::FieldDescriptorKind;

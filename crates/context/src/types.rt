@@ -42,7 +42,7 @@ pub enum TypeReferenceKind {
 
 impl TypeReferenceKind {
     // The kind that has this number.
-    fn of(n: u8) -> TypeReferenceKind
+    pub fn of(n: u8) -> TypeReferenceKind
         ensures { λ r. ⌜ r ≡ referenceOf n ⌝ }
     {
         match n {
