@@ -1,4 +1,4 @@
--- The answers of the calls that read bytes.
+-- The answers of the calls that read bytes: docs/SPECIFICATION.md, "Bytes and texts at an address".
 use Prim.Native.Nat.{ℕ}
 use mathlib.Core.List.{List, []}
 use mathlib.Core.Option.{Option, some, none}
@@ -7,9 +7,9 @@ use Rattle.runtime.specs.Reads.{bytesPlace}
 use Rattle.runtime.specs.declared.reads.Bytes.{Bytes}
 use Rattle.runtime.specs.declared.reads.Bytes.the-variants.{At, Nothing}
 
-abbrev pub placeOf : Bytes → Option ℕ
-placeOf (At o) = some o
-placeOf Nothing = none
+abbrev pub bytesPlaceOf : Bytes → Option ℕ
+bytesPlaceOf (At o) = some o
+bytesPlaceOf Nothing = none
 
 -- the bytes at a place, none where there is none
 abbrev pub bytesFrom : List ℕ → ℕ → Option ℕ → List ℕ

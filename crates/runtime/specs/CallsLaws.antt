@@ -12,7 +12,7 @@ use borrow.Author.Tests.{le-leb, lt-leb, lt-ltb, le-ltb, eq-eqb, ne-eqb}
 use Rattle.utf8.specs.Text.{untilNul, textLength}
 use Rattle.utf8.specs.Utf8Laws.{text-bytes, text-length-le}
 use Rattle.util.specs.Segments.{segmentsOf, fileOffset}
-use Rattle.util.specs.Mapping.{led, Mapped}
+use Rattle.util.specs.Mapping.{withMapping, Mapped}
 use Rattle.util.specs.declared.segment.Mapping.{Mapping}
 use Rattle.util.specs.Cstr.{Place, place, textAt, partOf}
 use Rattle.util.specs.CstrLaws.{part-in}
@@ -22,19 +22,19 @@ use Rattle.runtime.specs.FieldName.{inImage, inStrings, sectionText, fie
 
 -- a true mapping changes no answer
 module _ (image segments : List ℕ) (m : Mapping) (w : Mapped segments m) where
-  pub place-mapped : (a n : ℕ) → bytesPlace image (led m segments) a n ≡ bytesPlace image segments a n
+  pub place-mapped : (a n : ℕ) → bytesPlace image (withMapping m segments) a n ≡ bytesPlace image segments a n
   unfolding bytesPlace
   place-mapped a n = simp (w .same)
 
-  pub read-mapped : (a n : ℕ) → bytesRead image (led m segments) a n ≡ bytesRead image segments a n
+  pub read-mapped : (a n : ℕ) → bytesRead image (withMapping m segments) a n ≡ bytesRead image segments a n
   unfolding bytesRead
   read-mapped a n = rw (place-mapped a n)
 
-  offset-mapped : (a : ℕ) → textOffset (led m segments) a ≡ textOffset segments a
+  offset-mapped : (a : ℕ) → textOffset (withMapping m segments) a ≡ textOffset segments a
   unfolding textOffset
   offset-mapped a = rw (w .same a)
 
-  pub text-mapped : (a : ℕ) → textPlace image (led m segments) a ≡ textPlace image segments a
+  pub text-mapped : (a : ℕ) → textPlace image (withMapping m segments) a ≡ textPlace image segments a
   unfolding textPlace
   text-mapped a = rw (offset-mapped a)
 
@@ -42,7 +42,7 @@ module _ (image segments : List ℕ) (m : Mapping) (w : Mapped segments m) where
   then-same none f g e = refl
   then-same (some a) f g e = e a
 
-  pub run-mapped : {A : Type 0} (p : Reads A) → run image (led m segments) p ≡ run image segments p
+  pub run-mapped : {A : Type 0} (p : Reads A) → run image (withMapping m segments) p ≡ run image segments p
   unfolding run
   run-mapped (done a) = refl
   run-mapped nothing = refl

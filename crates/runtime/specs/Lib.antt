@@ -2,4 +2,5 @@ pub mod Bytes
 pub mod CallsLaws
 pub mod FieldName
 pub mod Reads
+pub mod PathLaws
 pub mod ReadsLaws

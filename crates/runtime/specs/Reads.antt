@@ -1,8 +1,10 @@
 -- The language of reads. What a call answers is defined as a program that reads bytes and texts of an image at addresses:
 -- `run` is the program's answer, `path` the image bytes that it depends on.
-use Prim.Native.Nat.{ℕ, zero, suc, _+_}
+use Prim.Native.Nat.{ℕ, zero, suc, _+_, _-_, _≤_, _<_, min, max}
+use mathlib.Core.Path.{_≡_}
+use mathlib.Core.Logic.{_⊎_}
 use mathlib.Core.List.{List, [], _∷_}
-use mathlib.Core.Bool.{Bool, true, false, cond}
+use mathlib.Core.Bool.{Bool, true, false, cond, _&&_}
 use mathlib.Core.Option.{Option, some, none}
 use lib.ListN.{length, take, drop}
 use lib.Dec.{leb, eqb}
@@ -24,7 +26,7 @@ abbrev pub andThen : {A B : Type 0} → Option A → (A → Option B) → Option
 andThen none f = none
 andThen (some a) f = f a
 
--- document 01, "Bytes and texts at an address", `read_bytes`: the first address is translated, the bytes follow in the image
+-- docs/SPECIFICATION.md, "Bytes and texts at an address": the first address is translated, the bytes follow in the image
 unfoldable pub within : ℕ → ℕ → ℕ → Option ℕ
 within size n o = cond (leb (o + n) size) (some o) none
 
@@ -68,11 +70,20 @@ bytesRange o n = record { from = o; to = o + n; isText = false }
 abbrev pub textRange : List ℕ → ℕ → Range
 textRange image o = record { from = o; to = o + extent (drop o image); isText = true }
 
+-- a text that was found, and its NUL: not past the image's end, and one byte at least
+abbrev pub withNul : List ℕ → Place → Range
+withNul image p =
+    record {
+      from = p .start;
+      to = p .start + max 1 (min (length image - p .start) (p .size + 1));
+      isText = true;
+    }
+
 abbrev pub also : {A : Type 0} → Option A → (A → List Range) → List Range
 also none f = []
 also (some a) f = f a
 
--- document 01, "Paths for the cut": the image bytes that the program reads, in order
+-- docs/SPECIFICATION.md, "Items, paths and the cut": the image bytes that the program reads, in order
 unfoldable pub path : {A : Type 0} → List ℕ → List ℕ → Reads A → List Range
 path image segments (done a) = []
 path image segments nothing = []
@@ -89,3 +100,22 @@ bind (done a) f = f a
 bind nothing f = nothing
 bind (bytes address n k) f = bytes address n (λ bs. bind (k bs) f)
 bind (text address k) f = text address (λ p bs. bind (k p bs) f)
+
+-- ---- what is asked of a path
+
+-- P holds of each range
+abbrev pub All : (Range → Type 0) → List Range → Type 0
+All P [] = Unit {0}
+All P (r ∷ rs) = P r × All P rs
+
+abbrev pub every : (Range → Bool) → List Range → Bool
+every t [] = true
+every t (r ∷ rs) = t r && every t rs
+
+-- the premise on texts of the same section: the cut does not fall into a text that is looked up
+abbrev pub Clear : ℕ → Range → Type 0
+Clear c r = r .isText ≡ true → (c < r .from) ⊎ (r .to ≤ c)
+
+-- the cut leaves the range whole
+abbrev pub endsBy : ℕ → Range → Bool
+endsBy c r = leb (r .to) c

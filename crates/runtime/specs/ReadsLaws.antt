@@ -11,12 +11,11 @@ use mathlib.Core.Bool.{Bool, true, false, cond, _&&_}
 use mathlib.Core.Option.{Option, some, none, Option·map}
 use lib.ListN.{length, take, drop, length-take, length-drop}
 use lib.Seq.{take-take}
-use lib.Dec.{leb}
 use borrow.Author.Tests.{le-leb, lt-leb}
 use Rattle.utf8.specs.Text.{untilNul, wellFormed, textLength}
 use Rattle.util.specs.Segments.{segmentsOf, fileOffset}
 use Rattle.util.specs.Cstr.{Place, place, textAt}
-use Rattle.runtime.specs.Reads.{Reads, done, nothing, bytes, text, andThen, within, bytesPlace, textOffset, run, Range, extent, bytesRange, textRange, also, path, bind}
+use Rattle.runtime.specs.Reads.{Reads, done, nothing, bytes, text, andThen, within, bytesPlace, textOffset, run, Range, extent, bytesRange, textRange, also, path, bind, All, every, Clear, endsBy}
 
 -- ---- composition
 
@@ -57,22 +56,13 @@ module _ (image segments : List ℕ) {A B : Type 0} (f : A → Reads B) where
 
 -- ---- two images
 
--- P holds of each range
-abbrev pub All : (Range → Type 0) → List Range → Type 0
-All P [] = Unit {0}
-All P (r ∷ rs) = P r × All P rs
-
-abbrev pub every : (Range → Bool) → List Range → Bool
-every t [] = true
-every t (r ∷ rs) = t r && every t rs
-
 -- the bytes of a range
-abbrev pub part : List ℕ → Range → List ℕ
-part s r = take (r .to - r .from) (drop (r .from) s)
+abbrev pub rangeBytes : List ℕ → Range → List ℕ
+rangeBytes s r = take (r .to - r .from) (drop (r .from) s)
 
 -- the second image has the range's bytes as the first has them
 pub record Agrees (image image′ : List ℕ) (r : Range) : Type 0 where
-  pub same : part image′ r ≡ part image r
+  pub same : rangeBytes image′ r ≡ rangeBytes image r
   pub held : min (r .to) (length image) ≤ length image′
 
 -- it is too short for them: for bytes before their end, for a text before its start
@@ -207,20 +197,13 @@ every-true (r ∷ rs) = every-true rs
 
 -- two images of one length that agree on every byte of the path give the same answer
 pub local : (image image′ segments : List ℕ) {A : Type 0} (p : Reads A) → length image′ ≡ length image
-    → All (λ r. part image′ r ≡ part image r) (path image segments p) → run image′ segments p ≡ run image segments p
+    → All (λ r. rangeBytes image′ r ≡ rangeBytes image r) (path image segments p) → run image′ segments p ≡ run image segments p
 local image image′ segments p e h =
     judged image image′ segments (omega arith) (λ _. true) p
     (map-all (λ r s. inl (refl, record { same = s; held = omega arith })) (path image segments p) h)
     ∙ rw every-true
 
 -- ---- the cut
-
--- document 01's premise: the cut does not fall into a text that is looked up
-abbrev pub Clear : ℕ → Range → Type 0
-Clear c r = r .isText ≡ true → (c < r .from) ⊎ (r .to ≤ c)
-
-abbrev pub endsBy : ℕ → Range → Bool
-endsBy c r = leb (r .to) c
 
 take-cut : (m f c : ℕ) (s : List ℕ) → (0 < m → f + m ≤ c) → take m (drop f (take c s)) ≡ take m (drop f s)
 take-cut zero f c s h = refl

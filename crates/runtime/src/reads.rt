@@ -1,9 +1,9 @@
 ghost use mathlib.Core.Path.{_≡_};
 ghost use Rattle.util.specs.Segments.{fileOffset, segmentsOf, offsetOf};
-ghost use Rattle.util.specs.Mapping.{led};
+ghost use Rattle.util.specs.Mapping.{withMapping};
 ghost use Rattle.util.specs.Cstr.{textOf};
 ghost use Rattle.runtime.specs.Reads.{bytesPlace, textPlace};
-ghost use Rattle.runtime.specs.Bytes.{placeOf, bytesRead};
+ghost use Rattle.runtime.specs.Bytes.{bytesPlaceOf, bytesRead};
 use util::FileOffset;
 use util::Mapping;
 use util::Text;
@@ -28,7 +28,7 @@ fn find_bytes_near(
     vmaddr: u64,
     len: usize,
 ) -> Bytes
-    ensures { λ r. ⌜ placeOf r ≡ bytesPlace (now (image .entry)) (led mapping (now (segments .entry))) vmaddr len ⌝ }
+    ensures { λ r. ⌜ bytesPlaceOf r ≡ bytesPlace (now (image .entry)) (withMapping mapping (now (segments .entry))) vmaddr len ⌝ }
 {
     match util::vm_to_file_offset_near(segments, mapping, vmaddr) {
         FileOffset::At(offset) => {
@@ -53,7 +53,7 @@ pub fn read_bytes_near<'a>(
     vmaddr: u64,
     len: usize,
 ) -> &'a [u8]
-    ensures { λ r. ⌜ now r ≡ bytesRead (now (image .entry)) (led mapping (now (segments .entry))) vmaddr len ⌝ }
+    ensures { λ r. ⌜ now r ≡ bytesRead (now (image .entry)) (withMapping mapping (now (segments .entry))) vmaddr len ⌝ }
 {
     match find_bytes_near(image, segments, mapping, vmaddr, len) {
         Bytes::At(off) => util::part(image, off, len),
@@ -63,7 +63,7 @@ pub fn read_bytes_near<'a>(
 
 // The text at an address. There is none at address 0.
 pub fn read_cstr_near(image: &[u8], segments: &[u64], mapping: Mapping, vmaddr: u64) -> Text
-    ensures { λ r. ⌜ textOf r ≡ textPlace (now (image .entry)) (led mapping (now (segments .entry))) vmaddr ⌝ }
+    ensures { λ r. ⌜ textOf r ≡ textPlace (now (image .entry)) (withMapping mapping (now (segments .entry))) vmaddr ⌝ }
 {
     if vmaddr == 0 {
         return Text::Nothing;
@@ -71,7 +71,7 @@ pub fn read_cstr_near(image: &[u8], segments: &[u64], mapping: Mapping, vmaddr: 
     match util::vm_to_file_offset_near(segments, mapping, vmaddr) {
         FileOffset::At(offset) => {
             let off = offset as usize;
-            // The place is `off`, and is given as that: copied from the answer it would be waited for, together with the length.
+            // The answer's place is `off`. It is given as `off` again, since the answer's own copy takes longer: docs/DECISIONS.md, "Speed".
             match util::read_cstr_at(image, off) {
                 Text::At { place: _, length } => Text::At { place: off, length },
                 Text::Nothing => Text::Nothing,
@@ -81,9 +81,9 @@ pub fn read_cstr_near(image: &[u8], segments: &[u64], mapping: Mapping, vmaddr: 
     }
 }
 
-// The same with nothing known of the addresses around.
+// The three calls without a mapping are those above with the empty mapping, which changes no address's offset.
 pub fn find_bytes(image: &[u8], segments: &[u64], vmaddr: u64, len: usize) -> Bytes
-    ensures { λ r. ⌜ placeOf r ≡ bytesPlace (now (image .entry)) (now (segments .entry)) vmaddr len ⌝ }
+    ensures { λ r. ⌜ bytesPlaceOf r ≡ bytesPlace (now (image .entry)) (now (segments .entry)) vmaddr len ⌝ }
 {
     find_bytes_near(image, segments, Mapping::empty(), vmaddr, len)
 }

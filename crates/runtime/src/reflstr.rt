@@ -1,5 +1,5 @@
 ghost use mathlib.Core.Path.{_≡_};
-ghost use Rattle.runtime.specs.FieldName.{fieldName, nameOf, namePart, sectionText};
+ghost use Rattle.runtime.specs.FieldName.{fieldName, fieldNameOf, namePart, sectionText};
 ghost use Rattle.util.specs.Cstr.{textOf};
 use util::Text;
 
@@ -32,7 +32,7 @@ pub fn lookup_field_name(
     vmaddr: u64,
     target_va: u64,
 ) -> FieldName
-    ensures { λ r. ⌜ nameOf r ≡ fieldName (now (image .entry)) (now (segments .entry)) (now (strings .entry)) vmaddr «target_va» ⌝ }
+    ensures { λ r. ⌜ fieldNameOf r ≡ fieldName (now (image .entry)) (now (segments .entry)) (now (strings .entry)) vmaddr «target_va» ⌝ }
 {
     if target_va == 0 {
         return FieldName::Nothing;
@@ -48,7 +48,7 @@ pub fn lookup_field_name(
 
 // The part of the image or of the string section that a name is: empty where there is none.
 pub fn field_name_part<'a>(image: &'a [u8], strings: &'a [u8], name: FieldName) -> &'a [u8]
-    ensures { λ r. ⌜ now r ≡ namePart (now (image .entry)) (now (strings .entry)) (nameOf name) ⌝ }
+    ensures { λ r. ⌜ now r ≡ namePart (now (image .entry)) (now (strings .entry)) (fieldNameOf name) ⌝ }
 {
     match name {
         FieldName::Image { place, length } => util::part(image, place, length),

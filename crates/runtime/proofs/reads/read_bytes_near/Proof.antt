@@ -1,7 +1,7 @@
 -- `runtime::reads::read_bytes_near` meets its contract.
 -- Assumes nothing.
 use Rattle.util.specs.Answers.{told}
-use Rattle.runtime.specs.Bytes.{placeOf}
+use Rattle.runtime.specs.Bytes.{bytesPlaceOf}
 use Rattle.runtime.specs.CallsLaws.{read-at, read-nothing}
 use borrow.Author.Needs.{needs}
 use Rattle.runtime.proofs.reads.read_bytes_near.Statement.{statement}
@@ -23,10 +23,10 @@ slice-aggregate-result : tie.Need-slice-aggregate-result
 slice-aggregate-result c = search needs
 
 returns : tie.Need-returns
-returns c = read-at _ _ _ _ _ _ (told placeOf (c .before .before .before .before .find-bytes-near .ensures) (c .before .before .off .given .1)) (c .part .ensures)
+returns c = read-at _ _ _ _ _ _ (told bytesPlaceOf (c .before .before .before .before .find-bytes-near .ensures) (c .before .before .off .given .1)) (c .part .ensures)
 
 returns-2 : tie.Need-returns-2
-returns-2 c = read-nothing _ _ _ _ (told placeOf (c .before .before .before .find-bytes-near .ensures) (c .before .enum-told .given .1))
+returns-2 c = read-nothing _ _ _ _ (told bytesPlaceOf (c .before .before .before .find-bytes-near .ensures) (c .before .enum-told .given .1))
 
 pub read-bytes-near-spec : {M : Type 1} → statement M
 read-bytes-near-spec =

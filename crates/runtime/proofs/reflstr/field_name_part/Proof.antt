@@ -2,7 +2,7 @@
 -- Assumes nothing.
 use mathlib.Core.Path.{ap, sym, _∙_}
 use denote.Ref.{now}
-use Rattle.runtime.specs.FieldName.{namePart, nameOf}
+use Rattle.runtime.specs.FieldName.{namePart, fieldNameOf}
 use borrow.Author.Needs.{needs}
 use Rattle.runtime.proofs.reflstr.field_name_part.Statement.{statement}
 use Rattle.runtime.proofs.reflstr.field_name_part.Tie as tie
@@ -28,12 +28,12 @@ slice-aggregate-result c = search needs
 returns : tie.Need-returns
 returns c =
     let a = c .before .before .before .before .before .before .args in
-    c .part .ensures ∙ sym (ap (λ t. namePart (now (a .image)) (now (a .strings)) (nameOf t)) (c .before .before .name .given .1))
+    c .part .ensures ∙ sym (ap (λ t. namePart (now (a .image)) (now (a .strings)) (fieldNameOf t)) (c .before .before .name .given .1))
 
 returns-2 : tie.Need-returns-2
 returns-2 c =
     let a = c .before .before .before .before .before .before .args in
-    c .part2 .ensures ∙ sym (ap (λ t. namePart (now (a .image)) (now (a .strings)) (nameOf t)) (c .before .before .name2 .given .1))
+    c .part2 .ensures ∙ sym (ap (λ t. namePart (now (a .image)) (now (a .strings)) (fieldNameOf t)) (c .before .before .name2 .given .1))
 
 returns-3 : tie.Need-returns-3
 returns-3 c = search needs
