@@ -1,0 +1,64 @@
+-- `classtrailers::decode::entries_at` meets its contract.
+-- Assumes nothing.
+use native.Mathlib.Omega.{arith}
+use mathlib.Core.Path.{refl, _∙_}
+use Rattle.util.specs.Answers.{told}
+use Rattle.classtrailers.specs.Calls.{endOf}
+use Rattle.classtrailers.specs.CallsLaws.{no-header, end-overflows, block-says, below-some, entries-fit}
+use Rattle.classtrailers.specs.Blocks.{listed}
+use borrow.Author.Needs.{needs}
+use Rattle.classtrailers.proofs.decode.entries_at.Statement.{statement}
+use Rattle.classtrailers.proofs.decode.entries_at.Tie as tie
+
+read-bytes-requires : tie.Need-read-bytes-requires
+read-bytes-requires c κs = search needs
+
+returns : tie.Need-returns
+returns c = λ k t b. no-header _ _ _ 3 _ (c .before .read-bytes .ensures) (listed k t _ b) refl (omega arith)
+
+u32-at-requires : tie.Need-u32-at-requires
+u32-at-requires c κs = search needs
+
+cast-end-of : tie.Need-cast-end-of
+cast-end-of c = search needs
+
+mul-end-of : tie.Need-mul-end-of
+mul-end-of c = omega (arith, entries-fit (c .before .before .before .before .before .args .entry) (c .u32-at .result) (omega arith) (omega arith))
+
+add-end-of : tie.Need-add-end-of
+add-end-of c = omega (arith, entries-fit (c .before .before .before .before .before .args .entry) (c .u32-at .result) (omega arith) (omega arith))
+
+end-of-requires : tie.Need-end-of-requires
+end-of-requires c κs = search needs
+
+enum-known-end : tie.Need-enum-known-end
+enum-known-end c = search needs
+
+add-t15 : tie.Need-add-t15
+add-t15 c = omega (arith, below-some _ _ (told endOf (c .before .before .before .end-of .ensures) (c .before .end .given .1)))
+
+enum-told : tie.Need-enum-told
+enum-told c = search needs
+
+returns-2 : tie.Need-returns-2
+returns-2 c = λ k t b. block-says _ _ _ 3 _ (c .before .before .before .before .before .before .read-bytes .ensures) (listed k t _ b) refl (omega arith) refl _ _ (rw (c .before .before .before .before .u32-at .ensures)) (told endOf (c .before .before .before .end-of .ensures) (c .before .end .given .1) ∙ rw (c .before .before .before .before .u32-at .ensures))
+
+returns-3 : tie.Need-returns-3
+returns-3 c = λ k t b. end-overflows _ _ _ 3 _ (c .before .before .before .before .before .read-bytes .ensures) (listed k t _ b) refl (omega arith) refl (told endOf (c .before .before .end-of .ensures) (c .enum-told .given .1) ∙ rw (c .before .before .before .u32-at .ensures))
+
+pub entries-at-spec : {M : Type 1} → statement M
+entries-at-spec =
+    tie.close
+    (tie.spec
+    read-bytes-requires
+    returns
+    u32-at-requires
+    cast-end-of
+    mul-end-of
+    add-end-of
+    end-of-requires
+    enum-known-end
+    add-t15
+    enum-told
+    returns-2
+    returns-3)

@@ -1,0 +1,56 @@
+-- `classtrailers::walk::BlockWalk::next` meets its contract. The invariant: the next block from `row` on is the one asked for.
+-- Assumes nothing.
+use native.Mathlib.Omega.{arith}
+use Prim.Native.Nat.{_-_}
+use mathlib.Core.Path.{_≡_, refl, sym, _∙_}
+use Rattle.classtrailers.specs.Blocks.{nextBlock}
+use Rattle.classtrailers.specs.Calls.{trailingOf}
+use Rattle.classtrailers.specs.CallsLaws.{next-there, next-absent, walk-over}
+use borrow.Author.Needs.{needs}
+use Rattle.classtrailers.proofs.walk.BlockWalk.next.Statement.{statement}
+use Rattle.classtrailers.proofs.walk.BlockWalk.next.Tie as tie
+
+abbrev Inv-loop : tie.InvT-loop
+Inv-loop image segments trailing address row₀ row = nextBlock image segments (record { trailing = trailingOf trailing; row = row₀; address = address }) ≡ nextBlock image segments (record { trailing = trailingOf trailing; row = row; address = address })
+
+abbrev μ-loop : tie.MeasureT-loop
+μ-loop image segments trailing address row₀ row = 11 - row
+
+loop-holds : tie.Need-loop-holds Inv-loop μ-loop
+loop-holds c = refl
+
+has-block-requires : tie.Need-has-block-requires Inv-loop μ-loop
+has-block-requires c κs = search needs
+
+step-at-requires : tie.Need-step-at-requires Inv-loop μ-loop
+step-at-requires c κs = search needs
+
+returns : tie.Need-returns Inv-loop μ-loop
+returns c = next-there _ _ _ _ _ _ (sym (c .before .before .has-block .ensures) ∙ c .before .if1 .taken) (c .step-at .ensures) (omega arith) ∙ sym (c .before .before .before .before .loop .inv)
+
+add-row : tie.Need-add-row Inv-loop μ-loop
+add-row c = search needs
+
+loop-less : tie.Need-loop-less Inv-loop μ-loop
+loop-less c = search needs
+
+loop-again : tie.Need-loop-again Inv-loop μ-loop
+loop-again c = c .before .before .before .loop .inv ∙ next-absent _ _ _ _ _ (sym (c .before .has-block .ensures) ∙ c .if1 .left) (omega arith)
+
+returns-2 : tie.Need-returns-2 Inv-loop μ-loop
+returns-2 c = walk-over _ _ _ _ _ (omega arith) ∙ sym (c .before .loop .inv)
+
+pub next-spec : {M : Type 1} → statement M
+next-spec =
+    tie.close
+    (tie.spec
+    Inv-loop
+    μ-loop
+    loop-holds
+    has-block-requires
+    step-at-requires
+    returns
+    add-row
+    loop-less
+    loop-again
+    returns-2)

@@ -1,0 +1,275 @@
+-- What the definitions of the blocks say from outside: the numbers of the kinds are their places in the table (`kind-row`, `table-length`),
+-- stepping from the start gives the blocks of all kinds that are there and can be read (`stepped-take`, `stepped-blocks`), and then none is left
+-- (`stepped-end`); and what the set's count counts (`bits-are`).
+use Prim.Native.Nat.{ℕ, zero, suc, _+_, _-_, _/_, _%_, _^_, _≤_, _<_}
+use native.Mathlib.Nat.{pow-suc, mod-lt, mul-comm, div-one, div-div-eq-div-mul}
+use native.Mathlib.Omega.{arith}
+use mathlib.Core.Path.{_≡_, refl, sym, _∙_, ap}
+use mathlib.Core.List.{List, [], _∷_}
+use mathlib.Core.Bool.{Bool, true, false, cond, _&&_}
+use mathlib.Core.Option.{Option, some, none}
+use lib.ListN.{length, take, drop}
+use lib.Seq.{take-all}
+use lib.Dec.{leb, eqb}
+use Rattle.context.specs.Bits.{bit}
+use Rattle.runtime.specs.Reads.{Reads, done, nothing, bytesPlace, andThen, run}
+use Rattle.classtrailers.specs.Blocks.{Trailing, Row, table, setBits, rowAt, readHeader, recordAt, endAt, reached, blockIn, rowNumber, block, Walk, Step, after, stepAt, nextBlock, withBlock, blocks, stepped, steppedTo}
+use Rattle.classtrailers.specs.CallsLaws.{next-there, next-absent, walk-over, pass-absent, pass-there, reached-start, reached-next, stopped, kind-stops, kind-absent, kind-there}
+use Rattle.classtrailers.specs.declared.block.Block.{Block}
+use Rattle.classtrailers.specs.declared.block.BlockKind.{BlockKind}
+
+-- ---- the table
+
+pub table-length : length table ≡ 11
+table-length = refl
+
+-- a kind's number is that of its row
+pub kind-row : (k : BlockKind) → rowAt (rowNumber k) .kind ≡ k
+unfolding rowAt
+kind-row BlockKind.Generic = refl
+kind-row BlockKind.ResilientSuperclass = refl
+kind-row BlockKind.ForeignMetadataInit = refl
+kind-row BlockKind.SingletonMetadataInit = refl
+kind-row BlockKind.VTable = refl
+kind-row BlockKind.OverrideTable = refl
+kind-row BlockKind.ObjcResilientClassStub = refl
+kind-row BlockKind.Prespecializations = refl
+kind-row BlockKind.InvertibleProtocolSet = refl
+kind-row BlockKind.SingletonMetadataPointer = refl
+kind-row BlockKind.DefaultOverrideTable = refl
+
+-- ---- a block that is not recorded has no end
+
+module _ (image segments : List ℕ) (r : Row) (a : ℕ) where
+  tested : (c d : Bool) (b : Block) (e : ℕ) → none ≡ run image segments (cond (c && d) nothing (done b)) → none ≡ run image segments (cond d nothing (done e))
+  unfolding run
+  tested true true b e h = refl
+  tested true false b e h = let z : _≡_ {A = ℕ} 0 1 = cc in absurd (omega arith)
+  tested false d b e h = let z : _≡_ {A = ℕ} 0 1 = cc in absurd (omega arith)
+
+  both : (n : ℕ) (f : List ℕ → Reads Block) (g : List ℕ → Reads ℕ) → ((h : List ℕ) → none ≡ run image segments (f h) → none ≡ run image segments (g h))
+      → none ≡ run image segments (readHeader a n f) → none ≡ run image segments (readHeader a n g)
+  unfolding run
+  both zero f g t e = t [] e
+  both (suc n) f g t e = go (bytesPlace image segments a (suc n)) e
+    where
+      go : (x : Option ℕ) → none ≡ andThen x (λ o. run image segments (f (take (suc n) (drop o image)))) → none ≡ andThen x (λ o. run image segments (g (take (suc n) (drop o image))))
+      go none h = refl
+      go (some o) h = t _ h
+
+  pub no-record-no-end : none ≡ run image segments (recordAt r a) → none ≡ run image segments (endAt r a)
+  unfolding recordAt endAt
+  no-record-no-end e = both (r .header) _ _ (λ h f. tested (r .bounded) (leb (2 ^ 64) (a + r .size h)) (r .recorded a h) (a + r .size h) f) e
+
+-- ---- stepping
+
+take-none : (n : ℕ) → _≡_ {A = List Block} [] (take n [])
+take-none zero = refl
+take-none (suc n) = refl
+
+module _ (image segments : List ℕ) where
+  -- a walk that is over stays so
+  stepped-over : (n : ℕ) (w : Walk) → none ≡ nextBlock image segments w → stepped image segments n w ≡ []
+  unfolding stepped
+  stepped-over zero w e = refl
+  stepped-over (suc n) w e = rw (stepped, ← e)
+
+  left-over : (n : ℕ) (w : Walk) → none ≡ nextBlock image segments w → steppedTo image segments n w ≡ w
+  unfolding steppedTo
+  left-over zero w e = refl
+  left-over (suc n) w e = rw (steppedTo, ← e)
+
+  -- two walks whose next step is the same
+  stepped-same : (n : ℕ) (v w : Walk) → nextBlock image segments v ≡ nextBlock image segments w → stepped image segments n v ≡ stepped image segments n w
+  unfolding stepped
+  stepped-same zero v w e = refl
+  stepped-same (suc n) v w e = rw (stepped, e)
+
+  left-same : (n : ℕ) (v w : Walk) → nextBlock image segments v ≡ nextBlock image segments w
+      → none ≡ nextBlock image segments (steppedTo image segments n w) → none ≡ nextBlock image segments (steppedTo image segments n v)
+  unfolding steppedTo
+  left-same zero v w e h = h ∙ sym e
+  left-same (suc n) v w e h = go (nextBlock image segments w) refl
+    where
+      go : (x : Option Step) → nextBlock image segments w ≡ x → none ≡ nextBlock image segments (steppedTo image segments (suc n) v)
+      go none f = rw (steppedTo, e, f) (sym (e ∙ f))
+      go (some s) f = rw (steppedTo, e, f) (rw (steppedTo, f) at h)
+
+  module _ (t : Trailing) (start : ℕ) where
+    abbrev at : ℕ → ℕ → Walk
+    at i a = record { trailing = t; row = i; address = a }
+
+    over : (i a : ℕ) → 11 ≤ i → none ≡ nextBlock image segments (at i a)
+    over i a h = walk-over image segments t i a h
+
+    -- the blocks of `n` rows from row `i` on
+    unfoldable pub blocksFrom : ℕ → ℕ → List Block
+    blocksFrom zero i = []
+    blocksFrom (suc n) i = withBlock (run image segments (blockIn t start i)) (blocksFrom n (i + 1))
+
+    pub blocks-from : blocks image segments t start ≡ blocksFrom 11 0
+    unfolding blocks block blocksFrom
+    blocks-from = refl
+
+    pub blocks-few : (n i : ℕ) → length (blocksFrom n i) ≤ n
+    unfolding blocksFrom
+    blocks-few zero i = omega arith
+    blocks-few (suc n) i = go (run image segments (blockIn t start i)) (blocks-few n (i + 1))
+      where
+        go : (x : Option Block) → length (blocksFrom n (i + 1)) ≤ n → length (withBlock x (blocksFrom n (i + 1))) ≤ suc n
+        go none h = omega arith
+        go (some b) h = omega arith
+
+    none-after : (n i : ℕ) → none ≡ run image segments (reached t start i) → blocksFrom n i ≡ []
+    unfolding blocksFrom
+    none-after zero i e = refl
+    none-after (suc n) i e =
+        let f : none ≡ run image segments (reached t start (i + 1)) = stopped image segments t start (i + 1) i e (omega arith) in
+        rw (← kind-stops image segments t start i i e (omega arith)) (none-after n (i + 1) f)
+
+    module _ (i a : ℕ) (h : i < 11) (e : some a ≡ run image segments (reached t start i)) where
+      -- a row that is not there: the next one lies at the same address
+      pub row-absent : rowAt i .there t ≡ false
+          → (some a ≡ run image segments (reached t start (i + 1))) × (none ≡ run image segments (blockIn t start i)) × (nextBlock image segments (at i a) ≡ nextBlock image segments (at (i + 1) a))
+      row-absent y = (
+        reached-next image segments t start i a _ e (pass-absent image segments t (rowAt i) a y),
+        kind-absent image segments t start i y,
+        next-absent image segments t i a y h,
+      )
+
+      module _ (y : rowAt i .there t ≡ true) where
+        pub end-reached : run image segments (endAt (rowAt i) a) ≡ run image segments (reached t start (i + 1))
+        end-reached = reached-next image segments t start i a _ e (pass-there image segments t (rowAt i) a _ y refl)
+
+        -- one that cannot be read ends the walk
+        pub row-fails : none ≡ run image segments (recordAt (rowAt i) a)
+            → (none ≡ run image segments (reached t start (i + 1))) × (none ≡ run image segments (blockIn t start i)) × (none ≡ nextBlock image segments (at i a))
+        unfolding stepAt
+        row-fails f = (
+          no-record-no-end image segments (rowAt i) a f ∙ end-reached,
+          kind-there image segments t start i i a _ y e refl f,
+          next-there image segments t i a _ y (rw (← f)) h,
+        )
+
+        -- one that can be read is the next block
+        pub row-read : (b : Block) → some b ≡ run image segments (recordAt (rowAt i) a)
+            → (some b ≡ run image segments (blockIn t start i))
+            × (some (record { block = b; next = after t (i + 1) (run image segments (endAt (rowAt i) a)) }) ≡ nextBlock image segments (at i a))
+        unfolding stepAt
+        row-read b f = (kind-there image segments t start i i a _ y e refl f, next-there image segments t i a _ y (rw (← f)) h)
+
+    -- from row `i` on, which lies at `a`, steps give the blocks of the rows that are left
+    abbrev Gives : ℕ → ℕ → ℕ → Type 0
+    Gives m i a = (n : ℕ) → stepped image segments n (at i a) ≡ take n (blocksFrom m i)
+
+    gives : (m i a : ℕ) → i + m ≡ 11 → some a ≡ run image segments (reached t start i) → Gives m i a
+    unfolding blocksFrom stepped
+    gives zero i a h e n = stepped-over n (at i a) (over i a (omega arith)) ∙ take-none n
+    gives (suc m) i a h e n = by (λ c f. gives m (i + 1) c (omega arith) f) n (rowAt i .there t) refl
+      where
+        l : i < 11
+        l = omega arith
+
+        on : ((c : ℕ) → some c ≡ run image segments (reached t start (i + 1)) → Gives m (i + 1) c)
+            → (x : Option ℕ) → x ≡ run image segments (reached t start (i + 1)) → (n : ℕ) → stepped image segments n (after t (i + 1) x) ≡ take n (blocksFrom m (i + 1))
+        on further none f n = stepped-over n (at 11 0) (over 11 0 (omega arith)) ∙ rw (none-after m (i + 1) f) (take-none n)
+        on further (some c) f n = further c f n
+
+        there : ((c : ℕ) → some c ≡ run image segments (reached t start (i + 1)) → Gives m (i + 1) c) → rowAt i .there t ≡ true
+            → (x : Option Block) → x ≡ run image segments (recordAt (rowAt i) a) → Gives (suc m) i a
+        there further y none f n =
+            let w = row-fails i a l e y f in
+            stepped-over n (at i a) (w .2) ∙ rw (blocksFrom, ← w .1, none-after m (i + 1) (w .0)) (take-none n)
+        there further y (some b) f zero = refl
+        there further y (some b) f (suc n) =
+            let w = row-read i a l e y b f in
+            rw (stepped, ← w .1, blocksFrom, ← w .0) (ap (λ (s : List Block). b ∷ s) (on further _ (end-reached i a l e y) n))
+
+        by : ((c : ℕ) → some c ≡ run image segments (reached t start (i + 1)) → Gives m (i + 1) c) → (n : ℕ) (b : Bool) → rowAt i .there t ≡ b
+            → stepped image segments n (at i a) ≡ take n (blocksFrom (suc m) i)
+        by further n true y = there further y (run image segments (recordAt (rowAt i) a)) refl n
+        by further n false y =
+            let w = row-absent i a l e y in
+            stepped-same n (at i a) (at (i + 1) a) (w .2) ∙ further a (w .0) n ∙ rw (blocksFrom, ← w .1)
+
+    -- `n` steps give the first `n` blocks
+    pub stepped-take : (n : ℕ) → stepped image segments n (at 0 start) ≡ take n (blocks image segments t start)
+    stepped-take n = gives 11 0 start refl (reached-start image segments t start) n ∙ ap (take n) (sym blocks-from)
+
+    -- and as many as there are kinds, or more, give them all
+    pub stepped-blocks : (n : ℕ) → 11 ≤ n → stepped image segments n (at 0 start) ≡ blocks image segments t start
+    stepped-blocks n h = stepped-take n ∙ take-all n _ (rw blocks-from (omega (arith, blocks-few 11 0)))
+
+    -- then none is left
+    abbrev Ends : ℕ → ℕ → ℕ → Type 0
+    Ends m i a = (n : ℕ) → m ≤ n → none ≡ nextBlock image segments (steppedTo image segments n (at i a))
+
+    ends : (m i a : ℕ) → i + m ≡ 11 → Ends m i a
+    unfolding steppedTo stepAt
+    ends zero i a h n g = rw (left-over n (at i a) (over i a (omega arith))) (over i a (omega arith))
+    ends (suc m) i a h zero g = absurd (omega arith)
+    ends (suc m) i a h (suc n) g = by (λ c. ends m (i + 1) c (omega arith)) (rowAt i .there t) refl
+      where
+        l : i < 11
+        l = omega arith
+
+        on : ((c : ℕ) → Ends m (i + 1) c) → (x : Option ℕ) → none ≡ nextBlock image segments (steppedTo image segments n (after t (i + 1) x))
+        on further none = rw (left-over n (at 11 0) (over 11 0 (omega arith))) (over 11 0 (omega arith))
+        on further (some c) = further c n (omega arith)
+
+        there : ((c : ℕ) → Ends m (i + 1) c) → rowAt i .there t ≡ true → (x : Option Block) → x ≡ run image segments (recordAt (rowAt i) a)
+            → none ≡ nextBlock image segments (steppedTo image segments (suc n) (at i a))
+        there further y none f =
+            let w : none ≡ nextBlock image segments (at i a) = next-there image segments t i a _ y (rw (← f)) l in
+            rw (left-over (suc n) (at i a) w) w
+        there further y (some b) f =
+            let w : some (record { block = b; next = after t (i + 1) (run image segments (endAt (rowAt i) a)) }) ≡ nextBlock image segments (at i a)
+            = next-there image segments t i a _ y (rw (← f)) l in
+            rw (steppedTo, ← w) (on further (run image segments (endAt (rowAt i) a)))
+
+        by : ((c : ℕ) → Ends m (i + 1) c) → (b : Bool) → rowAt i .there t ≡ b → none ≡ nextBlock image segments (steppedTo image segments (suc n) (at i a))
+        by further true y = there further y (run image segments (recordAt (rowAt i) a)) refl
+        by further false y = left-same (suc n) (at i a) (at (i + 1) a) (next-absent image segments t i a y l) (further a (suc n) (omega arith))
+
+    pub stepped-end : (n : ℕ) → 11 ≤ n → none ≡ nextBlock image segments (steppedTo image segments n (at 0 start))
+    stepped-end n h = ends 11 0 start refl n h
+
+-- ---- the number of protocols
+
+-- how many of the lowest `n` bits are set, one after the other
+unfoldable pub bitsSet : ℕ → ℕ → ℕ
+bitsSet zero w = 0
+bitsSet (suc n) w = bitsSet n w + cond (bit n w) 1 0
+
+bit-is : (x : ℕ) → x < 2 → x ≡ cond (eqb x 1) 1 0
+bit-is zero h = refl
+bit-is (suc zero) h = refl
+bit-is (suc (suc x)) h = absurd (omega arith)
+
+set-next : (n w : ℕ) → setBits (suc n) w ≡ setBits n w + w / 2 ^ n % 2
+unfolding setBits
+set-next zero w = rw div-one (omega arith)
+set-next (suc n) w =
+    let q : w / 2 / 2 ^ n ≡ w / 2 ^ suc n = div-div-eq-div-mul w 2 (2 ^ n) ∙ ap (λ (k : ℕ). w / k) (mul-comm 2 (2 ^ n) ∙ sym (pow-suc 2 n)) in
+    omega (arith, set-next n (w / 2), ap (λ (k : ℕ). k % 2) q)
+
+pub bits-are : (n w : ℕ) → setBits n w ≡ bitsSet n w
+unfolding setBits bitsSet
+bits-are zero w = refl
+bits-are (suc n) w = set-next n w ∙ rw (bits-are n w) (ap (λ (k : ℕ). bitsSet n w + k) (bit-is (w / 2 ^ n % 2) (mod-lt (w / 2 ^ n) (omega arith))))
+
+pub no-bits : setBits 16 0 ≡ 0
+unfolding setBits
+no-bits = refl
+
+pub lowest-bit : setBits 16 1 ≡ 1
+unfolding setBits
+lowest-bit = refl
+
+pub highest-bit : setBits 16 0x8000 ≡ 1
+unfolding setBits
+highest-bit = refl
+
+pub all-bits : setBits 16 0xffff ≡ 16
+unfolding setBits
+all-bits = refl

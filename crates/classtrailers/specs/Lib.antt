@@ -1,0 +1,6 @@
+pub mod Blocks
+pub mod BlocksLaws
+pub mod Calls
+pub mod CallsLaws
+pub mod Checked
+pub mod PathLaws

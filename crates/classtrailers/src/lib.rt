@@ -1,0 +1,15 @@
+// The blocks that trail a class, a struct or an enum descriptor, carried over from darwinscope's src/swift/classtrailers.rs.
+mod block;
+mod decode;
+mod trailing;
+mod walk;
+
+pub use block::Block;
+pub use block::BlockKind;
+pub use trailing::Trailing;
+pub use trailing::has_block;
+pub use trailing::number_of;
+pub use walk::BlockRead;
+pub use walk::BlockStep;
+pub use walk::BlockWalk;
+pub use walk::block_of_kind;

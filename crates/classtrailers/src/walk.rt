@@ -1,0 +1,138 @@
+// Block after block, and the block of a kind.
+ghost use mathlib.Core.Path.{_≡_};
+ghost use Prim.Native.Nat.{_<_};
+ghost use Rattle.runtime.specs.Reads.{run};
+ghost use Rattle.classtrailers.specs.Blocks.{rowAt, passed, stepAt, nextBlock, block};
+ghost use Rattle.classtrailers.specs.Calls.{trailingOf, walkOf, endOf, blockStepOf, blockReadOf};
+use crate::block::Block;
+use crate::block::BlockKind;
+use crate::decode::BlockAt;
+use crate::decode::End;
+use crate::decode::block_at;
+use crate::trailing::Trailing;
+use crate::trailing::has_block;
+use crate::trailing::number_of;
+
+// How many kinds of blocks there are.
+pub const ROWS: u32 = 11;
+
+// A walk over the blocks: the number of the kind that comes next, and the address of what follows.
+pub struct BlockWalk {
+    pub trailing: Trailing,
+    pub row: u32,
+    pub address: u64,
+}
+
+pub enum BlockStep {
+    Block { block: Block, next: BlockWalk },
+    End,
+}
+
+pub enum BlockRead {
+    Block(Block),
+    Nothing,
+}
+
+// A block that is there, and the walk from its end on.
+fn step_at(image: &[u8], segments: &[u64], trailing: Trailing, row: u32, address: u64) -> BlockStep
+    requires { ⌜ row < 11 ⌝ }
+    ensures { λ r. ⌜ blockStepOf r ≡ stepAt (now (image .entry)) (now (segments .entry)) (trailingOf trailing) row address ⌝ }
+{
+    match block_at(image, segments, row, address) {
+        BlockAt::Block { block, end } => BlockStep::Block {
+            block,
+            next: BlockWalk {
+                trailing,
+                row: row + 1,
+                address: end,
+            },
+        },
+        BlockAt::Last(block) => BlockStep::Block {
+            block,
+            next: BlockWalk {
+                trailing,
+                row: ROWS,
+                address: 0,
+            },
+        },
+        BlockAt::Nothing => BlockStep::End,
+    }
+}
+
+impl BlockWalk {
+    // The walk over the blocks that start at an address.
+    pub fn start(trailing: Trailing, address: u64) -> BlockWalk
+        ensures { λ r. ⌜ (r .trailing ≡ trailing) × (r .row ≡ 0) × (r .address ≡ address) ⌝ }
+    {
+        BlockWalk {
+            trailing,
+            row: 0,
+            address,
+        }
+    }
+
+    // The next block that is there.
+    pub fn next(self, image: &[u8], segments: &[u64]) -> BlockStep
+        ensures { λ r. ⌜ blockStepOf r ≡ nextBlock (now (image .entry)) (now (segments .entry)) (walkOf self) ⌝ }
+    {
+        let trailing = self.trailing;
+        let address = self.address;
+        let mut row = self.row;
+        while row < ROWS {
+            if has_block(trailing, row) {
+                return step_at(image, segments, trailing, row, address);
+            }
+            row += 1;
+        }
+        BlockStep::End
+    }
+}
+
+// Where the next block starts, past the one with this number if that is there.
+fn pass(image: &[u8], segments: &[u64], trailing: Trailing, row: u32, address: u64) -> End
+    requires { ⌜ row < 11 ⌝ }
+    ensures { λ r. ⌜ endOf r ≡ run (now (image .entry)) (now (segments .entry)) (passed (trailingOf trailing) (rowAt row) address) ⌝ }
+{
+    if !has_block(trailing, row) {
+        return End::At(address);
+    }
+    match block_at(image, segments, row, address) {
+        BlockAt::Block { block: _, end } => End::At(end),
+        BlockAt::Last(_) => End::Nothing,
+        BlockAt::Nothing => End::Nothing,
+    }
+}
+
+// The block of a kind, of a descriptor whose blocks start at an address: of those before it only the headers are read.
+pub fn block_of_kind(
+    image: &[u8],
+    segments: &[u64],
+    trailing: Trailing,
+    start: u64,
+    kind: BlockKind,
+) -> BlockRead
+    ensures { λ r. ⌜ blockReadOf r ≡ run (now (image .entry)) (now (segments .entry)) (block (trailingOf trailing) start kind) ⌝ }
+{
+    let number = number_of(kind);
+    if !has_block(trailing, number) {
+        return BlockRead::Nothing;
+    }
+    let mut address = start;
+    let mut row: u32 = 0;
+    while row < number {
+        match pass(image, segments, trailing, row, address) {
+            End::At(end) => {
+                address = end;
+                row += 1;
+            }
+            End::Nothing => {
+                return BlockRead::Nothing;
+            }
+        }
+    }
+    match block_at(image, segments, number, address) {
+        BlockAt::Block { block, end: _ } => BlockRead::Block(block),
+        BlockAt::Last(block) => BlockRead::Block(block),
+        BlockAt::Nothing => BlockRead::Nothing,
+    }
+}
