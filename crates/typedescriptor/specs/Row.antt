@@ -1,4 +1,4 @@
--- A type row: document 01, "Type rows"; Metadata.h, `TargetTypeContextDescriptor` (flags, parent and name of `TargetContextDescriptor`
+-- A type row: docs/SPECIFICATION.md, "Type rows"; Metadata.h, `TargetTypeContextDescriptor` (flags, parent and name of `TargetContextDescriptor`
 -- and its subclass, relative pointers of four bytes each).
 use Prim.Native.Nat.{ℕ, _+_, _^_}
 use mathlib.Core.List.{List}
@@ -32,14 +32,17 @@ typeRow a h p t =
       nameBytes = t;
     }
 
--- what is read after the 20 bytes: the name. A descriptor at or above 2^64 - 8 has no slot for it. An offset of 0 is no exception: it
--- refers to the slot itself.
-unfoldable pub named : ℕ → List ℕ → Reads TypeRow
-named a h = cond (leb (2 ^ 64) (a + 8)) nothing (text (relativePointer (a + 8) (signedIn 4 h 8)) (λ p t. done (typeRow a h p t)))
+-- the address of the name, by the descriptor's 20 bytes. An offset of 0 is no exception: it refers to its own slot.
+abbrev pub nameAddress : ℕ → List ℕ → ℕ
+nameAddress a h = relativePointer (a + 8) (signedIn 4 h 8)
+
+-- what is read after the 20 bytes: the name. A descriptor at or above 2^64 - 8 has no slot for it.
+unfoldable pub rowName : ℕ → List ℕ → Reads TypeRow
+rowName a h = cond (leb (2 ^ 64) (a + 8)) nothing (text (nameAddress a h) (λ p t. done (typeRow a h p t)))
 
 -- a descriptor has 20 bytes: flags at 0, the parent's offset at 4, the name's at 8
 unfoldable pub descriptor : ℕ → Reads TypeRow
-descriptor a = bytes a 20 (named a)
+descriptor a = bytes a 20 (rowName a)
 
 -- what a call's row says, of the image that it was read from
 abbrev pub rowOf : List ℕ → Row → TypeRow

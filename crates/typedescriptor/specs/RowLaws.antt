@@ -14,31 +14,31 @@ use Rattle.util.specs.Cstr.{Place, partOf}
 use Rattle.runtime.specs.Reads.{done, run, textPlace}
 use Rattle.runtime.specs.Bytes.{bytesRead}
 use Rattle.runtime.specs.CallsLaws.{run-bytes, run-no-bytes, run-text, run-no-text}
-use Rattle.typedescriptor.specs.Row.{TypeRow, typeRow, named, descriptor}
+use Rattle.typedescriptor.specs.Row.{TypeRow, typeRow, rowName, descriptor}
 use Rattle.typedescriptor.specs.Slots.{slots, slotRow, found, firstRow, nextRow}
 
 module _ (image segments : List ℕ) (a : ℕ) (h : List ℕ) (e : h ≡ bytesRead image segments a 20) where
   pub no-header : length h < 20 → none ≡ run image segments (descriptor a)
   unfolding descriptor
-  no-header l = sym (run-no-bytes image segments a 20 (named a) h e l)
+  no-header l = sym (run-no-bytes image segments a 20 (rowName a) h e l)
 
-  header : 20 ≤ length h → run image segments (descriptor a) ≡ run image segments (named a h)
+  header : 20 ≤ length h → run image segments (descriptor a) ≡ run image segments (rowName a h)
   unfolding descriptor
-  header l = run-bytes image segments a 20 (named a) h e (omega arith) l
+  header l = run-bytes image segments a 20 (rowName a) h e (omega arith) l
 
   pub no-slot : 20 ≤ length h → 2 ^ 64 ≤ a + 8 → none ≡ run image segments (descriptor a)
-  unfolding named run
+  unfolding rowName run
   no-slot l w = rw (header l) (simp (le-leb (2 ^ 64) (a + 8) w))
 
   module _ (v : ℕ) (at : v ≡ relativePointer (a + 8) (signedIn 4 h 8)) where
     pub no-name : none ≡ textPlace image segments v → 20 ≤ length h → a + 8 < 2 ^ 64 → none ≡ run image segments (descriptor a)
-    unfolding named
+    unfolding rowName
     no-name t l w = rw (header l) (simp (lt-leb (2 ^ 64) (a + 8) w) (rw (← at) (sym (run-no-text image segments v _ t))))
 
     pub row-at : (p : Place) (f q : ℕ) → some p ≡ textPlace image segments v → f ≡ unsignedIn 4 h 0 → q ≡ relativeAddress (a + 4) (signedIn 4 h 4)
         → 20 ≤ length h → a + 8 < 2 ^ 64
         → some (record { address = a; flags = f; parent = q; name = p; nameBytes = partOf image p }) ≡ run image segments (descriptor a)
-    unfolding named run
+    unfolding rowName run
     row-at p f q t ef eq l w =
         rw (header l, ef, eq) (simp (lt-leb (2 ^ 64) (a + 8) w) (rw (← at) (sym (run-text image segments v (λ p t. done (typeRow a h p t)) p t))))
 

@@ -1,4 +1,4 @@
--- The types section: document 01, "Type rows": a list of slots of four bytes, each the offset of a descriptor from the slot's own
+-- The types section: docs/SPECIFICATION.md, "Type rows": a list of slots of four bytes, each the offset of a descriptor from the slot's own
 -- address; a short last slot is no slot. The address of a slot is the section's plus 4 for each slot before it, modulo 2^64.
 use Prim.Native.Nat.{ℕ, zero, suc, _+_, _-_, _*_, _/_, _%_, _^_}
 use mathlib.Core.List.{List, [], _∷_}
@@ -46,19 +46,31 @@ firstRow image segments types start (suc n) i =
 unfoldable pub nextRow : List ℕ → List ℕ → List ℕ → ℕ → ℕ → Option Found
 nextRow image segments types start i = firstRow image segments types start (slots types - i) i
 
--- all rows of so many slots from slot `i` on, in the slots' order
-unfoldable pub rowsFrom : List ℕ → List ℕ → List ℕ → ℕ → ℕ → ℕ → List TypeRow
+-- all rows of so many slots from slot `i` on, each with its slot, in the slots' order
+unfoldable pub rowsFrom : List ℕ → List ℕ → List ℕ → ℕ → ℕ → ℕ → List Found
 rowsFrom image segments types start zero i = []
 rowsFrom image segments types start (suc n) i =
     elim (run image segments (slotRow types start i)) [
       | none ↦ rowsFrom image segments types start n (suc i)
-      | some r ↦ r ∷ rowsFrom image segments types start n (suc i)
+      | some r ↦ found i r ∷ rowsFrom image segments types start n (suc i)
     ]
 
 -- the rows of the section
-unfoldable pub rows : List ℕ → List ℕ → List ℕ → ℕ → List TypeRow
+unfoldable pub rows : List ℕ → List ℕ → List ℕ → ℕ → List Found
 rows image segments types start = rowsFrom image segments types start (slots types) 0
 
-abbrev pub stepOf : List ℕ → TypeStep → Option Found
-stepOf image (TypeStep.Row i r c) = some (record { slot = i; row = rowOf image r; next = c .slot })
-stepOf image TypeStep.End = none
+-- the rows that at most `n` steps from slot `i` on give, each step from where the one before it left off
+unfoldable pub stepped : List ℕ → List ℕ → List ℕ → ℕ → ℕ → ℕ → List Found
+stepped image segments types start zero i = []
+stepped image segments types start (suc n) i =
+    elim (nextRow image segments types start i) [ none ↦ [] | some f ↦ f ∷ stepped image segments types start n (f .next) ]
+
+-- and the slot at which they leave off
+unfoldable pub steppedTo : List ℕ → List ℕ → List ℕ → ℕ → ℕ → ℕ → ℕ
+steppedTo image segments types start zero i = i
+steppedTo image segments types start (suc n) i =
+    elim (nextRow image segments types start i) [ none ↦ i | some f ↦ steppedTo image segments types start n (f .next) ]
+
+abbrev pub typeStepOf : List ℕ → TypeStep → Option Found
+typeStepOf image (TypeStep.Row i r c) = some (record { slot = i; row = rowOf image r; next = c .slot })
+typeStepOf image TypeStep.End = none

@@ -1,7 +1,7 @@
 ghost use mathlib.Core.Path.{_≡_};
 ghost use Rattle.runtime.specs.Reads.{run};
 ghost use Rattle.typedescriptor.specs.Row.{descriptorOf};
-ghost use Rattle.typedescriptor.specs.Slots.{slotRow, nextRow, stepOf};
+ghost use Rattle.typedescriptor.specs.Slots.{slotRow, nextRow, typeStepOf};
 use crate::descriptor::Descriptor;
 use crate::descriptor::Row;
 use crate::descriptor::decode_type_descriptor;
@@ -52,7 +52,7 @@ impl TypeIter {
 
     // The next row. A slot without a row is passed over.
     pub fn next(self, image: &[u8], segments: &[u64], types: &[u8], vmaddr: u64) -> TypeStep
-        ensures { λ r. ⌜ stepOf (now (image .entry)) r ≡ nextRow (now (image .entry)) (now (segments .entry)) (now (types .entry)) vmaddr (self .slot) ⌝ }
+        ensures { λ r. ⌜ typeStepOf (now (image .entry)) r ≡ nextRow (now (image .entry)) (now (segments .entry)) (now (types .entry)) vmaddr (self .slot) ⌝ }
     {
         let count = types.len() / 4;
         let mut slot = self.slot;
