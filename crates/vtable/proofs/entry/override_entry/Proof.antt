@@ -1,0 +1,36 @@
+-- `vtable::entry::override_entry` meets its contract.
+-- Assumes nothing.
+use Rattle.vtable.specs.Entries.{override}
+use Rattle.vtable.specs.EntriesLaws.{entry-of, first-word}
+use borrow.Author.Needs.{needs}
+use Rattle.vtable.proofs.entry.override_entry.Statement.{statement}
+use Rattle.vtable.proofs.entry.override_entry.Tie as tie
+
+address-in-requires : tie.Need-address-in-requires
+address-in-requires c κs = search needs
+
+add-address-in : tie.Need-add-address-in
+add-address-in c = search needs
+
+address-in-requires-2 : tie.Need-address-in-requires-2
+address-in-requires-2 c κs = search needs
+
+add-address-in-2 : tie.Need-add-address-in-2
+add-address-in-2 c = search needs
+
+address-in-requires-3 : tie.Need-address-in-requires-3
+address-in-requires-3 c κs = search needs
+
+returns : tie.Need-returns
+returns c = entry-of override _ _ _ (first-word _ _ _ (c .before .before .address-in .ensures), (c .before .address-in2 .ensures, (c .address-in3 .ensures, tt)))
+
+pub override-entry-spec : {M : Type 1} → statement M
+override-entry-spec =
+    tie.close
+    (tie.spec
+    address-in-requires
+    add-address-in
+    address-in-requires-2
+    add-address-in-2
+    address-in-requires-3
+    returns)

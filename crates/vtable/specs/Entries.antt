@@ -1,0 +1,141 @@
+-- The entries of a table: docs/SPECIFICATION.md, "Entries"; Metadata.h, `TargetMethodDescriptor`,
+-- `TargetMethodOverrideDescriptor`, `TargetMethodDefaultOverrideDescriptor`, and the canonical specialized metadatas. One definition
+-- over what the words of an entry are.
+use Prim.Native.Nat.{ℕ, zero, suc, _+_, _-_, _*_, _^_}
+use mathlib.Core.List.{List, [], _∷_}
+use mathlib.Core.Bool.{cond}
+use mathlib.Core.Option.{Option, some, none}
+use lib.ListN.{length}
+use lib.Dec.{leb, ltb}
+use Rattle.util.specs.LittleEndian.{unsignedIn, signedIn}
+use Rattle.util.specs.Pointer.{relativeAddress}
+use Rattle.runtime.specs.Reads.{Reads, done, nothing, bytes, bind, run}
+use Rattle.runtime.specs.Bytes.{bytesRead}
+use Rattle.vtable.specs.declared.entry.VTableEntry.{VTableEntry}
+use Rattle.vtable.specs.declared.entry.OverrideEntry.{OverrideEntry}
+use Rattle.vtable.specs.declared.entry.DefaultOverrideEntry.{DefaultOverrideEntry}
+use Rattle.vtable.specs.declared.entry.PrespecializationEntry.{PrespecializationEntry}
+use Rattle.vtable.specs.declared.cursor.EntryCursor.{EntryCursor}
+use Rattle.vtable.specs.declared.cursor.MethodStep.{MethodStep}
+use Rattle.vtable.specs.declared.cursor.OverrideStep.{OverrideStep}
+use Rattle.vtable.specs.declared.cursor.DefaultOverrideStep.{DefaultOverrideStep}
+use Rattle.vtable.specs.declared.cursor.PrespecializationStep.{PrespecializationStep}
+
+-- a word of four bytes: a number, or the offset of a relative pointer that may be null
+pub data Word : Type 0 where
+  number : Word
+  pointer : Word
+
+-- method: flags and implementation; override: class, method and implementation; default override: method and implementation (the header has
+-- three pointers, see docs/DIFFERENCES.md); prespecialization: the metadata
+abbrev pub method : List Word
+method = number ∷ pointer ∷ []
+
+abbrev pub override : List Word
+override = pointer ∷ pointer ∷ pointer ∷ []
+
+abbrev pub defaultOverride : List Word
+defaultOverride = pointer ∷ pointer ∷ []
+
+abbrev pub prespecialization : List Word
+prespecialization = pointer ∷ []
+
+abbrev pub entrySize : List Word → ℕ
+entrySize ws = 4 * length ws
+
+-- what a word says, at an offset of an entry's bytes; the entry is at an address
+abbrev pub wordAt : Word → ℕ → ℕ → List ℕ → ℕ
+wordAt number a o h = unsignedIn 4 h o
+wordAt pointer a o h = relativeAddress (a + o) (signedIn 4 h o)
+
+abbrev pub wordsFrom : List Word → ℕ → ℕ → List ℕ → List ℕ
+wordsFrom [] a o h = []
+wordsFrom (w ∷ ws) a o h = wordAt w a o h ∷ wordsFrom ws a (o + 4) h
+
+pub record Entry : Type 0 where
+  pub address : ℕ
+  pub words : List ℕ
+
+-- the entry that these bytes are, at an address
+abbrev pub entryOf : List Word → ℕ → List ℕ → Entry
+entryOf ws a h = record { address = a; words = wordsFrom ws a 0 h }
+
+-- the address of entry `k` of a table that starts at `base`
+abbrev pub entryAddress : List Word → ℕ → ℕ → ℕ
+entryAddress ws base k = base + entrySize ws * k
+
+-- entry `k` by itself: all its words lie below 2^64
+unfoldable pub entryAt : List Word → ℕ → ℕ → Reads Entry
+entryAt ws base k =
+    cond (leb (2 ^ 64) (entryAddress ws base k + (entrySize ws - 4))) nothing
+    (bytes (entryAddress ws base k) (entrySize ws) (λ h. done (entryOf ws (entryAddress ws base k) h)))
+
+-- entry `k` of a list: a list ends at its first unreadable entry, so the entries 0 to `k` are read
+unfoldable pub upTo : List Word → ℕ → ℕ → Reads Entry
+upTo ws base zero = entryAt ws base 0
+upTo ws base (suc k) = bind (upTo ws base k) (λ _. entryAt ws base (suc k))
+
+unfoldable pub entry : List Word → ℕ → ℕ → ℕ → Reads Entry
+entry ws base count k = cond (ltb k count) (upTo ws base k) nothing
+
+-- a walk: the table's start, the number of its entries, and the next one's. A walk starts at entry 0
+abbrev pub start : ℕ → ℕ → EntryCursor
+start base count = record { «base_va» = base; count = count; next = 0 }
+
+abbrev pub moved : EntryCursor → EntryCursor
+moved c = record { «base_va» = c .«base_va»; count = c .count; next = c .next + 1 }
+
+-- a single step, like the Rust's `next`: the entry, or that it is unreadable; the walk moves on past it in both cases
+pub record Step : Type 0 where
+  pub found : Option Entry
+  pub next : EntryCursor
+
+unfoldable pub entryStep : List ℕ → List ℕ → List Word → EntryCursor → Option Step
+entryStep image segments ws c =
+    cond (ltb (c .next) (c .count)) (some (record { found = run image segments (entryAt ws (c .«base_va») (c .next)); next = moved c })) none
+
+-- the bytes of entry `k` of a table of entries of `size` bytes, as the calls hand them on: none where one of the entry's words, the
+-- last one at `size` - 4, does not lie below 2^64
+unfoldable pub entryBytes : List ℕ → List ℕ → ℕ → ℕ → ℕ → List ℕ
+entryBytes image segments size base k =
+    cond (ltb size 4) [] (cond (leb (2 ^ 64) (base + size * k + (size - 4))) [] (bytesRead image segments (base + size * k) size))
+
+-- the entries as lists of words
+abbrev pub ofMethod : VTableEntry → Entry
+ofMethod e = record { address = e .address; words = e .flags ∷ (e .«impl_va» ∷ []) }
+
+abbrev pub ofOverride : OverrideEntry → Entry
+ofOverride e = record { address = e .address; words = e .«class_va» ∷ (e .«method_va» ∷ (e .«impl_va» ∷ [])) }
+
+abbrev pub ofDefaultOverride : DefaultOverrideEntry → Entry
+ofDefaultOverride e = record { address = e .address; words = e .«method_va» ∷ (e .«impl_va» ∷ []) }
+
+abbrev pub ofPrespecialization : PrespecializationEntry → Entry
+ofPrespecialization e = record { address = e .address; words = e .«metadata_va» ∷ [] }
+
+-- the steps' answers
+abbrev pub found : Entry → EntryCursor → Option Step
+found e c = some (record { found = some e; next = c })
+
+abbrev pub unreadable : EntryCursor → Option Step
+unreadable c = some (record { found = none; next = c })
+
+abbrev pub methodStep : MethodStep → Option Step
+methodStep (MethodStep.Entry e c) = found (ofMethod e) c
+methodStep (MethodStep.Unreadable c) = unreadable c
+methodStep MethodStep.End = none
+
+abbrev pub overrideStep : OverrideStep → Option Step
+overrideStep (OverrideStep.Entry e c) = found (ofOverride e) c
+overrideStep (OverrideStep.Unreadable c) = unreadable c
+overrideStep OverrideStep.End = none
+
+abbrev pub defaultOverrideStep : DefaultOverrideStep → Option Step
+defaultOverrideStep (DefaultOverrideStep.Entry e c) = found (ofDefaultOverride e) c
+defaultOverrideStep (DefaultOverrideStep.Unreadable c) = unreadable c
+defaultOverrideStep DefaultOverrideStep.End = none
+
+abbrev pub prespecializationStep : PrespecializationStep → Option Step
+prespecializationStep (PrespecializationStep.Entry e c) = found (ofPrespecialization e) c
+prespecializationStep (PrespecializationStep.Unreadable c) = unreadable c
+prespecializationStep PrespecializationStep.End = none

@@ -1,0 +1,4 @@
+pub mod Entries
+pub mod EntriesLaws
+pub mod ListLaws
+pub mod PathLaws
