@@ -1,4 +1,4 @@
--- A context that encloses a type: document 01, "Entries, fields, parents"; Metadata.h, `TargetContextDescriptor` (flags, and the
+-- A context that encloses a type: docs/SPECIFICATION.md, "Contexts"; Metadata.h, `TargetContextDescriptor` (flags, and the
 -- parent's relative pointer), and the names of its subclasses at offset 8.
 use Prim.Native.Nat.{ℕ, _+_, _^_, _≤_}
 use mathlib.Core.List.{List}
@@ -11,7 +11,7 @@ use Rattle.util.specs.Pointer.{relativePointer, relativeAddress}
 use Rattle.util.specs.Cstr.{Place, place, partOf}
 use Rattle.util.specs.declared.cstr.Text.{Text}
 use Rattle.runtime.specs.Reads.{Reads, done, nothing, bytes, text, run}
-use Rattle.context.specs.Context.{contextKind, named}
+use Rattle.context.specs.Context.{contextKind, hasName}
 use Rattle.parent.specs.declared.header.ParentContext.{ParentContext}
 use Rattle.parent.specs.declared.header.ContextRead.{ContextRead}
 use Rattle.parent.specs.declared.header.HeaderRead.{HeaderRead}
@@ -49,7 +49,7 @@ nameAt a = cond (leb (2 ^ 64) (a + 8)) nothing (bytes (a + 8) 4 (slotName (a + 8
 
 -- modules, extensions, protocols and the three types have a name
 unfoldable pub name : ℕ → ℕ → Reads Name
-name a flags = cond (named (contextKind flags)) (nameAt a) nothing
+name a flags = cond (hasName (contextKind flags)) (nameAt a) nothing
 
 unfoldable pub contextName : List ℕ → List ℕ → ℕ → ℕ → Option Name
 contextName image segments a flags = run image segments (name a flags)
@@ -59,9 +59,12 @@ pub record Context : Type 0 where
   pub header : Header
   pub name : Option Name
 
+-- a header's context: its name is read beside it
+unfoldable pub withName : List ℕ → List ℕ → Header → Context
+withName image segments h = record { header = h; name = contextName image segments (h .address) (h .flags) }
+
 unfoldable pub contextRead : List ℕ → List ℕ → ℕ → Option Context
-contextRead image segments a =
-    Option·map (λ h. record { header = h; name = contextName image segments a (h .flags) }) (run image segments (header a))
+contextRead image segments a = Option·map (withName image segments) (run image segments (header a))
 
 -- what the calls' answers say, of the image that they were read from
 abbrev pub headerOf : ℕ → HeaderRead → Option Header

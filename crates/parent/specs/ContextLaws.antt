@@ -1,5 +1,5 @@
 -- What the tests on a context and on its name say of their programs, and what a context says of a chain.
-use Prim.Native.Nat.{ℕ, _+_, _-_, _^_, _≤_, _<_}
+use Prim.Native.Nat.{ℕ, _+_, _^_, _≤_, _<_}
 use native.Mathlib.Omega.{arith}
 use mathlib.Core.Path.{_≡_, sym, _∙_}
 use mathlib.Core.List.{List, []}
@@ -11,20 +11,20 @@ use Rattle.util.specs.LittleEndian.{unsignedIn, signedIn}
 use Rattle.util.specs.Pointer.{relativePointer, relativeAddress}
 use Rattle.util.specs.Cstr.{place, textOf}
 use Rattle.util.specs.declared.cstr.Text.{Text}
-use Rattle.runtime.specs.Reads.{done, bytes, text, run, textPlace}
+use Rattle.runtime.specs.Reads.{done, bytes, run, textPlace}
 use Rattle.runtime.specs.Bytes.{bytesRead}
 use Rattle.util.specs.Segments.{segmentsOf, fileOffset}
-use Rattle.util.specs.Mapping.{led, Mapped}
+use Rattle.util.specs.Mapping.{withMapping, Mapped}
 use Rattle.util.specs.declared.segment.Mapping.{Mapping}
 use Rattle.runtime.specs.CallsLaws.{text-within, bytes-nowhere, read-nothing, run-bytes, run-no-bytes, run-text, run-no-text, run-mapped}
-use Rattle.context.specs.Context.{contextKind, named}
-use Rattle.parent.specs.Context.{Name, Header, headed, header, slotName, nameAt, name, contextName, Context, contextRead, nameRead, Inside}
-use Rattle.parent.specs.Chain.{chain, chainStep}
+use Rattle.context.specs.Context.{contextKind, hasName}
+use Rattle.parent.specs.Context.{Name, Header, headed, header, slotName, nameAt, name, contextName, Context, withName, contextRead, nameRead, Inside}
+use Rattle.parent.specs.Chain.{chainStep}
 
 -- ---- the name
 
 module _ (image segments : List ℕ) (a : ℕ) where
-  module _ (flags : ℕ) (r : Bool) (e : r ≡ named (contextKind flags)) where
+  module _ (flags : ℕ) (r : Bool) (e : r ≡ hasName (contextKind flags)) where
     pub unnamed : r ≡ false → none ≡ contextName image segments a flags
     unfolding contextName name run
     unnamed t = rw (← e, t)
@@ -94,20 +94,20 @@ module _ (image segments : List ℕ) (a : ℕ) where
   pub nowhere : (a ≡ 0 → ⊥) → none ≡ fileOffset (segmentsOf segments) a → none ≡ contextRead image segments a
   nowhere z e = no-context (no-header z [] (read-nothing image segments a 8 (bytes-nowhere image segments a 8 e)) (omega arith))
 
-  pub context-at : (h : Header) (n : Option Name) → some h ≡ run image segments (header a) → n ≡ contextName image segments a (h .flags)
+  pub context-at : (h : Header) (n : Option Name) → some h ≡ run image segments (header a) → n ≡ contextName image segments (h .address) (h .flags)
       → some (record { header = h; name = n }) ≡ contextRead image segments a
-  unfolding contextRead
+  unfolding contextRead withName
   context-at h n e en = rw (← e, en)
 
   -- the same, read with a true mapping
   module _ (m : Mapping) (w : Mapped segments m) where
-    pub no-context-near : none ≡ run image (led m segments) (header a) → none ≡ contextRead image segments a
+    pub no-context-near : none ≡ run image (withMapping m segments) (header a) → none ≡ contextRead image segments a
     no-context-near e = no-context (e ∙ run-mapped image segments m w (header a))
 
-    pub context-near : (h : Header) (n : Option Name) → some h ≡ run image (led m segments) (header a) → n ≡ contextName image (led m segments) a (h .flags)
+    pub context-near : (h : Header) (n : Option Name) → some h ≡ run image (withMapping m segments) (header a) → n ≡ contextName image (withMapping m segments) (h .address) (h .flags)
         → some (record { header = h; name = n }) ≡ contextRead image segments a
     unfolding contextName
-    context-near h n e en = context-at h n (e ∙ run-mapped image segments m w (header a)) (en ∙ run-mapped image segments m w (name a (h .flags)))
+    context-near h n e en = context-at h n (e ∙ run-mapped image segments m w (header a)) (en ∙ run-mapped image segments m w (name (h .address) (h .flags)))
 
   -- ---- the chain
   module _ (given : ℕ) where

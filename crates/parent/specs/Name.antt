@@ -1,14 +1,15 @@
--- The joined name: document 01, "Entries, fields, parents" and the table of refusals.
-use Prim.Native.Nat.{ℕ, suc, _+_}
+-- The joined name: docs/SPECIFICATION.md, "Joined names" and "Refusals".
+use Prim.Native.Nat.{ℕ}
 use mathlib.Core.List.{List, [], _∷_, _++_}
-use mathlib.Core.Bool.{Bool, cond}
+use mathlib.Core.Bool.{Bool, true, false, cond}
 use mathlib.Core.Option.{Option, some, none}
-use lib.ListN.{length, drop}
-use lib.Dec.{leb, ltb}
+use lib.ListN.{length}
+use lib.Dec.{ltb}
+use Rattle.refusal.specs.Refusal.{Guarded, answered, refused, refusalNumber}
+use Rattle.runtime.specs.Reads.{run}
 use Rattle.typedescriptor.specs.Row.{TypeRow}
 use Rattle.parent.specs.Context.{Name, Context}
-use Rattle.parent.specs.Chain.{chain}
-use Rattle.parent.specs.declared.name.Hops.{Hops}
+use Rattle.parent.specs.Chain.{contextsMost, headerAt, chain}
 use Rattle.parent.specs.declared.name.QualifiedName.{QualifiedName}
 
 -- a present name, even an empty one, and a dot
@@ -21,44 +22,25 @@ unfoldable pub hops : List Context → List ℕ
 hops [] = []
 hops (c ∷ cs) = hops cs ++ hop (c .name)
 
--- what a call that writes a name answers: its length, or a refusal by its number
-pub data Answer : Type 0 where
-  written : ℕ → Answer
-  refused : ℕ → Answer
-
--- the hops of the contexts from an address on, of which `left` are allowed, before `rest` bytes: 4 where one more can be read,
--- 3 where hops and rest are longer than the buffer
-abbrev pub tooDeep : List ℕ → List ℕ → ℕ → ℕ → Bool
-tooDeep image segments left a = leb (suc left) (length (chain image segments (suc left) a))
-
-abbrev pub before : List ℕ → List ℕ → ℕ → ℕ → List ℕ
-before image segments left a = hops (chain image segments (suc left) a)
-
-unfoldable pub hopsAnswer : List ℕ → List ℕ → ℕ → ℕ → ℕ → ℕ → Answer
-hopsAnswer image segments left a rest size =
-    cond (tooDeep image segments left a) (refused 4)
-    (cond (ltb size (rest + length (before image segments left a))) (refused 3) (written (length (before image segments left a))))
-
--- the buffer with a text at its start, unless the answer is a refusal
-unfoldable pub filled : Answer → List ℕ → List ℕ → List ℕ
-filled (refused n) t buffer = buffer
-filled (written n) t buffer = t ++ drop (length t) buffer
-
-abbrev pub hopsOf : Hops → Answer
-hopsOf (Hops.Written n) = written n
-hopsOf Hops.TooLong = refused 3
-hopsOf Hops.TooDeep = refused 4
-
--- the joined name of a row: the hops of its 256 contexts at most, and its own name
+-- the joined name of a row: the hops of its first 256 contexts, and its own name
 unfoldable pub qualifiedName : List ℕ → List ℕ → TypeRow → List ℕ
-qualifiedName image segments row = before image segments 256 (row .parent) ++ row .nameBytes
+qualifiedName image segments row = hops (chain image segments contextsMost (row .parent)) ++ row .nameBytes
 
-unfoldable pub nameAnswer : List ℕ → List ℕ → TypeRow → ℕ → Answer
+abbrev pub isThere : {A : Type 0} → Option A → Bool
+isThere none = false
+isThere (some a) = true
+
+-- whether a 257th context can be read
+unfoldable pub tooDeep : List ℕ → List ℕ → ℕ → Bool
+tooDeep image segments a = isThere (run image segments (headerAt contextsMost a))
+
+-- the name for a buffer of so many bytes: refusal 4, then 3 where it is longer than the buffer
+unfoldable pub nameAnswer : List ℕ → List ℕ → TypeRow → ℕ → Guarded (List ℕ)
 nameAnswer image segments row size =
-    cond (tooDeep image segments 256 (row .parent)) (refused 4)
-    (cond (ltb size (length (qualifiedName image segments row))) (refused 3) (written (length (qualifiedName image segments row))))
+    cond (tooDeep image segments (row .parent)) (refused 4)
+    (cond (ltb size (length (qualifiedName image segments row))) (refused 3) (answered (qualifiedName image segments row)))
 
-abbrev pub nameOf : QualifiedName → Answer
-nameOf (QualifiedName.Length n) = written n
-nameOf QualifiedName.TooLong = refused 3
-nameOf QualifiedName.TooDeep = refused 4
+-- what the call's answer tells: the name's length
+abbrev pub lengthOf : QualifiedName → Guarded ℕ
+lengthOf (QualifiedName.Length n) = answered n
+lengthOf (QualifiedName.Refused r) = refused (refusalNumber r)

@@ -17,9 +17,10 @@ use Rattle.util.specs.BufferLaws.{put-none, put-more, put-then, put-length}
 use Rattle.util.specs.declared.cstr.Text.{Text}
 use Rattle.parent.specs.Context.{Header, Context, contextRead, nameRead}
 use Rattle.parent.specs.Chain.{chain}
-use Rattle.parent.specs.Name.{hop, hops, written, refused, tooDeep, before, hopsAnswer, filled}
+use Rattle.refusal.specs.Refusal.{answered, refused}
+use Rattle.parent.specs.Name.{hop, hops}
 use Rattle.parent.specs.NameLaws.{onward, measured, hops-written, at-start, from-start}
-use Rattle.parent.specs.Walk.{ContextLocated, gathered, Block, Last}
+use Rattle.parent.specs.Walk.{ContextLocated, deeper, before, hopsAnswer, filled, gathered, Block, Last}
 use Rattle.parent.specs.ContextLaws.{nowhere}
 use Rattle.util.specs.Mapping.{Located}
 use Rattle.util.specs.declared.segment.Around.{Around}
@@ -65,11 +66,11 @@ module _ (image segments : List ℕ) (left a : ℕ) where
   unfolding hops
   end-before e = rw (chain-ends e)
 
-  end-deep : none ≡ contextRead image segments a → tooDeep image segments left a ≡ false
+  end-deep : none ≡ contextRead image segments a → deeper image segments left a ≡ false
   end-deep e = rw (chain-ends e) (lt-leb (suc left) 0 (omega arith))
 
   module _ (c : Context) (e : some c ≡ contextRead image segments a) where
-    too-deep : left ≡ 0 → tooDeep image segments left a ≡ true
+    too-deep : left ≡ 0 → deeper image segments left a ≡ true
     unfolding chain
     too-deep z = rw (chain-goes-on c e, z)
 
@@ -78,7 +79,7 @@ module _ (image segments : List ℕ) (left a : ℕ) where
       unfolding hops
       before-is = rw (chain-goes-on c e, el)
 
-      deep-is : tooDeep image segments left a ≡ tooDeep image segments l (c .header .parent)
+      deep-is : deeper image segments left a ≡ deeper image segments l (c .header .parent)
       deep-is = rw (chain-goes-on c e, el, leb·suc-suc)
 
 -- ---- a block
@@ -106,7 +107,7 @@ module _ (image segments : List ℕ) (left a rest : ℕ) (places lengths : List 
   pub block-full : 8 ≤ count → Block image segments left a rest places lengths 8 left′ a′ rest′
   block-full h = let e : count ≡ 8 = omega (arith, b .few) in rw e at b
 
-  pub block-deep : (c : Context) → some c ≡ contextRead image segments a′ → left′ ≡ 0 → tooDeep image segments left a ≡ true
+  pub block-deep : (c : Context) → some c ≡ contextRead image segments a′ → left′ ≡ 0 → deeper image segments left a ≡ true
   block-deep c e z = b .deep ∙ too-deep image segments left′ a′ c e z
 
   pub block-unnamed : (h : Header) → some (record { header = h; name = none }) ≡ contextRead image segments a′ → 0 < left′
@@ -192,7 +193,7 @@ module _ (image places lengths : List ℕ) (count : ℕ) (b : List ℕ) (at k en
 
 -- ---- the answers
 
-pub walk-deep : (image segments : List ℕ) (left a rest size : ℕ) → tooDeep image segments left a ≡ true → refused 4 ≡ hopsAnswer image segments left a rest size
+pub walk-deep : (image segments : List ℕ) (left a rest size : ℕ) → deeper image segments left a ≡ true → refused 4 ≡ hopsAnswer image segments left a rest size
 unfolding hopsAnswer
 walk-deep image segments left a rest size e = rw e
 
@@ -204,12 +205,12 @@ module _ (image segments : List ℕ) (left a rest : ℕ) (places lengths : List 
   pub last-fits : (size : ℕ) → rest′ ≤ size → size < 2 ^ 64 - 1 → length (gathered image places lengths count) ≤ size
   last-fits size h hs = omega (arith, b .bytes)
 
-  pub last-written : (size n : ℕ) → n ≡ 0 + length (gathered image places lengths count) → rest′ ≤ size → size < 2 ^ 64 - 1 → written n ≡ hopsAnswer image segments left a rest size
+  pub last-written : (size n : ℕ) → n ≡ 0 + length (gathered image places lengths count) → rest′ ≤ size → size < 2 ^ 64 - 1 → answered n ≡ hopsAnswer image segments left a rest size
   unfolding hopsAnswer
   last-written size n e h hs =
-      rw (b .deep, b .hops) (simp (le-ltb size (rest + length (gathered image places lengths count)) (omega (arith, b .bytes))) (ap written (omega arith)))
+      rw (b .deep, b .hops) (simp (le-ltb size (rest + length (gathered image places lengths count)) (omega (arith, b .bytes))) (ap answered (omega arith)))
 
-  pub last-filled : (t t′ : List ℕ) (n : ℕ) → Put t 0 (gathered image places lengths count) n t′ → t′ ≡ filled (written n) (before image segments left a) t
+  pub last-filled : (t t′ : List ℕ) (n : ℕ) → Put t 0 (gathered image places lengths count) n t′ → t′ ≡ filled (answered n) (before image segments left a) t
   last-filled t t′ n w = rw (b .hops) (from-start t (gathered image places lengths count) t′ n w)
 
 -- where there is no context
@@ -217,11 +218,11 @@ module _ (image segments : List ℕ) (left a : ℕ) (e : none ≡ contextRead im
   pub none-long : (rest size : ℕ) → size < rest → rest < 2 ^ 64 → size < 2 ^ 64 - 1 → refused 3 ≡ hopsAnswer image segments left a rest size
   none-long rest size h hr hs = last-long image segments left a rest [] [] 0 rest (no-names image segments left a rest e hr) size h hs
 
-  pub none-written : (rest size : ℕ) → rest ≤ size → size < 2 ^ 64 - 1 → written 0 ≡ hopsAnswer image segments left a rest size
+  pub none-written : (rest size : ℕ) → rest ≤ size → size < 2 ^ 64 - 1 → answered 0 ≡ hopsAnswer image segments left a rest size
   unfolding gathered
   none-written rest size h hs = last-written image segments left a rest [] [] 0 rest (no-names image segments left a rest e (omega arith)) size 0 refl h hs
 
-  pub none-filled : (t : List ℕ) → t ≡ filled (written 0) (before image segments left a) t
+  pub none-filled : (t : List ℕ) → t ≡ filled (answered 0) (before image segments left a) t
   unfolding gathered
   none-filled t = last-filled image segments left a 0 [] [] 0 0 (no-names image segments left a 0 e (omega arith)) t t 0 (put-none t 0)
 
@@ -230,21 +231,21 @@ module _ (image segments : List ℕ) (left a rest : ℕ) (places lengths : List 
   further : (size : ℕ) → size < 2 ^ 64 - 1
       → hopsAnswer image segments left a rest size ≡ onward (length (gathered image places lengths count)) (hopsAnswer image segments left′ a′ rest′ size)
   unfolding hopsAnswer
-  further size hs = rw (b .deep, b .hops, length-append) (measured (tooDeep image segments left′ a′) (length (before image segments left′ a′)) _ rest rest′ size (b .bytes) hs)
+  further size hs = rw (b .deep, b .hops, length-append) (measured (deeper image segments left′ a′) (length (before image segments left′ a′)) _ rest rest′ size (b .bytes) hs)
 
-  pub further-fits : (size n : ℕ) → written n ≡ hopsAnswer image segments left′ a′ rest′ size → size < 2 ^ 64 - 1
+  pub further-fits : (size n : ℕ) → answered n ≡ hopsAnswer image segments left′ a′ rest′ size → size < 2 ^ 64 - 1
       → n + length (gathered image places lengths count) ≤ size
   further-fits size n f hs = omega (arith, hops-written image segments left′ a′ rest′ size n f, b .bytes)
 
-  pub further-written : (size n r : ℕ) → written n ≡ hopsAnswer image segments left′ a′ rest′ size → r ≡ n + length (gathered image places lengths count)
-      → size < 2 ^ 64 - 1 → written r ≡ hopsAnswer image segments left a rest size
-  further-written size n r f er hs = ap written er ∙ ap (onward (length (gathered image places lengths count))) f ∙ sym (further size hs)
+  pub further-written : (size n r : ℕ) → answered n ≡ hopsAnswer image segments left′ a′ rest′ size → r ≡ n + length (gathered image places lengths count)
+      → size < 2 ^ 64 - 1 → answered r ≡ hopsAnswer image segments left a rest size
+  further-written size n r f er hs = ap answered er ∙ ap (onward (length (gathered image places lengths count))) f ∙ sym (further size hs)
 
   pub further-refused : (size x : ℕ) → refused x ≡ hopsAnswer image segments left′ a′ rest′ size → size < 2 ^ 64 - 1 → refused x ≡ hopsAnswer image segments left a rest size
   further-refused size x f hs = ap (onward (length (gathered image places lengths count))) f ∙ sym (further size hs)
 
-  pub further-filled : (t t′ t″ : List ℕ) (at end : ℕ) → t′ ≡ filled (written at) (before image segments left′ a′) t
+  pub further-filled : (t t′ t″ : List ℕ) (at end : ℕ) → t′ ≡ filled (answered at) (before image segments left′ a′) t
       → at ≡ length (before image segments left′ a′) → Put t′ at (gathered image places lengths count) end t″ → at ≤ length t
-      → t″ ≡ filled (written end) (before image segments left a) t
+      → t″ ≡ filled (answered end) (before image segments left a) t
   further-filled t t′ t″ at end et ea w h =
       rw (b .hops) (from-start _ _ _ _ (put-then t (before image segments left′ a′) (gathered image places lengths count) t′ t″ 0 at end (at-start _ _ _ _ ea et) w (omega arith)))

@@ -1,10 +1,13 @@
 ghost use mathlib.Core.Path.{_≡_};
-ghost use Rattle.parent.specs.Chain.{chainStep, stepOf};
+ghost use Rattle.parent.specs.Chain.{chainStep, parentStepOf};
 use crate::header::ContextRead;
 use crate::header::ParentContext;
 use crate::header::read_context;
 
-// A walk up the enclosing contexts: the address of the next one, and how many were given. It ends after 256.
+// How many contexts of a type are given.
+pub const CONTEXTS: usize = 256;
+
+// A walk up the enclosing contexts: the address of the next one, and how many were given.
 pub struct ParentChain {
     pub next_descriptor_va: u64,
     pub given: usize,
@@ -30,10 +33,10 @@ impl ParentChain {
     }
 
     pub fn next(self, image: &[u8], segments: &[u64]) -> ParentStep
-        ensures { λ r. ⌜ stepOf (now (image .entry)) r ≡ chainStep (now (image .entry)) (now (segments .entry)) (self .«next_descriptor_va») (self .given) ⌝ }
+        ensures { λ r. ⌜ parentStepOf (now (image .entry)) r ≡ chainStep (now (image .entry)) (now (segments .entry)) (self .«next_descriptor_va») (self .given) ⌝ }
     {
         let given = self.given;
-        if 256 <= given {
+        if CONTEXTS <= given {
             return ParentStep::End;
         }
         match read_context(image, segments, self.next_descriptor_va) {

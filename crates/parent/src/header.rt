@@ -1,9 +1,9 @@
 ghost use mathlib.Core.Path.{_≡_};
-ghost use Rattle.util.specs.Mapping.{led};
+ghost use Rattle.util.specs.Mapping.{withMapping};
 ghost use Rattle.runtime.specs.Reads.{run};
 ghost use Rattle.parent.specs.Walk.{ContextLocated};
 ghost use Rattle.parent.specs.Context.{header, headerOf, contextRead, contextOf, nameAt, nameRead, Inside};
-ghost use Rattle.context.specs.Context.{contextKind, named};
+ghost use Rattle.context.specs.Context.{contextKind, hasName};
 use context::ContextDescriptorFlags;
 use util::Around;
 use util::Mapping;
@@ -45,7 +45,7 @@ pub fn read_header(
     mapping: Mapping,
     descriptor_va: u64,
 ) -> HeaderRead
-    ensures { λ r. ⌜ headerOf «descriptor_va» r ≡ run (now (image .entry)) (led mapping (now (segments .entry))) (header «descriptor_va») ⌝ }
+    ensures { λ r. ⌜ headerOf «descriptor_va» r ≡ run (now (image .entry)) (withMapping mapping (now (segments .entry))) (header «descriptor_va») ⌝ }
 {
     if descriptor_va == 0 {
         return HeaderRead::Nothing;
@@ -65,7 +65,7 @@ pub fn read_header(
 
 // Whether a context with these flags has a name.
 pub fn has_name(flags: u32) -> bool
-    ensures { λ r. ⌜ r ≡ named (contextKind flags) ⌝ }
+    ensures { λ r. ⌜ r ≡ hasName (contextKind flags) ⌝ }
 {
     ContextDescriptorFlags(flags).kind().has_name()
 }
@@ -77,7 +77,7 @@ pub fn read_context_name(
     mapping: Mapping,
     descriptor_va: u64,
 ) -> Text
-    ensures { λ r. ⌜ nameRead (now (image .entry)) r ≡ run (now (image .entry)) (led mapping (now (segments .entry))) (nameAt «descriptor_va») ⌝ }
+    ensures { λ r. ⌜ nameRead (now (image .entry)) r ≡ run (now (image .entry)) (withMapping mapping (now (segments .entry))) (nameAt «descriptor_va») ⌝ }
     ensures { λ r. ⌜ Inside (now (image .entry)) r ⌝ }
 {
     if descriptor_va > 0xffff_ffff_ffff_fff7 {

@@ -2,16 +2,19 @@
 ghost use mathlib.Core.Path.{_≡_};
 ghost use Prim.Native.Nat.{_+_, _≤_, _^_, _-_, min};
 ghost use lib.ListN.{length};
-ghost use Rattle.parent.specs.Walk.{gathered, Walked};
-ghost use Rattle.parent.specs.Name.{hopsAnswer, hopsOf, filled, before, nameAnswer, nameOf, qualifiedName};
+ghost use Rattle.refusal.specs.Refusal.{mapped, answerOf};
+ghost use Rattle.parent.specs.Walk.{gathered, Walked, hopsAnswer, hopsOf, filled, before};
+ghost use Rattle.parent.specs.Name.{nameAnswer, lengthOf};
 ghost use Rattle.typedescriptor.specs.Row.{rowOf};
-ghost use Rattle.util.specs.Buffer.{Put};
+ghost use Rattle.util.specs.Buffer.{Put, overwritten};
 ghost use Rattle.util.specs.Mapping.{Mapped};
+use crate::chain::CONTEXTS;
 use crate::header::HeaderRead;
 use crate::header::has_name;
 use crate::header::locate_context;
 use crate::header::read_context_name;
 use crate::header::read_header;
+use refusal::Refusal;
 use typedescriptor::Row;
 use util::Around;
 use util::Mapping;
@@ -19,16 +22,12 @@ use util::Text;
 
 pub enum Hops {
     Written(usize),
-    TooLong,
-    TooDeep,
+    Refused(Refusal),
 }
 
 pub enum QualifiedName {
     Length(usize),
-    // Refusal 3: the name is longer than the buffer.
-    TooLong,
-    // Refusal 4: a 257th context can be read.
-    TooDeep,
+    Refused(Refusal),
 }
 
 // What a walk over contexts ended with. `room` is what the names, their dots and `rest` more bytes take.
@@ -161,7 +160,7 @@ fn write_hops(
             ) {
                 Walk::Ended { count, room } => {
                     if buffer.len() < room {
-                        return Hops::TooLong;
+                        return Hops::Refused(Refusal::LongName);
                     }
                     Hops::Written(put_hops(image, &places, &lengths, count, buffer, 0))
                 }
@@ -173,15 +172,14 @@ fn write_hops(
                     Hops::Written(at) => {
                         Hops::Written(put_hops(image, &places, &lengths, 8, buffer, at))
                     }
-                    Hops::TooLong => Hops::TooLong,
-                    Hops::TooDeep => Hops::TooDeep,
+                    Hops::Refused(refusal) => Hops::Refused(refusal),
                 },
-                Walk::TooDeep => Hops::TooDeep,
+                Walk::TooDeep => Hops::Refused(Refusal::DeepContexts),
             }
         }
         Around::Nothing => {
             if buffer.len() < rest {
-                return Hops::TooLong;
+                return Hops::Refused(Refusal::LongName);
             }
             Hops::Written(0)
         }
@@ -189,13 +187,12 @@ fn write_hops(
 }
 
 pub fn qualified_name(image: &[u8], segments: &[u64], row: Row, buffer: &mut [u8]) -> QualifiedName
-    ensures { λ r. ⌜ nameOf r ≡ nameAnswer (now (image .entry)) (now (segments .entry)) (rowOf (now (image .entry)) row) (length (now (buffer .entry))) ⌝ }
-    ensures { λ r. ⌜ now (buffer .exit) ≡ filled (nameOf r) (qualifiedName (now (image .entry)) (now (segments .entry)) (rowOf (now (image .entry)) row)) (now (buffer .entry)) ⌝ }
+    ensures { λ r. ⌜ lengthOf r ≡ mapped length (nameAnswer (now (image .entry)) (now (segments .entry)) (rowOf (now (image .entry)) row) (length (now (buffer .entry)))) ⌝ }
+    ensures { λ _. ⌜ now (buffer .exit) ≡ overwritten (now (buffer .entry)) (answerOf (nameAnswer (now (image .entry)) (now (segments .entry)) (rowOf (now (image .entry)) row) (length (now (buffer .entry))))) ⌝ }
 {
     let own = util::part(image, row.name_place, row.name_length);
-    match write_hops(image, segments, row.parent, 256, own.len(), buffer) {
+    match write_hops(image, segments, row.parent, CONTEXTS, own.len(), buffer) {
         Hops::Written(at) => QualifiedName::Length(util::put(own, buffer, at)),
-        Hops::TooLong => QualifiedName::TooLong,
-        Hops::TooDeep => QualifiedName::TooDeep,
+        Hops::Refused(refusal) => QualifiedName::Refused(refusal),
     }
 }

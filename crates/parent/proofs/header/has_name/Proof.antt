@@ -1,7 +1,7 @@
 -- `parent::header::has_name` meets its contract.
 -- Assumes nothing.
 use mathlib.Core.Path.{_∙_, ap}
-use Rattle.context.specs.Context.{named}
+use Rattle.context.specs.Context.{hasName}
 use borrow.Author.Needs.{needs}
 use Rattle.parent.proofs.header.has_name.Statement.{statement}
 use Rattle.parent.proofs.header.has_name.Tie as tie
@@ -13,7 +13,7 @@ has-name-requires : tie.Need-has-name-requires
 has-name-requires c κs = search needs
 
 returns : tie.Need-returns
-returns c = c .has-name .ensures ∙ ap named (c .before .kind .ensures)
+returns c = c .has-name .ensures ∙ ap hasName (c .before .kind .ensures)
 
 pub has-name-spec : {M : Type 1} → statement M
 has-name-spec = tie.close (tie.spec kind-requires has-name-requires returns)

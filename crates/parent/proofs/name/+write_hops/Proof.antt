@@ -4,8 +4,7 @@ use borrow.Author.Needs.{needs}
 use native.Mathlib.Omega.{arith}
 use mathlib.Core.Path.{refl, ap}
 use Rattle.util.specs.Answers.{told, case}
-use Rattle.parent.specs.Walk.{ContextLocated, Walked}
-use Rattle.parent.specs.Name.{hopsOf}
+use Rattle.parent.specs.Walk.{ContextLocated, Walked, hopsOf}
 use Rattle.parent.specs.NameLaws.{kept, filled-as, refused-as, hops-written}
 use Rattle.parent.specs.WalkLaws.{walk-deep, last-long, last-fits, last-written, last-filled, none-long, none-written, none-filled, further-fits, further-written, further-refused, further-filled}
 use Prim.Native.Nat.{ℕ, _<_}
@@ -111,21 +110,18 @@ write-hops-put-hops-requires-2 t c κs =
       ),
     )
 
+write-hops-enum-known-refusal : (t : ℕ) → write-hops-lts.Need-enum-known-refusal (claims t) (write-hops-at t) write-hops.Post
+write-hops-enum-known-refusal t c = search needs
+
 write-hops-enum-told : (t : ℕ) → write-hops-lts.Need-enum-told (claims t) (write-hops-at t) write-hops.Post
 write-hops-enum-told t c = search needs
 
 write-hops-enum-told-2 : (t : ℕ) → write-hops-lts.Need-enum-told-2 (claims t) (write-hops-at t) write-hops.Post
 write-hops-enum-told-2 t c = search needs
 
-write-hops-enum-told-3 : (t : ℕ) → write-hops-lts.Need-enum-told-3 (claims t) (write-hops-at t) write-hops.Post
-write-hops-enum-told-3 t c = search needs
-
-write-hops-enum-told-4 : (t : ℕ) → write-hops-lts.Need-enum-told-4 (claims t) (write-hops-at t) write-hops.Post
-write-hops-enum-told-4 t c = search needs
-
 write-hops-returns-2 : (t : ℕ) → write-hops-lts.Need-returns-2 (claims t) (write-hops-at t) write-hops.Post
 write-hops-returns-2 t c =
-    let e = case (ContextLocated _ _) (c .before .before .before .locate-context .ensures) (c .before .enum-told4 .given .1) _ in
+    let e = case (ContextLocated _ _) (c .before .before .before .locate-context .ensures) (c .before .enum-told2 .given .1) _ in
     (none-long _ _ _ _ e _ _ (omega arith) (omega arith) (omega (arith, c .before .before .before .before .before .before .before .good)), kept _ _ _)
 
 write-hops-same-length : (t : ℕ) → write-hops-lts.Need-same-length (claims t) (write-hops-at t) write-hops.Post
@@ -155,27 +151,17 @@ write-hops-same-length-3 t c = search needs
 
 write-hops-returns-5 : (t : ℕ) → write-hops-lts.Need-returns-5 (claims t) (write-hops-at t) write-hops.Post
 write-hops-returns-5 t c =
-    let w = case (Walked _ _ _ _ _ _ _) (c .before .before .before .before .before .before .before .before .before .before .before .collect .ensures) (c .before .before .before .before .before .before .before .next .given .1) in (
-      further-refused _ _ _ _ _ _ _ _ _ _ _ w _ _ (told hopsOf (c .before .before .before .before .write-hops .ensures .0) (c .enum-told .given .1)) (omega (arith, c .before .before .before .before .before .before .before .before .before .before .before .before .before .before .before .before .before .before .before .before .before .good)),
-      refused-as _ _ _ _ _ _ (c .before .before .before .before .write-hops .ensures .1) (ap hopsOf (c .enum-told .given .1)),
+    let w = case (Walked _ _ _ _ _ _ _) (c .before .before .before .before .before .before .before .before .before .before .before .before .collect .ensures) (c .before .before .before .before .before .before .before .before .next .given .1) in (
+      further-refused _ _ _ _ _ _ _ _ _ _ _ w _ _ (told hopsOf (c .before .before .before .before .before .write-hops .ensures .0) (c .before .refusal .given .1)) (omega (arith, c .before .before .before .before .before .before .before .before .before .before .before .before .before .before .before .before .before .before .before .before .before .before .good)),
+      refused-as _ _ _ _ _ _ (c .before .before .before .before .before .write-hops .ensures .1) (ap hopsOf (c .before .refusal .given .1)),
     )
-
-write-hops-same-length-4 : (t : ℕ) → write-hops-lts.Need-same-length-4 (claims t) (write-hops-at t) write-hops.Post
-write-hops-same-length-4 t c = search needs
 
 write-hops-returns-6 : (t : ℕ) → write-hops-lts.Need-returns-6 (claims t) (write-hops-at t) write-hops.Post
-write-hops-returns-6 t c =
-    let w = case (Walked _ _ _ _ _ _ _) (c .before .before .before .before .before .before .before .before .before .before .before .collect .ensures) (c .before .before .before .before .before .before .before .next .given .1) in (
-      further-refused _ _ _ _ _ _ _ _ _ _ _ w _ _ (told hopsOf (c .before .before .before .before .write-hops .ensures .0) (c .enum-told2 .given .1)) (omega (arith, c .before .before .before .before .before .before .before .before .before .before .before .before .before .before .before .before .before .before .before .before .before .good)),
-      refused-as _ _ _ _ _ _ (c .before .before .before .before .write-hops .ensures .1) (ap hopsOf (c .enum-told2 .given .1)),
-    )
+write-hops-returns-6 t c = (walk-deep _ _ _ _ _ _ (case (Walked _ _ _ _ _ _ _) (c .before .before .before .before .collect .ensures) (c .enum-told .given .1)), kept _ _ _)
 
 write-hops-returns-7 : (t : ℕ) → write-hops-lts.Need-returns-7 (claims t) (write-hops-at t) write-hops.Post
-write-hops-returns-7 t c = (walk-deep _ _ _ _ _ _ (case (Walked _ _ _ _ _ _ _) (c .before .before .before .before .collect .ensures) (c .enum-told3 .given .1)), kept _ _ _)
-
-write-hops-returns-8 : (t : ℕ) → write-hops-lts.Need-returns-8 (claims t) (write-hops-at t) write-hops.Post
-write-hops-returns-8 t c =
-    let e = case (ContextLocated _ _) (c .before .before .before .locate-context .ensures) (c .before .enum-told4 .given .1) _ in
+write-hops-returns-7 t c =
+    let e = case (ContextLocated _ _) (c .before .before .before .locate-context .ensures) (c .before .enum-told2 .given .1) _ in
     (none-written _ _ _ _ e _ _ (omega arith) (omega (arith, c .before .before .before .before .before .before .before .good)), none-filled _ _ _ _ e _)
 
 pub +write-hops-spec : {M : Type 1} → statement M
@@ -207,10 +193,9 @@ pub +write-hops-spec : {M : Type 1} → statement M
     (write-hops-slice-aggregate-put-hops-3 t)
     (write-hops-slice-aggregate-put-hops-4 t)
     (write-hops-put-hops-requires-2 t)
+    (write-hops-enum-known-refusal t)
     (write-hops-enum-told t)
     (write-hops-enum-told-2 t)
-    (write-hops-enum-told-3 t)
-    (write-hops-enum-told-4 t)
     (write-hops-returns-2 t)
     (write-hops-same-length t)
     (write-hops-returns-3 t)
@@ -218,7 +203,5 @@ pub +write-hops-spec : {M : Type 1} → statement M
     (write-hops-returns-4 t)
     (write-hops-same-length-3 t)
     (write-hops-returns-5 t)
-    (write-hops-same-length-4 t)
     (write-hops-returns-6 t)
     (write-hops-returns-7 t)
-    (write-hops-returns-8 t)

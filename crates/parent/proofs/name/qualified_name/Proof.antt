@@ -1,11 +1,13 @@
 -- `parent::name::qualified_name` meets its contract: the hops, and then the row's own name.
 -- Assumes nothing.
 use native.Mathlib.Omega.{arith}
-use mathlib.Core.Path.{ap}
+use mathlib.Core.Path.{ap, sym}
+use lib.ListN.{length}
 use Rattle.util.specs.Answers.{told}
 use Rattle.util.specs.BufferLaws.{put-fits}
-use Rattle.parent.specs.Name.{hopsOf}
-use Rattle.parent.specs.NameLaws.{filled-as, refused-as, hops-written, name-written, name-refused, name-filled}
+use Rattle.refusal.specs.Refusal.{mapped}
+use Rattle.parent.specs.Walk.{hopsOf}
+use Rattle.parent.specs.NameLaws.{filled-as, hops-written, name-written, name-refused, name-kept, name-filled}
 use borrow.Author.Needs.{needs}
 use Rattle.parent.proofs.name.qualified_name.Statement.{statement}
 use Rattle.parent.proofs.name.qualified_name.Tie as tie
@@ -22,41 +24,32 @@ enum-known-at c = search needs
 put-requires : tie.Need-put-requires
 put-requires c κs = search needs
 
-enum-told : tie.Need-enum-told
-enum-told c = search needs
-
-enum-told-2 : tie.Need-enum-told-2
-enum-told-2 c = search needs
+enum-known-refusal : tie.Need-enum-known-refusal
+enum-known-refusal c = search needs
 
 same-length : tie.Need-same-length
 same-length c = search needs
 
 returns : tie.Need-returns
 returns c =
+    let own = c .before .before .before .before .before .before .before .before .before .before .before .part .ensures in
     let f = told hopsOf (c .before .before .before .before .before .before .before .before .before .write-hops .ensures .0) (c .before .before .before .before .before .at .given .1) in
     let w = hops-written _ _ _ _ _ _ _ f in
     let u = put-fits _ _ _ _ _ (c .before .before .put .ensures .0) (c .before .before .put .ensures .1) (omega (arith, c .before .before .before .before .before .before .before .before .before .write-hops .kept)) in (
-      name-written _ _ _ _ (c .before .before .before .before .before .before .before .before .before .before .before .part .ensures) _ _ _ f (u .ends),
-      name-filled _ _ _ _ (c .before .before .before .before .before .before .before .before .before .before .before .part .ensures) _ _ _ _ _ (filled-as _ _ _ _ _ (c .before .before .before .before .before .before .before .before .before .write-hops .ensures .1) (ap hopsOf (c .before .before .before .before .before .at .given .1))) (w .0) u (omega arith),
+      name-written _ _ _ _ own _ _ _ f (w .0) (u .ends),
+      name-filled _ _ _ _ own _ _ _ _ _ _ f (filled-as _ _ _ _ _ (c .before .before .before .before .before .before .before .before .before .write-hops .ensures .1) (ap hopsOf (c .before .before .before .before .before .at .given .1))) (w .0) u (omega arith),
     )
 
 same-length-2 : tie.Need-same-length-2
 same-length-2 c = search needs
 
 returns-2 : tie.Need-returns-2
-returns-2 c = (
-  name-refused _ _ _ _ (c .before .before .before .before .before .before .part .ensures) _ _ (told hopsOf (c .before .before .before .before .write-hops .ensures .0) (c .enum-told .given .1)),
-  refused-as _ _ _ _ _ _ (c .before .before .before .before .write-hops .ensures .1) (ap hopsOf (c .enum-told .given .1)),
-)
-
-same-length-3 : tie.Need-same-length-3
-same-length-3 c = search needs
-
-returns-3 : tie.Need-returns-3
-returns-3 c = (
-  name-refused _ _ _ _ (c .before .before .before .before .before .before .part .ensures) _ _ (told hopsOf (c .before .before .before .before .write-hops .ensures .0) (c .enum-told2 .given .1)),
-  refused-as _ _ _ _ _ _ (c .before .before .before .before .write-hops .ensures .1) (ap hopsOf (c .enum-told2 .given .1)),
-)
+returns-2 c =
+    let own = c .before .before .before .before .before .before .before .part .ensures in
+    let f = told hopsOf (c .before .before .before .before .before .write-hops .ensures .0) (c .before .refusal .given .1) in (
+      sym (ap (mapped length) (name-refused _ _ _ _ own _ _ f)),
+      name-kept _ _ _ _ own _ _ _ _ _ _ f (c .before .before .before .before .before .write-hops .ensures .1) (ap hopsOf (c .before .refusal .given .1)),
+    )
 
 pub qualified-name-spec : {M : Type 1} → statement M
 qualified-name-spec =
@@ -66,11 +59,8 @@ qualified-name-spec =
     write-hops-requires
     enum-known-at
     put-requires
-    enum-told
-    enum-told-2
+    enum-known-refusal
     same-length
     returns
     same-length-2
-    returns-2
-    same-length-3
-    returns-3)
+    returns-2)
