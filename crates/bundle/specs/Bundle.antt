@@ -1,4 +1,4 @@
--- The bundle's format: document 01, "Bundle and program". Records obey its rules, their bytes stand one after the other,
+-- The bundle's format: docs/SPECIFICATION.md, "Bundles". Records obey its rules, their bytes stand one after the other,
 -- and each kind has its place in them.
 use Prim.Native.Nat.{ℕ, zero, suc, _+_, _-_, _%_, _/_, _≤_, _<_}
 use mathlib.Core.Path.{_≡_}
@@ -54,9 +54,9 @@ abbrev pub part : ℕ → ℕ → Part
 part o n = record { start = o; length = n }
 
 -- where the body of a kind lies, the first record's header being at `at`; all zeros where the kind is missing
-unfoldable pub placeOf : ℕ → ℕ → List Record → Part
-placeOf kind at [] = part 0 0
-placeOf kind at (r ∷ rs) = cond (eqb (r .kind) kind) (part (at + 6) (length (r .body))) (placeOf kind (at + 6 + length (r .body)) rs)
+unfoldable pub bodyPlace : ℕ → ℕ → List Record → Part
+bodyPlace kind at [] = part 0 0
+bodyPlace kind at (r ∷ rs) = cond (eqb (r .kind) kind) (part (at + 6) (length (r .body))) (bodyPlace kind (at + 6 + length (r .body)) rs)
 
 -- the address at the start of a led body, and the bytes after it; all zeros where there is no such body
 unfoldable pub sectionIn : List ℕ → Part → Section
@@ -71,4 +71,4 @@ layoutIn s image segments types fields strings =
     record { image = image; segments = segments; types = sectionIn s types; fields = sectionIn s fields; strings = sectionIn s strings }
 
 unfoldable pub layoutOf : List Record → Layout
-layoutOf rs = layoutIn (bundleBytes rs) (placeOf 1 0 rs) (placeOf 2 0 rs) (placeOf 3 0 rs) (placeOf 4 0 rs) (placeOf 5 0 rs)
+layoutOf rs = layoutIn (bundleBytes rs) (bodyPlace 1 0 rs) (bodyPlace 2 0 rs) (bodyPlace 3 0 rs) (bodyPlace 4 0 rs) (bodyPlace 5 0 rs)

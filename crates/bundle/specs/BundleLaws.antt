@@ -13,9 +13,10 @@ use lib.ListN.{length, take, drop, length-append, length-drop, take-append-drop,
 use lib.Seq.{take-at, drop-at, drop-drop, getD-drop, length-take-le}
 use lib.Dec.{leb, eqb}
 use borrow.Author.Tests.{le-leb, leb-true, eq-eqb, ne-eqb, eqb-true, eqb-false}
+use Rattle.refusal.specs.Refusal.{answered, refused}
 use Rattle.util.specs.LittleEndian.{littleEndian}
-use Rattle.bundle.specs.Bundle.{Record, littleBytes, encoded, bundleBytes, bodyFits, Bytes, Rising, kinds, Obeys, part, placeOf, layoutIn, layoutOf}
-use Rattle.bundle.specs.Open.{sizeAt, kindAt, isAt, takeAt, bundle, refused, image, segments, types, fields, strings, openBundle}
+use Rattle.bundle.specs.Bundle.{Record, littleBytes, encoded, bundleBytes, bodyFits, Bytes, Rising, kinds, Obeys, part, bodyPlace, layoutIn, layoutOf}
+use Rattle.bundle.specs.Open.{sizeAt, kindAt, isAt, takeAt, image, segments, types, fields, strings, bundleMost, openBundle}
 use Rattle.bundle.specs.OpenLaws.{untaken, takenOf, take-none, take-some, take-past, too-long, no-image, left-over, opens}
 use Rattle.bundle.specs.declared.open.Layout.{Layout}
 use Rattle.bundle.specs.declared.open.Taken.{Taken}
@@ -92,8 +93,8 @@ module _ (s : List ℕ) (bytes : Bytes s) (at n : ℕ) where
       rw (k, l, b, number 4 at (omega arith), number 2 (at + 4) (omega arith))
       (simp append-assoc (rw (peel n (at + 6), ← six, peel 2 (at + 4), peel 4 at)))
 
-absent : {last : ℕ} {rs : List Record} → Rising last rs → (j at : ℕ) → j ≤ last → part 0 0 ≡ placeOf j at rs
-unfolding placeOf
+absent : {last : ℕ} {rs : List Record} → Rising last rs → (j at : ℕ) → j ≤ last → part 0 0 ≡ bodyPlace j at rs
+unfolding bodyPlace
 absent Rising.done j at h = refl
 absent (Rising.next {r = r} lo hi fit more) j at h = rw (ne-eqb (r .kind) j (λ q. omega arith)) (absent more j _ (omega arith))
 
@@ -108,16 +109,16 @@ record Stage (s : List ℕ) (at last : ℕ) (rs : List Record) : Type 0 where
 
 -- what is taken for a kind is its record, and the other kinds are where they were
 record Step (t : Taken) (at kind : ℕ) (rs rest : List Record) : Type 0 where
-  here : t .part ≡ placeOf kind at rs
-  later : (j : ℕ) → kind < j → placeOf j at rs ≡ placeOf j (t .next) rest
+  here : t .part ≡ bodyPlace kind at rs
+  later : (j : ℕ) → kind < j → bodyPlace j at rs ≡ bodyPlace j (t .next) rest
 
 record Forward (s : List ℕ) (t : Taken) (at last : ℕ) (rs : List Record) : Type 0 where
   rest : List Record
   stage : Stage s (t .next) (suc last) rest
   step : Step t at (suc last) rs rest
 
-forward-cons : (s : List ℕ) (at last : ℕ) (r : Record) (rs : List Record) → length s ≤ 65536 → last < r .kind → r .kind ≤ 5 → bodyFits (r .kind) (length (r .body)) ≡ true → Rising (r .kind) rs → drop at s ≡ encoded r ++ bundleBytes rs → Forward s (takeAt (suc last) s at) at last (r ∷ rs)
-unfolding isAt placeOf bundleBytes
+forward-cons : (s : List ℕ) (at last : ℕ) (r : Record) (rs : List Record) → length s ≤ bundleMost → last < r .kind → r .kind ≤ 5 → bodyFits (r .kind) (length (r .body)) ≡ true → Rising (r .kind) rs → drop at s ≡ encoded r ++ bundleBytes rs → Forward s (takeAt (suc last) s at) at last (r ∷ rs)
+unfolding isAt bodyPlace bundleBytes
 forward-cons s at last r rs short lo hi fit more e =
     let within : at + 6 + length (r .body) ≤ length s = read-within s at r (bundleBytes rs) e in
     let size : sizeAt s at ≡ length (r .body) = read-size s at r (bundleBytes rs) e (omega arith) in
@@ -147,8 +148,8 @@ forward-cons s at last r rs short lo hi fit more e =
           })
     ]
 
-forward : (s : List ℕ) (at last : ℕ) (rs : List Record) → length s ≤ 65536 → Rising last rs → drop at s ≡ bundleBytes rs → Forward s (takeAt (suc last) s at) at last rs
-unfolding bundleBytes placeOf
+forward : (s : List ℕ) (at last : ℕ) (rs : List Record) → length s ≤ bundleMost → Rising last rs → drop at s ≡ bundleBytes rs → Forward s (takeAt (suc last) s at) at last rs
+unfolding bundleBytes bodyPlace
 forward s at last [] short Rising.done e =
     let l : length s - at ≡ 0 = sym (length-drop at s) ∙ ap length e in
     subst (λ (t : Taken). Forward s t at last []) (take-past (suc last) s at (omega arith))
@@ -166,7 +167,7 @@ record Backward (s : List ℕ) (t : Taken) (at last : ℕ) (rest : List Record) 
 
 module _ (s : List ℕ) (bytes : Bytes s) (at last : ℕ) (rest : List Record) (most : suc last ≤ 5) where
   back-some : isAt (suc last) s at ≡ true → Stage s (at + 6 + sizeAt s at) (suc last) rest → Backward s (takenOf at (sizeAt s at)) at last rest
-  unfolding isAt placeOf bundleBytes
+  unfolding isAt bodyPlace bundleBytes
   back-some is st =
       let both = and-eq-true-iff (leb (at + 6 + sizeAt s at) (length s)) _ .0 is in
       let more = and-eq-true-iff (eqb (kindAt s at) (suc last)) _ .0 (both .1) in
@@ -212,10 +213,10 @@ takenLayout s = layoutIn s (image s .part) (segments s .part) (types s .part) (f
 
 -- the layout that was taken is that of the records
 module _ (s : List ℕ) (r0 r1 r2 r3 r4 r5 : List Record) (s1 : Step (image s) 0 1 r0 r1) (s2 : Step (segments s) (image s .next) 2 r1 r2) (s3 : Step (types s) (segments s .next) 3 r2 r3) (s4 : Step (fields s) (types s .next) 4 r3 r4) (s5 : Step (strings s) (fields s .next) 5 r4 r5) where
-  from2 : (j : ℕ) → 2 < j → placeOf j 0 r0 ≡ placeOf j (segments s .next) r2
+  from2 : (j : ℕ) → 2 < j → bodyPlace j 0 r0 ≡ bodyPlace j (segments s .next) r2
   from2 j h = s1 .later j (omega arith) ∙ s2 .later j h
 
-  from3 : (j : ℕ) → 3 < j → placeOf j 0 r0 ≡ placeOf j (types s .next) r3
+  from3 : (j : ℕ) → 3 < j → bodyPlace j 0 r0 ≡ bodyPlace j (types s .next) r3
   from3 j h = from2 j (omega arith) ∙ s3 .later j h
 
   laid : bundleBytes r0 ≡ s → takenLayout s ≡ layoutOf r0
@@ -228,23 +229,23 @@ module _ (s : List ℕ) (r0 r1 r2 r3 r4 r5 : List Record) (s1 : Step (image s) 0
       rw (whole, s1 .here, p2, p3, p4, p5)
 
 -- a kind has a place exactly where there is a record of it
-placed : (k at : ℕ) (rs : List Record) → List·Memᴰ k (kinds rs) → 0 < placeOf k at rs .start
-unfolding placeOf
+placed : (k at : ℕ) (rs : List Record) → List·Memᴰ k (kinds rs) → 0 < bodyPlace k at rs .start
+unfolding bodyPlace
 placed k at [] m = absurd (List·Memᴰ·not-nil m)
 placed k at (r ∷ rs) m =
     go (λ n. placed k (at + 6 + length (r .body)) rs n) (eqb (r .kind) k) refl
   where
-    go : (List·Memᴰ k (kinds rs) → 0 < placeOf k (at + 6 + length (r .body)) rs .start) → (b : Bool) → eqb (r .kind) k ≡ b → 0 < placeOf k at (r ∷ rs) .start
+    go : (List·Memᴰ k (kinds rs) → 0 < bodyPlace k (at + 6 + length (r .body)) rs .start) → (b : Bool) → eqb (r .kind) k ≡ b → 0 < bodyPlace k at (r ∷ rs) .start
     go below true e = rw e (omega arith)
     go below false e = rw e (below (⊎-elim (λ q. absurd (eqb-false _ _ e (sym q))) (λ n. n) (List·Memᴰ·cases-cons m)))
 
-recorded : (k at : ℕ) (rs : List Record) → 0 < placeOf k at rs .start → List·Memᴰ k (kinds rs)
-unfolding placeOf
+recorded : (k at : ℕ) (rs : List Record) → 0 < bodyPlace k at rs .start → List·Memᴰ k (kinds rs)
+unfolding bodyPlace
 recorded k at [] h = absurd (omega arith)
 recorded k at (r ∷ rs) h =
     go (λ l. recorded k (at + 6 + length (r .body)) rs l) (eqb (r .kind) k) refl
   where
-    go : (0 < placeOf k (at + 6 + length (r .body)) rs .start → List·Memᴰ k (kinds rs)) → (b : Bool) → eqb (r .kind) k ≡ b → List·Memᴰ k (kinds (r ∷ rs))
+    go : (0 < bodyPlace k (at + 6 + length (r .body)) rs .start → List·Memᴰ k (kinds rs)) → (b : Bool) → eqb (r .kind) k ≡ b → List·Memᴰ k (kinds (r ∷ rs))
     go below true e = List·Memᴰ·head (sym (eqb-true _ _ e))
     go below false e = List·Memᴰ·tail (below (rw e at h))
 
@@ -256,7 +257,7 @@ none-left s at rs st = go (st .rising) (st .bytes)
     go Rising.done e = omega (arith, length-drop at s, ap length e)
     go (Rising.next lo hi fit more) e = absurd (omega arith)
 
-pub complete : (rs : List Record) → Obeys rs → length (bundleBytes rs) ≤ 65536 → openBundle (bundleBytes rs) ≡ bundle (layoutOf rs)
+pub complete : (rs : List Record) → Obeys rs → length (bundleBytes rs) ≤ bundleMost → openBundle (bundleBytes rs) ≡ answered (layoutOf rs)
 complete rs obeys short =
     let s : List ℕ = bundleBytes rs in
     let f1 = forward s 0 0 rs short (obeys .rising) refl in
@@ -266,7 +267,7 @@ complete rs obeys short =
     let f5 = forward s (fields s .next) 4 (f4 .rest) short (f4 .stage .rising) (f4 .stage .bytes) in
     let there : 0 < image s .part .start = rw (f1 .step .here) (placed 1 0 rs (obeys .image)) in
     sym (opens s refl refl refl refl refl refl refl refl (λ q. omega arith) (none-left s (strings s .next) (f5 .rest) (f5 .stage)) short)
-    ∙ ap bundle (laid s rs (f1 .rest) (f2 .rest) (f3 .rest) (f4 .rest) (f5 .rest) (f1 .step) (f2 .step) (f3 .step) (f4 .step) (f5 .step) refl)
+    ∙ ap answered (laid s rs (f1 .rest) (f2 .rest) (f3 .rest) (f4 .rest) (f5 .rest) (f1 .step) (f2 .step) (f3 .step) (f4 .step) (f5 .step) refl)
 
 -- records that stand behind a layout of bytes
 pub record Behind (s : List ℕ) (l : Layout) : Type 0 where
@@ -274,17 +275,17 @@ pub record Behind (s : List ℕ) (l : Layout) : Type 0 where
   pub obeys : Obeys records
   pub bytes : bundleBytes records ≡ s
   pub layout : layoutOf records ≡ l
-  pub short : length s ≤ 65536
+  pub short : length s ≤ bundleMost
 
 -- what it takes to be opened
-pub opened-short : (s : List ℕ) (l : Layout) → openBundle s ≡ bundle l → length s ≤ 65536
+pub opened-short : (s : List ℕ) (l : Layout) → openBundle s ≡ answered l → length s ≤ bundleMost
 opened-short s l e =
-    elim (decLe (length s) 65536) [
+    elim (decLe (length s) bundleMost) [
       | yes h ↦ h
       | no h ↦ let f = too-long s (omega arith) in let z : _≡_ {A = ℕ} 0 1 = cc in absurd (omega arith)
     ]
 
-pub opened-image : (s : List ℕ) (l : Layout) → openBundle s ≡ bundle l → 0 < image s .part .start
+pub opened-image : (s : List ℕ) (l : Layout) → openBundle s ≡ answered l → 0 < image s .part .start
 opened-image s l e =
     elim (decLt 0 (image s .part .start)) [
       | yes h ↦ h
@@ -294,7 +295,7 @@ opened-image s l e =
           absurd (omega arith)
     ]
 
-pub opened-all : (s : List ℕ) (l : Layout) → openBundle s ≡ bundle l → length s ≤ strings s .next
+pub opened-all : (s : List ℕ) (l : Layout) → openBundle s ≡ answered l → length s ≤ strings s .next
 opened-all s l e =
     elim (decLe (length s) (strings s .next)) [
       | yes h ↦ h
@@ -304,10 +305,10 @@ opened-all s l e =
           absurd (omega arith)
     ]
 
-pub sound : (s : List ℕ) (l : Layout) → Bytes s → openBundle s ≡ bundle l → Behind s l
+pub sound : (s : List ℕ) (l : Layout) → Bytes s → openBundle s ≡ answered l → Behind s l
 unfolding bundleBytes
 sound s l bytes e =
-    let short : length s ≤ 65536 = opened-short s l e in
+    let short : length s ≤ bundleMost = opened-short s l e in
     let there : 0 < image s .part .start = opened-image s l e in
     let all : length s ≤ strings s .next = opened-all s l e in
     let b5 = backward s bytes (fields s .next) 4 [] (omega arith) (record { rising = Rising.done; bytes = drop-of-length-le s all }) in
@@ -315,7 +316,7 @@ sound s l bytes e =
     let b3 = backward s bytes (segments s .next) 2 (b4 .records) (omega arith) (b4 .stage) in
     let b2 = backward s bytes (image s .next) 1 (b3 .records) (omega arith) (b3 .stage) in
     let b1 = backward s bytes 0 0 (b2 .records) (omega arith) (b2 .stage) in
-    let found : bundle (takenLayout s) ≡ bundle l = opens s refl refl refl refl refl refl refl refl (λ q. omega arith) all short ∙ e in
+    let found : answered (takenLayout s) ≡ answered l = opens s refl refl refl refl refl refl refl refl (λ q. omega arith) all short ∙ e in
     let same : bundleBytes (b1 .records) ≡ s = sym {b = bundleBytes (b1 .records)} (b1 .stage .bytes) in
     let from = laid s (b1 .records) (b2 .records) (b3 .records) (b4 .records) (b5 .records) [] (b1 .step) (b2 .step) (b3 .step) (b4 .step) (b5 .step) same in
     let layout : layoutOf (b1 .records) ≡ l = cc in
@@ -329,7 +330,7 @@ sound s l bytes e =
 
 -- a bundle that is not too long is refused 2 if it breaks the rules, and only then
 module _ (s : List ℕ) where
-  pub broken-refused : Bytes s → length s ≤ 65536 → ((rs : List Record) → Obeys rs → bundleBytes rs ≡ s → ⊥) → openBundle s ≡ refused 2
+  pub broken-refused : Bytes s → length s ≤ bundleMost → ((rs : List Record) → Obeys rs → bundleBytes rs ≡ s → ⊥) → openBundle s ≡ refused 2
   broken-refused bytes short broken =
       elim (decLt 0 (image s .part .start)) [
         | yes there ↦
@@ -344,10 +345,10 @@ module _ (s : List ℕ) where
 
   pub refused-broken : openBundle s ≡ refused 2 → (rs : List Record) → Obeys rs → bundleBytes rs ≡ s → ⊥
   refused-broken e rs obeys same =
-      elim (decLe (length s) 65536) [
+      elim (decLe (length s) bundleMost) [
         | yes h ↦
             let c = complete rs obeys (rw same h) in
-            let f : openBundle s ≡ bundle (layoutOf rs) = rw same at c in
+            let f : openBundle s ≡ answered (layoutOf rs) = rw same at c in
             let z : _≡_ {A = ℕ} 0 1 = cc in
             omega arith
         | no h ↦

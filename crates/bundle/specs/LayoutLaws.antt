@@ -9,10 +9,11 @@ use lib.ListN.{length, take, drop, length-drop}
 use lib.Seq.{take-at, drop-at, take-add, take-take, drop-drop, length-take-le}
 use lib.Dec.{leb, eqb}
 use borrow.Author.Tests.{le-leb, leb-true, eqb-true}
+use Rattle.refusal.specs.Refusal.{answered}
 use Rattle.util.specs.LittleEndian.{littleEndian}
 use Rattle.util.specs.CstrLaws.{part-in}
-use Rattle.bundle.specs.Bundle.{Record, bundleBytes, bodyFits, placeOf, sectionIn}
-use Rattle.bundle.specs.Open.{sizeAt, kindAt, isAt, takeAt, bundle, image, openBundle, Within}
+use Rattle.bundle.specs.Bundle.{Record, bundleBytes, bodyFits, bodyPlace, sectionIn}
+use Rattle.bundle.specs.Open.{sizeAt, kindAt, isAt, takeAt, image, bundleMost, openBundle, Within}
 use Rattle.bundle.specs.OpenLaws.{take-none, take-some, taken-within, opens}
 use Rattle.bundle.specs.BundleLaws.{from-body, from-next, read-within, takenLayout, opened-short, opened-image, opened-all}
 use Rattle.bundle.specs.Parts.{bytesOf}
@@ -24,12 +25,12 @@ unfoldable pub bodyOf : ℕ → List Record → List ℕ
 bodyOf kind [] = []
 bodyOf kind (r ∷ rs) = cond (eqb (r .kind) kind) (r .body) (bodyOf kind rs)
 
-pub place-bytes : (s : List ℕ) (kind at : ℕ) (rs : List Record) → drop at s ≡ bundleBytes rs → bytesOf s (placeOf kind at rs) ≡ bodyOf kind rs
-unfolding placeOf bodyOf bundleBytes
+pub place-bytes : (s : List ℕ) (kind at : ℕ) (rs : List Record) → drop at s ≡ bundleBytes rs → bytesOf s (bodyPlace kind at rs) ≡ bodyOf kind rs
+unfolding bodyPlace bodyOf bundleBytes
 place-bytes s kind at [] e = part-in s 0 0 (omega arith)
 place-bytes s kind at (r ∷ rs) e = go (place-bytes s kind _ rs (from-next s at r (bundleBytes rs) e)) (eqb (r .kind) kind) refl
   where
-    go : bytesOf s (placeOf kind (at + 6 + length (r .body)) rs) ≡ bodyOf kind rs → (b : Bool) → eqb (r .kind) kind ≡ b → bytesOf s (placeOf kind at (r ∷ rs)) ≡ bodyOf kind (r ∷ rs)
+    go : bytesOf s (bodyPlace kind (at + 6 + length (r .body)) rs) ≡ bodyOf kind rs → (b : Bool) → eqb (r .kind) kind ≡ b → bytesOf s (bodyPlace kind at (r ∷ rs)) ≡ bodyOf kind (r ∷ rs)
     go below true t =
         rw t
         (part-in s (at + 6) (length (r .body)) (read-within s at r (bundleBytes rs) e)
@@ -81,13 +82,13 @@ pub record Fit (s : List ℕ) (l : Layout) : Type 0 where
   pub fields : Within s (l .fields .part)
   pub strings : Within s (l .strings .part)
   pub whole : l .segments .length % 32 ≡ 0
-  pub short : length s ≤ 65536
+  pub short : length s ≤ bundleMost
 
-pub opened-fit : (s : List ℕ) (l : Layout) → openBundle s ≡ bundle l → Fit s l
+pub opened-fit : (s : List ℕ) (l : Layout) → openBundle s ≡ answered l → Fit s l
 opened-fit s l e =
-    let short : length s ≤ 65536 = opened-short s l e in
+    let short : length s ≤ bundleMost = opened-short s l e in
     let there : 0 < image s .part .start = opened-image s l e in
-    let found : bundle (takenLayout s) ≡ bundle l = opens s refl refl refl refl refl refl refl refl (λ q. omega arith) (opened-all s l e) short ∙ e in
+    let found : answered (takenLayout s) ≡ answered l = opens s refl refl refl refl refl refl refl refl (λ q. omega arith) (opened-all s l e) short ∙ e in
     let same : takenLayout s ≡ l = cc in
     subst (Fit s) same
     (record {

@@ -4,3 +4,6 @@ pub mod LayoutLaws
 pub mod Open
 pub mod OpenLaws
 pub mod Parts
+pub mod PartsLaws
+pub mod Rule
+pub mod RuleLaws

@@ -1,4 +1,4 @@
--- Opening a bundle, as a computation on its bytes: each kind in turn is taken where its record comes next. A record of a
+-- Opening a bundle (docs/SPECIFICATION.md, "Bundles"), as a computation on its bytes: each kind in turn is taken where its record comes next. A record of a
 -- kind that does not rise, or that breaks another rule, is not taken, and is left over at the end.
 -- `BundleLaws.sound` and `BundleLaws.complete` say that the records of `Bundle` that obey the rules, and no other bytes,
 -- are opened, with their layout.
@@ -7,6 +7,7 @@ use mathlib.Core.List.{List}
 use mathlib.Core.Bool.{Bool, cond, _&&_}
 use lib.ListN.{length, take, drop}
 use lib.Dec.{leb, ltb, eqb}
+use Rattle.refusal.specs.Refusal.{Guarded, answered, refused, refusalNumber}
 use Rattle.util.specs.LittleEndian.{littleEndian}
 use Rattle.bundle.specs.Bundle.{part, bodyFits, layoutIn}
 use Rattle.bundle.specs.declared.open.Part.{Part}
@@ -32,16 +33,11 @@ takeAt kind s at =
     (record { part = part (at + 6) (sizeAt s at); next = at + 6 + sizeAt s at })
     (record { part = part 0 0; next = at })
 
--- a layout, or the number of the refusal
-pub data Answer : Type 0 where
-  bundle : Layout → Answer
-  refused : ℕ → Answer
-
 -- from what was taken for each kind: there has to be an image, and no byte may be left
-unfoldable pub answer : List ℕ → Taken → Taken → Taken → Taken → Taken → Answer
+unfoldable pub answer : List ℕ → Taken → Taken → Taken → Taken → Taken → Guarded Layout
 answer s image segments types fields strings =
     cond (ltb 0 (image .part .start) && leb (length s) (strings .next))
-    (bundle (layoutIn s (image .part) (segments .part) (types .part) (fields .part) (strings .part)))
+    (answered (layoutIn s (image .part) (segments .part) (types .part) (fields .part) (strings .part)))
     (refused 2)
 
 -- what is taken for each kind, where the one before it ends
@@ -60,15 +56,18 @@ fields s = takeAt 4 s (types s .next)
 abbrev pub strings : List ℕ → Taken
 strings s = takeAt 5 s (fields s .next)
 
--- document 01, "Bundle and program": refusal 5 above 65,536 bytes, then 2 for broken rules
-unfoldable pub openBundle : List ℕ → Answer
-openBundle s = cond (ltb 65536 (length s)) (refused 5) (answer s (image s) (segments s) (types s) (fields s) (strings s))
+-- how many bytes a bundle may have
+abbrev pub bundleMost : ℕ
+bundleMost = 65536
 
--- the cases of the code's answer by the document's numbers
-abbrev pub opened : Opened → Answer
-opened (Opened.Bundle l) = bundle l
-opened Opened.Broken = refused 2
-opened Opened.TooLong = refused 5
+-- docs/SPECIFICATION.md, "Refusals": refusal 5 above so many bytes, then 2 for broken rules
+unfoldable pub openBundle : List ℕ → Guarded Layout
+openBundle s = cond (ltb bundleMost (length s)) (refused 5) (answer s (image s) (segments s) (types s) (fields s) (strings s))
+
+-- the cases of the code's answer by the refusals' numbers
+abbrev pub opened : Opened → Guarded Layout
+opened (Opened.Bundle l) = answered l
+opened (Opened.Refused r) = refused (refusalNumber r)
 
 -- a part that lies within the bytes
 abbrev pub Within : List ℕ → Part → Type 0

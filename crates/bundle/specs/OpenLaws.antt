@@ -8,10 +8,11 @@ use mathlib.Core.Option.{some}
 use lib.ListN.{length}
 use lib.Dec.{leb, eqb}
 use borrow.Author.Tests.{le-leb, lt-leb, lt-ltb, le-ltb, eq-eqb, ne-eqb, leb-true}
+use Rattle.refusal.specs.Refusal.{answered, refused}
 use Rattle.util.specs.LittleEndian.{littleAt}
 use Rattle.util.specs.LittleEndianLaws.{little-value, little-within}
 use Rattle.bundle.specs.Bundle.{part, bodyFits, sectionIn}
-use Rattle.bundle.specs.Open.{sizeAt, kindAt, isAt, takeAt, bundle, refused, answer, openBundle, Within}
+use Rattle.bundle.specs.Open.{sizeAt, kindAt, isAt, takeAt, answer, bundleMost, openBundle, Within}
 use Rattle.bundle.specs.declared.open.Part.{Part}
 use Rattle.bundle.specs.declared.open.Section.{Section}
 use Rattle.bundle.specs.declared.open.Taken.{Taken}
@@ -98,25 +99,25 @@ module _ (s : List ℕ) (p : Part) where
   unfolding sectionIn
   section-missing h = rw (lt-leb 8 (p .length) h)
 
-pub too-long : (s : List ℕ) → 65536 < length s → refused 5 ≡ openBundle s
+pub too-long : (s : List ℕ) → bundleMost < length s → refused 5 ≡ openBundle s
 unfolding openBundle
-too-long s h = rw (lt-ltb 65536 (length s) h)
+too-long s h = rw (lt-ltb bundleMost (length s) h)
 
 -- what was taken for the five kinds, one after the other
 module _ (s : List ℕ) {i g t f n : Taken} (ei : i ≡ takeAt 1 s 0) (eg : g ≡ takeAt 2 s (i .next)) (et : t ≡ takeAt 3 s (g .next)) (ef : f ≡ takeAt 4 s (t .next)) (en : n ≡ takeAt 5 s (f .next)) where
-  answered : length s ≤ 65536 → answer s i g t f n ≡ openBundle s
+  answer-is : length s ≤ bundleMost → answer s i g t f n ≡ openBundle s
   unfolding openBundle
-  answered h = rw (le-ltb 65536 (length s) h, en, ef, et, eg, ei)
+  answer-is h = rw (le-ltb bundleMost (length s) h, en, ef, et, eg, ei)
 
-  pub no-image : i .part .start ≡ 0 → length s ≤ 65536 → refused 2 ≡ openBundle s
+  pub no-image : i .part .start ≡ 0 → length s ≤ bundleMost → refused 2 ≡ openBundle s
   unfolding answer
-  no-image e h = sym (rw e) ∙ answered h
+  no-image e h = sym (rw e) ∙ answer-is h
 
-  pub left-over : n .next < length s → length s ≤ 65536 → refused 2 ≡ openBundle s
+  pub left-over : n .next < length s → length s ≤ bundleMost → refused 2 ≡ openBundle s
   unfolding answer
-  left-over l h = sym (rw (lt-leb (length s) (n .next) l, and-false)) ∙ answered h
+  left-over l h = sym (rw (lt-leb (length s) (n .next) l, and-false)) ∙ answer-is h
 
-  pub opens : {a b c : Section} → a ≡ sectionIn s (t .part) → b ≡ sectionIn s (f .part) → c ≡ sectionIn s (n .part) → (i .part .start ≡ 0 → ⊥) → length s ≤ n .next → length s ≤ 65536 → bundle (record { image = i .part; segments = g .part; types = a; fields = b; strings = c }) ≡ openBundle s
+  pub opens : {a b c : Section} → a ≡ sectionIn s (t .part) → b ≡ sectionIn s (f .part) → c ≡ sectionIn s (n .part) → (i .part .start ≡ 0 → ⊥) → length s ≤ n .next → length s ≤ bundleMost → answered (record { image = i .part; segments = g .part; types = a; fields = b; strings = c }) ≡ openBundle s
   unfolding answer
   opens ea eb ec there all h =
-      rw (ea, eb, ec) (sym (rw (lt-ltb 0 (i .part .start) (omega arith), le-leb (length s) (n .next) all)) ∙ answered h)
+      rw (ea, eb, ec) (sym (rw (lt-ltb 0 (i .part .start) (omega arith), le-leb (length s) (n .next) all)) ∙ answer-is h)

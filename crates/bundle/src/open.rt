@@ -2,9 +2,13 @@
 ghost use mathlib.Core.Path.{_≡_};
 ghost use Rattle.bundle.specs.Bundle.{bodyFits, sectionIn};
 ghost use Rattle.bundle.specs.Open.{takeAt, openBundle, opened, Within};
+use refusal::Refusal;
 use util::ReadU16;
 use util::ReadU32;
 use util::ReadU64;
+
+// How many bytes a bundle may have.
+pub const BUNDLE_BYTES: usize = 65536;
 
 // A run of the bundle's bytes.
 pub struct Part {
@@ -29,10 +33,8 @@ pub struct Layout {
 
 pub enum Opened {
     Bundle(Layout),
-    // The bytes break the rules: refusal 2.
-    Broken,
-    // More than 65,536 bytes: refusal 5.
-    TooLong,
+    // BrokenBundle, or LongBundle.
+    Refused(Refusal),
 }
 
 // The body of a record, and where the next one starts.
@@ -42,7 +44,7 @@ pub struct Taken {
 }
 
 // Whether a body of a kind may have so many bytes.
-fn body_fits(kind: u16, length: usize) -> bool
+pub fn body_fits(kind: u16, length: usize) -> bool
     ensures { λ r. ⌜ r ≡ bodyFits kind length ⌝ }
 {
     if kind == 2 {
@@ -128,8 +130,8 @@ fn section_of(bytes: &[u8], body: Part) -> Section
 pub fn open_bundle(bytes: &[u8]) -> Opened
     ensures { λ r. ⌜ opened r ≡ openBundle (now (bytes .entry)) ⌝ }
 {
-    if 65536 < bytes.len() {
-        return Opened::TooLong;
+    if BUNDLE_BYTES < bytes.len() {
+        return Opened::Refused(Refusal::LongBundle);
     }
     let image = take_record(bytes, 0, 1);
     let segments = take_record(bytes, image.next, 2);
@@ -137,10 +139,10 @@ pub fn open_bundle(bytes: &[u8]) -> Opened
     let fields = take_record(bytes, types.next, 4);
     let strings = take_record(bytes, fields.next, 5);
     if image.part.start == 0 {
-        return Opened::Broken;
+        return Opened::Refused(Refusal::BrokenBundle);
     }
     if strings.next < bytes.len() {
-        return Opened::Broken;
+        return Opened::Refused(Refusal::BrokenBundle);
     }
     let image_body = image.part;
     let segments_body = segments.part;
