@@ -1,39 +1,48 @@
 -- The test of the segments' count.
 use Prim.Native.Nat.{ℕ, _%_}
-use mathlib.Core.Path.{_≡_, refl, ap, _∙_}
+use mathlib.Core.Path.{_≡_, ap, sym, _∙_}
 use mathlib.Core.List.{List}
-use mathlib.Core.Option.{Option}
+use mathlib.Core.Bool.{Bool, true, false, cond}
+use native.Mathlib.Omega.{arith}
+use lib.Dec.{eqb}
 use lib.ListN.{length}
 use borrow.Author.Tests.{eq-eqb, ne-eqb}
-use Rattle.typedescriptor.specs.Row.{TypeRow}
-use Rattle.parent.specs.Name as Name
-use Rattle.listing.specs.Calls.{Guarded, answered, refused, guarded, joinedAnswer, lineBuffer}
-use Rattle.listing.specs.Lines.{Step, lineIn}
+use Rattle.refusal.specs.Refusal.{Guarded, answered, refused, mapped, answerOf}
+use Rattle.util.specs.Buffer.{overwritten}
+use Rattle.listing.specs.Calls.{guarded}
 
-module _ (segments : List ℕ) where
-  pub ragged : {A : Type 0} (a : A) → (length segments % 4 ≡ 0 → ⊥) → refused 1 ≡ guarded segments a
+module _ (segments : List ℕ) {A : Type 0} (g : Guarded A) where
+  pub ragged : (length segments % 4 ≡ 0 → ⊥) → refused 1 ≡ guarded segments g
   unfolding guarded
-  ragged a h = simp (ne-eqb (length segments % 4) 0 h)
+  ragged h = simp (ne-eqb (length segments % 4) 0 h)
 
-  pub whole : {A : Type 0} (a x : A) → x ≡ a → length segments % 4 ≡ 0 → answered x ≡ guarded segments a
+  pub whole : length segments % 4 ≡ 0 → g ≡ guarded segments g
   unfolding guarded
-  whole a x e h = ap answered e ∙ simp (eq-eqb (length segments % 4) 0 h)
+  whole h = simp (eq-eqb (length segments % 4) 0 h)
 
-  module _ (s : Option Step) (b : List ℕ) where
-    pub line-ragged : (length segments % 4 ≡ 0 → ⊥) → (refused 1 ≡ guarded segments s) × (b ≡ lineBuffer (guarded segments s) b)
-    unfolding lineBuffer
-    line-ragged h = (ragged s h, ap (λ (g : Guarded (Option Step)). lineBuffer g b) (ragged s h))
+  pub whole-as : (x : Guarded A) → x ≡ g → length segments % 4 ≡ 0 → x ≡ guarded segments g
+  whole-as x e h = e ∙ whole h
 
-    pub line-whole : (b′ : List ℕ) (x : Option Step) → x ≡ s → b′ ≡ lineIn s b → length segments % 4 ≡ 0
-        → (answered x ≡ guarded segments s) × (b′ ≡ lineBuffer (guarded segments s) b)
-    unfolding lineBuffer
-    line-whole b′ x e eb h = (whole s x e h, eb ∙ ap (λ (g : Guarded (Option Step)). lineBuffer g b) (whole s s refl h))
+-- what a call that answers says
+pub answered-is : (segments : List ℕ) {A : Type 0} (x y : A) → answered y ≡ guarded segments (answered x) → y ≡ x
+unfolding guarded
+answered-is segments x y e = go (eqb (length segments % 4) 0) e
+  where
+    go : (t : Bool) → answered y ≡ cond t (answered x) (refused 1) → y ≡ x
+    go true f = cc
+    go false f = let z : _≡_ {A = ℕ} 0 1 = cc in absurd (omega arith)
 
-  module _ (image : List ℕ) (row : TypeRow) (size : ℕ) where
-    pub joined-ragged : (length segments % 4 ≡ 0 → ⊥) → Name.refused 1 ≡ joinedAnswer image segments row size
-    unfolding joinedAnswer
-    joined-ragged h = simp (ne-eqb (length segments % 4) 0 h)
+pub never-refused : (segments : List ℕ) {A : Type 0} (x : A) (n : ℕ) → refused n ≡ guarded segments (answered x) → length segments % 4 ≡ 0 → ⊥
+never-refused segments x n e h =
+    let f : refused n ≡ answered x = e ∙ sym (whole segments (answered x) h) in
+    let z : _≡_ {A = ℕ} 0 1 = cc in
+    omega arith
 
-    pub joined-whole : (x : Name.Answer) → x ≡ Name.nameAnswer image segments row size → length segments % 4 ≡ 0 → x ≡ joinedAnswer image segments row size
-    unfolding joinedAnswer
-    joined-whole x e h = e ∙ simp (eq-eqb (length segments % 4) 0 h)
+-- a call that gives a text at a buffer's start
+module _ (segments : List ℕ) (g : Guarded (List ℕ)) (b : List ℕ) where
+  pub text-ragged : (length segments % 4 ≡ 0 → ⊥) → (refused 1 ≡ mapped length (guarded segments g)) × (b ≡ overwritten b (answerOf (guarded segments g)))
+  text-ragged h = (ap (mapped length) (ragged segments g h), ap (λ (x : Guarded (List ℕ)). overwritten b (answerOf x)) (ragged segments g h))
+
+  pub text-whole : (x : Guarded ℕ) (b′ : List ℕ) → x ≡ mapped length g → b′ ≡ overwritten b (answerOf g) → length segments % 4 ≡ 0
+      → (x ≡ mapped length (guarded segments g)) × (b′ ≡ overwritten b (answerOf (guarded segments g)))
+  text-whole x b′ e eb h = (e ∙ ap (mapped length) (whole segments g h), eb ∙ ap (λ (x : Guarded (List ℕ)). overwritten b (answerOf x)) (whole segments g h))

@@ -1,4 +1,4 @@
--- Document 01, "Checked lines": the starred ones that speak of calls that are here, as one table under one theorem.
+-- docs/SPECIFICATION.md, "Checked lines": the worked examples that are proved, as one table under one theorem.
 use Prim.Native.Nat.{ℕ, suc, _-_, _^_}
 use native.Mathlib.Omega.{arith}
 use mathlib.Core.Path.{_≡_, refl}
@@ -14,6 +14,7 @@ use Rattle.utf8.specs.Text.{following, goesOn, wellFormed, untilNul, textLength
 use Rattle.util.specs.Pointer.{relativePointer}
 use Rattle.util.specs.Segments.{segmentsOf, fileOffset, decides, inFile}
 use Rattle.util.specs.Cstr.{place, textAt}
+use Rattle.classtrailers.specs.Checked as Blocks
 
 abbrev partly : List ℕ
 partly = 0x1000 ∷ 64 ∷ 0 ∷ 32 ∷ []
@@ -30,6 +31,8 @@ pub record Checked : Type 0 where
   pub too-high : wellFormed (0xf4 ∷ 0x90 ∷ 0x80 ∷ 0x80 ∷ []) ≡ false
   pub at-end : (s : List ℕ) → textAt s (length s) ≡ some (place (length s) 0)
   pub past-end : (s : List ℕ) → textAt s (suc (length s)) ≡ none
+  -- generic sizes, and where the tables of a class lie
+  pub blocks : Blocks.Checked
 
 pub checked : Checked
 unfolding relativePointer segmentsOf fileOffset decides inFile table following goesOn textAt textLength untilNul
@@ -46,4 +49,5 @@ checked =
       too-high = refl;
       at-end = λ s. simp (le-leb (length s) (length s) (omega arith)) (rw drop-length);
       past-end = λ s. simp (lt-leb (suc (length s)) (length s) (omega arith));
+      blocks = Blocks.checked;
     }

@@ -1,10 +1,3 @@
 pub mod Calls
 pub mod CallsLaws
 pub mod Checked
-pub mod Digits
-pub mod DigitsLaws
-pub mod Lines
-pub mod LinesLaws
-pub mod Printed
-pub mod PrintedLaws
-pub mod Prints

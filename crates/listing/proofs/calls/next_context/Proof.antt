@@ -1,8 +1,10 @@
 -- `listing::calls::next_context` meets its contract.
 -- Assumes nothing.
+use mathlib.Core.Path.{ap}
+use Rattle.refusal.specs.Refusal.{answered}
 use Rattle.util.specs.Answers.{told}
-use Rattle.parent.specs.Chain.{stepOf}
-use Rattle.listing.specs.CallsLaws.{ragged, whole}
+use Rattle.parent.specs.Chain.{parentStepOf}
+use Rattle.listing.specs.CallsLaws.{ragged, whole-as}
 use borrow.Author.Needs.{needs}
 use Rattle.listing.proofs.calls.next_context.Statement.{statement}
 use Rattle.listing.proofs.calls.next_context.Tie as tie
@@ -20,10 +22,10 @@ enum-told : tie.Need-enum-told
 enum-told c = search needs
 
 returns-2 : tie.Need-returns-2
-returns-2 c = whole _ _ _ (told (stepOf _) (c .before .before .before .next .ensures) (c .before .context .given .1)) (c .before .before .before .before .if1 .left)
+returns-2 c = whole-as _ _ _ (ap answered (told (parentStepOf _) (c .before .before .before .next .ensures) (c .before .context .given .1))) (c .before .before .before .before .if1 .left)
 
 returns-3 : tie.Need-returns-3
-returns-3 c = whole _ _ _ (told (stepOf _) (c .before .before .next .ensures) (c .enum-told .given .1)) (c .before .before .before .if1 .left)
+returns-3 c = whole-as _ _ _ (ap answered (told (parentStepOf _) (c .before .before .next .ensures) (c .enum-told .given .1))) (c .before .before .before .if1 .left)
 
 pub next-context-spec : {M : Type 1} → statement M
 next-context-spec =

@@ -1,8 +1,10 @@
 -- `listing::calls::next_row` meets its contract.
 -- Assumes nothing.
+use mathlib.Core.Path.{ap}
+use Rattle.refusal.specs.Refusal.{answered}
 use Rattle.util.specs.Answers.{told}
-use Rattle.typedescriptor.specs.Slots.{stepOf}
-use Rattle.listing.specs.CallsLaws.{ragged, whole}
+use Rattle.typedescriptor.specs.Slots.{typeStepOf}
+use Rattle.listing.specs.CallsLaws.{ragged, whole-as}
 use borrow.Author.Needs.{needs}
 use Rattle.listing.proofs.calls.next_row.Statement.{statement}
 use Rattle.listing.proofs.calls.next_row.Tie as tie
@@ -20,10 +22,10 @@ enum-told : tie.Need-enum-told
 enum-told c = search needs
 
 returns-2 : tie.Need-returns-2
-returns-2 c = whole _ _ _ (told (stepOf _) (c .before .before .before .next .ensures) (c .before .slot .given .1)) (c .before .before .before .before .if1 .left)
+returns-2 c = whole-as _ _ _ (ap answered (told (typeStepOf _) (c .before .before .before .next .ensures) (c .before .slot .given .1))) (c .before .before .before .before .if1 .left)
 
 returns-3 : tie.Need-returns-3
-returns-3 c = whole _ _ _ (told (stepOf _) (c .before .before .next .ensures) (c .enum-told .given .1)) (c .before .before .before .if1 .left)
+returns-3 c = whole-as _ _ _ (ap answered (told (typeStepOf _) (c .before .before .next .ensures) (c .enum-told .given .1))) (c .before .before .before .if1 .left)
 
 pub next-row-spec : {M : Type 1} → statement M
 next-row-spec =
