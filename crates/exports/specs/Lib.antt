@@ -1,4 +1,7 @@
-pub mod Listing
-pub mod ListingLaws
+pub mod AllRows
+pub mod AllRowsLaws
+pub mod Flags
 pub mod Numbers
 pub mod NumbersLaws
+pub mod Readers
+pub mod ReadersLaws

@@ -1,7 +1,9 @@
--- The answers of the calls as lists of numbers of a fixed length. The first number is 0, as are all others, where there is nothing.
+-- The answers of the calls as a status and, in a lent array, numbers of a fixed count. The first number is 0, as are all others, where there is nothing.
 use Prim.Native.Nat.{ℕ}
+use mathlib.Core.Path.{_≡_}
 use mathlib.Core.List.{List, [], _∷_}
 use mathlib.Core.Option.{Option, some, none}
+use Rattle.refusal.specs.Refusal.{Guarded, answered, refused}
 use Rattle.util.specs.Cstr.{Place, place, partOf}
 use Rattle.runtime.specs.FieldName.{inImage, inStrings}
 use Rattle.runtime.specs.FieldName as field
@@ -9,39 +11,54 @@ use Rattle.typedescriptor.specs.Row.{TypeRow}
 use Rattle.typedescriptor.specs.Slots.{Found}
 use Rattle.parent.specs.Context as context
 use Rattle.parent.specs.Chain.{Step}
-use Rattle.parent.specs.Name.{Answer, written, refused}
 
-unfoldable pub offsetNumbers : Option ℕ → List ℕ
-offsetNumbers none = 0 ∷ (0 ∷ [])
-offsetNumbers (some o) = 1 ∷ (o ∷ [])
+-- 0, or the refusal's number
+abbrev pub status : {A : Type 0} → Guarded A → ℕ
+status (answered a) = 0
+status (refused n) = n
 
-unfoldable pub textNumbers : Option Place → List ℕ
+-- the array after a call that gives numbers: as it was where the call refuses
+abbrev pub overOut : List ℕ → Guarded (List ℕ) → List ℕ
+overOut out (answered numbers) = numbers
+overOut out (refused n) = out
+
+-- what a call that answers or refuses so gives back, and what it makes of the array
+pub record Tells (answer : Guarded (List ℕ)) (out : List ℕ) (r : ℕ) (out′ : List ℕ) : Type 0 where
+  pub gives : r ≡ status answer
+  pub writes : out′ ≡ overOut out answer
+
+-- a number alone
+abbrev pub valueNumbers : Option ℕ → List ℕ
+valueNumbers none = 0 ∷ (0 ∷ [])
+valueNumbers (some o) = 1 ∷ (o ∷ [])
+
+abbrev pub textNumbers : Option Place → List ℕ
 textNumbers none = 0 ∷ (0 ∷ (0 ∷ []))
 textNumbers (some p) = 1 ∷ (p .start ∷ (p .size ∷ []))
 
 -- 1 for the image, 2 for the string section
-unfoldable pub fieldNumbers : Option field.Name → List ℕ
+abbrev pub fieldNumbers : Option field.NamePlace → List ℕ
 fieldNumbers none = 0 ∷ (0 ∷ (0 ∷ []))
 fieldNumbers (some (inImage p)) = 1 ∷ (p .start ∷ (p .size ∷ []))
 fieldNumbers (some (inStrings p)) = 2 ∷ (p .start ∷ (p .size ∷ []))
 
-unfoldable pub rowNumbers : Option Found → List ℕ
+abbrev pub rowNumbers : Option Found → List ℕ
 rowNumbers none = 0 ∷ (0 ∷ (0 ∷ (0 ∷ (0 ∷ (0 ∷ (0 ∷ (0 ∷ [])))))))
 rowNumbers (some f) =
     1 ∷ (f .slot ∷ (f .next ∷ (f .row .address ∷ (f .row .flags ∷ (f .row .parent ∷ (f .row .name .start ∷ (f .row .name .size ∷ [])))))))
 
-unfoldable pub contextNumbers : Option context.Name → List ℕ
+abbrev pub contextNumbers : Option context.Name → List ℕ
 contextNumbers none = 0 ∷ (0 ∷ (0 ∷ []))
 contextNumbers (some n) = 1 ∷ (n .place .start ∷ (n .place .size ∷ []))
 
-unfoldable pub stepNumbers : Option Step → List ℕ
+abbrev pub stepNumbers : Option Step → List ℕ
 stepNumbers none = 0 ∷ (0 ∷ (0 ∷ (0 ∷ (0 ∷ (0 ∷ (0 ∷ (0 ∷ [])))))))
 stepNumbers (some s) =
     1 ∷ (s .context .header .address ∷ (s .context .header .flags ∷ (s .next ∷ (s .given ∷ contextNumbers (s .context .name)))))
 
-unfoldable pub nameNumbers : Answer → List ℕ
-nameNumbers (written n) = 1 ∷ (n ∷ [])
-nameNumbers (refused n) = n ∷ (0 ∷ [])
+-- a length alone
+abbrev pub oneNumber : ℕ → List ℕ
+oneNumber n = n ∷ []
 
 -- a row of which only the parent and the name are known
 abbrev pub namedRow : List ℕ → ℕ → ℕ → ℕ → TypeRow

@@ -1,76 +1,43 @@
--- What an answer says of its numbers.
-use Prim.Native.Nat.{ℕ}
-use mathlib.Core.Path.{_≡_, ap}
-use mathlib.Core.List.{List, [], _∷_}
-use mathlib.Core.Option.{Option, some, none}
-use Rattle.util.specs.Cstr.{Place}
+-- What an answer says of its status and its numbers.
+use Prim.Native.Nat.{ℕ, _%_}
+use mathlib.Core.Path.{_≡_, refl, _∙_, ap}
+use mathlib.Core.List.{List, _∷_}
+use lib.ListN.{length}
+use Rattle.refusal.specs.Refusal.{Guarded, answered, refused, mapped, answerOf}
+use Rattle.util.specs.Buffer.{atStart, overwritten}
 use Rattle.util.specs.declared.cstr.Text.{Text}
-use Rattle.runtime.specs.FieldName.{inImage, inStrings}
-use Rattle.runtime.specs.FieldName as field
-use Rattle.typedescriptor.specs.Slots.{Found}
 use Rattle.parent.specs.Context.{nameRead}
-use Rattle.parent.specs.Chain.{Step}
-use Rattle.parent.specs.Name.{Answer, written, refused}
-use Rattle.exports.specs.Numbers.{offsetNumbers, textNumbers, fieldNumbers, rowNumbers, contextNumbers, stepNumbers, nameNumbers}
+use Rattle.listing.specs.Calls.{guarded}
+use Rattle.listing.specs.CallsLaws.{ragged, whole}
+use Rattle.exports.specs.Numbers.{Tells, contextNumbers}
 
-pub offset-given : (o : ℕ) (x : Option ℕ) → some o ≡ x → 1 ∷ (o ∷ []) ≡ offsetNumbers x
-unfolding offsetNumbers
-offset-given o x e = ap offsetNumbers e
+module _ {A : Type 0} (numbers : A → List ℕ) (g : Guarded A) (out : List ℕ) where
+  pub tells-as : (a : A) (l : List ℕ) → answered a ≡ g → l ≡ numbers a → Tells (mapped numbers g) out 0 l
+  tells-as a l e el = rw (el, ← e) (record { gives = refl; writes = refl })
 
-pub no-offset : (x : Option ℕ) → none ≡ x → 0 ∷ (0 ∷ []) ≡ offsetNumbers x
-unfolding offsetNumbers
-no-offset x e = ap offsetNumbers e
+  pub tells : (a : A) → answered a ≡ g → Tells (mapped numbers g) out 0 (numbers a)
+  tells a e = tells-as a (numbers a) e refl
 
-pub text-given : (p : Place) (x : Option Place) (o n : ℕ) → some p ≡ x → o ≡ p .start → n ≡ p .size → 1 ∷ (o ∷ (n ∷ [])) ≡ textNumbers x
-unfolding textNumbers
-text-given p x o n e eo en = rw (eo, en) (ap textNumbers e)
+  pub refuses : (r n : ℕ) → refused n ≡ g → r ≡ n → Tells (mapped numbers g) out r out
+  refuses r n e er = rw (← e) (record { gives = er; writes = refl })
 
-pub no-text : (x : Option Place) → none ≡ x → 0 ∷ (0 ∷ (0 ∷ [])) ≡ textNumbers x
-unfolding textNumbers
-no-text x e = ap textNumbers e
+-- a call that tests the segments' count itself, and one of them that writes a text into a buffer
+module _ {A : Type 0} (segments : List ℕ) (a : A) where
+  module _ (numbers : A → List ℕ) (out : List ℕ) where
+    pub tells-whole : (l : List ℕ) → l ≡ numbers a → length segments % 4 ≡ 0 → Tells (mapped numbers (guarded segments (answered a))) out 0 l
+    tells-whole l el h = tells-as numbers _ out a l (whole segments (answered a) h) el
 
-pub image-field : (p : Place) (x : Option field.Name) (o n : ℕ) → some (inImage p) ≡ x → o ≡ p .start → n ≡ p .size → 1 ∷ (o ∷ (n ∷ [])) ≡ fieldNumbers x
-unfolding fieldNumbers
-image-field p x o n e eo en = rw (eo, en) (ap fieldNumbers e)
+    pub tells-ragged : (r : ℕ) → (length segments % 4 ≡ 0 → ⊥) → r ≡ 1 → Tells (mapped numbers (guarded segments (answered a))) out r out
+    tells-ragged r h er = refuses numbers _ out r 1 (ragged segments (answered a) h) er
 
-pub strings-field : (p : Place) (x : Option field.Name) (o n : ℕ) → some (inStrings p) ≡ x → o ≡ p .start → n ≡ p .size → 2 ∷ (o ∷ (n ∷ [])) ≡ fieldNumbers x
-unfolding fieldNumbers
-strings-field p x o n e eo en = rw (eo, en) (ap fieldNumbers e)
+  module _ (text : A → List ℕ) (b : List ℕ) where
+    pub writes-whole : (b′ : List ℕ) → b′ ≡ atStart (text a) b → length segments % 4 ≡ 0 → b′ ≡ overwritten b (answerOf (mapped text (guarded segments (answered a))))
+    writes-whole b′ e h = e ∙ ap (λ (x : Guarded A). overwritten b (answerOf (mapped text x))) (whole segments (answered a) h)
 
-pub no-field : (x : Option field.Name) → none ≡ x → 0 ∷ (0 ∷ (0 ∷ [])) ≡ fieldNumbers x
-unfolding fieldNumbers
-no-field x e = ap fieldNumbers e
+    pub keeps-ragged : (length segments % 4 ≡ 0 → ⊥) → b ≡ overwritten b (answerOf (mapped text (guarded segments (answered a))))
+    keeps-ragged h = ap (λ (x : Guarded A). overwritten b (answerOf (mapped text x))) (ragged segments (answered a) h)
 
-pub row-given : (f : Found) (x : Option Found) (i n w o l : ℕ) → some f ≡ x → i ≡ f .slot → n ≡ f .next → w ≡ f .row .flags → o ≡ f .row .name .start → l ≡ f .row .name .size
-    → 1 ∷ (i ∷ (n ∷ (f .row .address ∷ (w ∷ (f .row .parent ∷ (o ∷ (l ∷ []))))))) ≡ rowNumbers x
-unfolding rowNumbers
-row-given f x i n w o l e ei en ew eo el = rw (ei, en, ew, eo, el) (ap rowNumbers e)
-
-pub no-row : (x : Option Found) → none ≡ x → 0 ∷ (0 ∷ (0 ∷ (0 ∷ (0 ∷ (0 ∷ (0 ∷ (0 ∷ []))))))) ≡ rowNumbers x
-unfolding rowNumbers
-no-row x e = ap rowNumbers e
-
-pub name-there : (image : List ℕ) (t : Text) (o l o′ l′ : ℕ) → t ≡ Text.At o l → o′ ≡ o → l′ ≡ l → 1 ∷ (o′ ∷ (l′ ∷ [])) ≡ contextNumbers (nameRead image t)
-unfolding contextNumbers
-name-there image t o l o′ l′ e eo el = rw (eo, el, e)
-
-pub no-name : (image : List ℕ) (t : Text) → t ≡ Text.Nothing → 0 ∷ (0 ∷ (0 ∷ [])) ≡ contextNumbers (nameRead image t)
-unfolding contextNumbers
-no-name image t e = rw e
-
-pub step-given : (s : Step) (x : Option Step) (w g : ℕ) (name : List ℕ) → some s ≡ x → name ≡ contextNumbers (s .context .name) → w ≡ s .context .header .flags → g ≡ s .given
-    → 1 ∷ (s .context .header .address ∷ (w ∷ (s .next ∷ (g ∷ name)))) ≡ stepNumbers x
-unfolding stepNumbers
-step-given s x w g name e en ew eg = rw (ew, eg, en) (ap stepNumbers e)
-
-pub no-step : (x : Option Step) → none ≡ x → 0 ∷ (0 ∷ (0 ∷ (0 ∷ (0 ∷ (0 ∷ (0 ∷ (0 ∷ []))))))) ≡ stepNumbers x
-unfolding stepNumbers
-no-step x e = ap stepNumbers e
-
-pub name-written : (m n : ℕ) (x : Answer) → written m ≡ x → n ≡ m → 1 ∷ (n ∷ []) ≡ nameNumbers x
-unfolding nameNumbers
-name-written m n x e en = rw en (ap nameNumbers e)
-
-pub name-refused : (n : ℕ) (x : Answer) → refused n ≡ x → n ∷ (0 ∷ []) ≡ nameNumbers x
-unfolding nameNumbers
-name-refused n x e = ap nameNumbers e
+-- a context's numbers, where the case of its name is known
+pub name-known : (image : List ℕ) (a w n g : ℕ) (t u : Text) → t ≡ u
+    → 1 ∷ (a ∷ (w ∷ (n ∷ (g ∷ contextNumbers (nameRead image u))))) ≡ 1 ∷ (a ∷ (w ∷ (n ∷ (g ∷ contextNumbers (nameRead image t)))))
+name-known image a w n g t u e = rw e

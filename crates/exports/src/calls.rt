@@ -1,60 +1,67 @@
 ghost use mathlib.Core.Path.{_≡_};
 ghost use lib.ListN.{length};
+ghost use Rattle.refusal.specs.Refusal.{answered, mapped, answerOf};
+ghost use Rattle.util.specs.Buffer.{overwritten};
 ghost use Rattle.util.specs.Segments.{fileOffset, segmentsOf};
-ghost use Rattle.util.specs.Cstr.{textAt, place};
+ghost use Rattle.util.specs.Cstr.{textAt};
 ghost use Rattle.runtime.specs.FieldName.{fieldName};
 ghost use Rattle.typedescriptor.specs.Slots.{nextRow};
 ghost use Rattle.parent.specs.Chain.{chainStep};
-ghost use Rattle.parent.specs.Name.{nameAnswer, filled, qualifiedName};
-ghost use Rattle.exports.specs.Numbers.{offsetNumbers, textNumbers, fieldNumbers, rowNumbers, stepNumbers, nameNumbers, namedRow};
+ghost use Rattle.parent.specs.Name.{nameAnswer};
+ghost use Rattle.listing.specs.Calls.{guarded};
+ghost use Rattle.exports.specs.Numbers.{Tells, valueNumbers, textNumbers, fieldNumbers, rowNumbers, stepNumbers, oneNumber, namedRow};
+use listing::NextContext;
+use listing::NextRow;
 use parent::ParentChain;
-use parent::ParentStep;
 use parent::QualifiedName;
+use refusal::Refusal;
 use runtime::FieldName;
 use typedescriptor::Row;
 use typedescriptor::TypeIter;
-use typedescriptor::TypeStep;
 use util::FileOffset;
 use util::Text;
 
-fn wide(n: u32) -> u64
-    ensures { λ r. ⌜ r ≡ n ⌝ }
-{
-    n as u64
-}
+// The status of a call that answers.
+pub const ANSWERED: u64 = 0;
 
-fn size(n: usize) -> u64
-    ensures { λ r. ⌜ r ≡ n ⌝ }
-{
-    n as u64
-}
+// The first number of an answer: that there is something, and for a field name that it lies in the string section.
+const THERE: u64 = 1;
+
+const IN_STRINGS: u64 = 2;
 
 // 1 and the file offset of an address.
 #[no_mangle]
-pub extern "C" fn hodrupec_file_offset(segments: &[u64], vmaddr: u64, out: &mut [u64; 2])
-    ensures { λ _. ⌜ now (out .exit) ≡ offsetNumbers (fileOffset (segmentsOf (now (segments .entry))) vmaddr) ⌝ }
+pub extern "C" fn hodrupec_file_offset(segments: &[u64], vmaddr: u64, out: &mut [u64; 2]) -> u64
+    ensures { λ r. ⌜ Tells (mapped valueNumbers (guarded (now (segments .entry)) (answered (fileOffset (segmentsOf (now (segments .entry))) vmaddr)))) (now (out .entry)) r (now (out .exit)) ⌝ }
 {
+    if segments.len() % 4 != 0 {
+        return refusal::number(Refusal::RaggedSegments);
+    }
     match util::vm_to_file_offset_in(segments, vmaddr) {
         FileOffset::At(offset) => {
-            *out = [1, offset];
+            *out = [THERE, offset];
+            ANSWERED
         }
         FileOffset::Nothing => {
-            *out = [0, 0];
+            *out = [0; 2];
+            ANSWERED
         }
     }
 }
 
-// 1, place and length of the text at an offset.
+// 1, place and length of the text at an offset. It takes no segments, and refuses nothing.
 #[no_mangle]
-pub extern "C" fn hodrupec_text(data: &[u8], off: usize, out: &mut [u64; 3])
-    ensures { λ _. ⌜ now (out .exit) ≡ textNumbers (textAt (now («data» .entry)) off) ⌝ }
+pub extern "C" fn hodrupec_text(data: &[u8], off: usize, out: &mut [u64; 3]) -> u64
+    ensures { λ r. ⌜ Tells (answered (textNumbers (textAt (now («data» .entry)) off))) (now (out .entry)) r (now (out .exit)) ⌝ }
 {
     match util::read_cstr_at(data, off) {
         Text::At { place, length } => {
-            *out = [1, size(place), size(length)];
+            *out = [THERE, place as u64, length as u64];
+            ANSWERED
         }
         Text::Nothing => {
-            *out = [0, 0, 0];
+            *out = [0; 3];
+            ANSWERED
         }
     }
 }
@@ -68,18 +75,24 @@ pub extern "C" fn hodrupec_field_name(
     vmaddr: u64,
     target_va: u64,
     out: &mut [u64; 3],
-)
-    ensures { λ _. ⌜ now (out .exit) ≡ fieldNumbers (fieldName (now (image .entry)) (now (segments .entry)) (now (strings .entry)) vmaddr «target_va») ⌝ }
+) -> u64
+    ensures { λ r. ⌜ Tells (mapped fieldNumbers (guarded (now (segments .entry)) (answered (fieldName (now (image .entry)) (now (segments .entry)) (now (strings .entry)) vmaddr «target_va»)))) (now (out .entry)) r (now (out .exit)) ⌝ }
 {
+    if segments.len() % 4 != 0 {
+        return refusal::number(Refusal::RaggedSegments);
+    }
     match runtime::lookup_field_name(image, segments, strings, vmaddr, target_va) {
         FieldName::Image { place, length } => {
-            *out = [1, size(place), size(length)];
+            *out = [THERE, place as u64, length as u64];
+            ANSWERED
         }
         FieldName::Strings { place, length } => {
-            *out = [2, size(place), size(length)];
+            *out = [IN_STRINGS, place as u64, length as u64];
+            ANSWERED
         }
         FieldName::Nothing => {
-            *out = [0, 0, 0];
+            *out = [0; 3];
+            ANSWERED
         }
     }
 }
@@ -93,26 +106,28 @@ pub extern "C" fn hodrupec_next_row(
     vmaddr: u64,
     slot: usize,
     out: &mut [u64; 8],
-)
-    ensures { λ _. ⌜ now (out .exit) ≡ rowNumbers (nextRow (now (image .entry)) (now (segments .entry)) (now (types .entry)) vmaddr slot) ⌝ }
+) -> u64
+    ensures { λ r. ⌜ Tells (mapped rowNumbers (guarded (now (segments .entry)) (answered (nextRow (now (image .entry)) (now (segments .entry)) (now (types .entry)) vmaddr slot)))) (now (out .entry)) r (now (out .exit)) ⌝ }
 {
-    let walk = TypeIter { slot };
-    match walk.next(image, segments, types, vmaddr) {
-        TypeStep::Row { slot, row, next } => {
+    match listing::next_row(image, segments, types, vmaddr, TypeIter { slot }) {
+        NextRow::Row { slot, row, next } => {
             *out = [
-                1,
-                size(slot),
-                size(next.slot),
+                THERE,
+                slot as u64,
+                next.slot as u64,
                 row.address,
-                wide(row.flags),
+                row.flags as u64,
                 row.parent,
-                size(row.name_place),
-                size(row.name_length),
+                row.name_place as u64,
+                row.name_length as u64,
             ];
+            ANSWERED
         }
-        TypeStep::End => {
-            *out = [0, 0, 0, 0, 0, 0, 0, 0];
+        NextRow::End => {
+            *out = [0; 8];
+            ANSWERED
         }
+        NextRow::Refused(refusal) => refusal::number(refusal),
     }
 }
 
@@ -125,51 +140,54 @@ pub extern "C" fn hodrupec_next_context(
     descriptor_va: u64,
     given: usize,
     out: &mut [u64; 8],
-)
-    ensures { λ _. ⌜ now (out .exit) ≡ stepNumbers (chainStep (now (image .entry)) (now (segments .entry)) «descriptor_va» given) ⌝ }
+) -> u64
+    ensures { λ r. ⌜ Tells (mapped stepNumbers (guarded (now (segments .entry)) (answered (chainStep (now (image .entry)) (now (segments .entry)) «descriptor_va» given)))) (now (out .entry)) r (now (out .exit)) ⌝ }
 {
     let walk = ParentChain {
         next_descriptor_va: descriptor_va,
         given,
     };
-    match walk.next(image, segments) {
-        ParentStep::Context { context, next } => {
+    match listing::next_context(image, segments, walk) {
+        NextContext::Context { context, next } => {
             let name = context.name;
             match name {
                 Text::At { place, length } => {
                     *out = [
-                        1,
+                        THERE,
                         context.address,
-                        wide(context.flags),
+                        context.flags as u64,
                         next.next_descriptor_va,
-                        size(next.given),
-                        1,
-                        size(place),
-                        size(length),
+                        next.given as u64,
+                        THERE,
+                        place as u64,
+                        length as u64,
                     ];
+                    ANSWERED
                 }
                 Text::Nothing => {
                     *out = [
-                        1,
+                        THERE,
                         context.address,
-                        wide(context.flags),
+                        context.flags as u64,
                         next.next_descriptor_va,
-                        size(next.given),
+                        next.given as u64,
                         0,
                         0,
                         0,
                     ];
+                    ANSWERED
                 }
             }
         }
-        ParentStep::End => {
-            *out = [0, 0, 0, 0, 0, 0, 0, 0];
+        NextContext::End => {
+            *out = [0; 8];
+            ANSWERED
         }
+        NextContext::Refused(refusal) => refusal::number(refusal),
     }
 }
 
-// The joined name of a row with this parent and this name: 1 and the length of what is written at the buffer's start, or the refusal's
-// number and 0.
+// The joined name of a row with this parent and this name, written at the buffer's start: its length.
 #[no_mangle]
 pub extern "C" fn hodrupec_qualified_name(
     image: &[u8],
@@ -178,10 +196,10 @@ pub extern "C" fn hodrupec_qualified_name(
     name_place: usize,
     name_length: usize,
     buffer: &mut [u8],
-    out: &mut [u64; 2],
-)
-    ensures { λ _. ⌜ now (out .exit) ≡ nameNumbers (nameAnswer (now (image .entry)) (now (segments .entry)) (namedRow (now (image .entry)) parent «name_place» «name_length») (length (now (buffer .entry)))) ⌝ }
-    ensures { λ _. ⌜ now (buffer .exit) ≡ filled (nameAnswer (now (image .entry)) (now (segments .entry)) (namedRow (now (image .entry)) parent «name_place» «name_length») (length (now (buffer .entry)))) (qualifiedName (now (image .entry)) (now (segments .entry)) (namedRow (now (image .entry)) parent «name_place» «name_length»)) (now (buffer .entry)) ⌝ }
+    out: &mut [u64; 1],
+) -> u64
+    ensures { λ r. ⌜ Tells (mapped oneNumber (mapped length (guarded (now (segments .entry)) (nameAnswer (now (image .entry)) (now (segments .entry)) (namedRow (now (image .entry)) parent «name_place» «name_length») (length (now (buffer .entry))))))) (now (out .entry)) r (now (out .exit)) ⌝ }
+    ensures { λ _. ⌜ now (buffer .exit) ≡ overwritten (now (buffer .entry)) (answerOf (guarded (now (segments .entry)) (nameAnswer (now (image .entry)) (now (segments .entry)) (namedRow (now (image .entry)) parent «name_place» «name_length») (length (now (buffer .entry)))))) ⌝ }
 {
     let row = Row {
         address: 0,
@@ -190,15 +208,11 @@ pub extern "C" fn hodrupec_qualified_name(
         name_place,
         name_length,
     };
-    match parent::qualified_name(image, segments, row, buffer) {
+    match listing::joined_name(image, segments, row, buffer) {
         QualifiedName::Length(length) => {
-            *out = [1, size(length)];
+            *out = [length as u64];
+            ANSWERED
         }
-        QualifiedName::TooLong => {
-            *out = [3, 0];
-        }
-        QualifiedName::TooDeep => {
-            *out = [4, 0];
-        }
+        QualifiedName::Refused(refusal) => refusal::number(refusal),
     }
 }

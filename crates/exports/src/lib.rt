@@ -1,4 +1,6 @@
-// The calls of the basic level for programs in Rust or C, on slices and numbers: what the comparison in compare/ links. An answer
-// is written into a lent array, its first number 0 where there is none.
+// The calls for programs in C or Rust, on slices and numbers; the comparison in compare/ links them. Each gives back a status, 0 where
+// it answers and else the refusal's number, and writes its answer into a lent array (and buffer), of which a refused call changes nothing.
+mod all_rows;
 mod calls;
-mod listing;
+mod flags;
+mod readers;

@@ -1,11 +1,19 @@
--- `exports::calls::hodrupec_file_offset` meets its contract: the answer of the translation, as two numbers.
+-- `exports::calls::hodrupec_file_offset` meets its contract.
 -- Assumes nothing.
+use mathlib.Core.Path.{ap}
 use Rattle.util.specs.Answers.{told}
 use Rattle.util.specs.Segments.{offsetOf}
-use Rattle.exports.specs.NumbersLaws.{offset-given, no-offset}
+use Rattle.exports.specs.Numbers.{valueNumbers}
+use Rattle.exports.specs.NumbersLaws.{tells-whole, tells-ragged}
 use borrow.Author.Needs.{needs}
 use Rattle.exports.proofs.calls.hodrupec_file_offset.Statement.{statement}
 use Rattle.exports.proofs.calls.hodrupec_file_offset.Tie as tie
+
+number-requires : tie.Need-number-requires
+number-requires c κs = search needs
+
+returns : tie.Need-returns
+returns c = tells-ragged _ _ valueNumbers _ _ (c .before .if1 .taken) (c .number .ensures)
 
 vm-to-file-offset-in-requires : tie.Need-vm-to-file-offset-in-requires
 vm-to-file-offset-in-requires c κs = search needs
@@ -16,13 +24,20 @@ enum-known-offset c = search needs
 enum-told : tie.Need-enum-told
 enum-told c = search needs
 
-returns : tie.Need-returns
-returns c = offset-given _ _ (told offsetOf (c .before .before .before .before .vm-to-file-offset-in .ensures) (c .before .before .offset .given .1))
-
 returns-2 : tie.Need-returns-2
-returns-2 c = no-offset _ (told offsetOf (c .before .before .before .vm-to-file-offset-in .ensures) (c .before .enum-told .given .1))
+returns-2 c = tells-whole _ _ valueNumbers _ _ (ap valueNumbers (told offsetOf (c .before .before .before .before .vm-to-file-offset-in .ensures) (c .before .before .offset .given .1))) (c .before .before .before .before .before .if1 .left)
+
+returns-3 : tie.Need-returns-3
+returns-3 c = tells-whole _ _ valueNumbers _ _ (ap valueNumbers (told offsetOf (c .before .before .before .vm-to-file-offset-in .ensures) (c .before .enum-told .given .1))) (c .before .before .before .before .if1 .left)
 
 pub hodrupec-file-offset-spec : {M : Type 1} → statement M
 hodrupec-file-offset-spec =
     tie.close
-    (tie.spec vm-to-file-offset-in-requires enum-known-offset enum-told returns returns-2)
+    (tie.spec
+    number-requires
+    returns
+    vm-to-file-offset-in-requires
+    enum-known-offset
+    enum-told
+    returns-2
+    returns-3)

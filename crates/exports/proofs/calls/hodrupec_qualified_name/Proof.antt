@@ -1,58 +1,46 @@
--- `exports::calls::hodrupec_qualified_name` meets its contract: the answer of the name writer, as two numbers, and the buffer that it leaves.
+-- `exports::calls::hodrupec_qualified_name` meets its contract.
 -- Assumes nothing.
 use Rattle.util.specs.Answers.{told}
-use Rattle.parent.specs.Name.{nameOf}
-use Rattle.parent.specs.NameLaws.{filled-as}
-use Rattle.exports.specs.NumbersLaws.{name-written, name-refused}
+use Rattle.parent.specs.Name.{lengthOf}
+use Rattle.exports.specs.Numbers.{oneNumber}
+use Rattle.exports.specs.NumbersLaws.{tells, refuses}
 use borrow.Author.Needs.{needs}
 use Rattle.exports.proofs.calls.hodrupec_qualified_name.Statement.{statement}
 use Rattle.exports.proofs.calls.hodrupec_qualified_name.Tie as tie
 
-qualified-name-requires : tie.Need-qualified-name-requires
-qualified-name-requires c κs = search needs
+joined-name-requires : tie.Need-joined-name-requires
+joined-name-requires c κs = search needs
 
 enum-known-length : tie.Need-enum-known-length
 enum-known-length c = search needs
 
-size-requires : tie.Need-size-requires
-size-requires c κs = search needs
+enum-known-refusal : tie.Need-enum-known-refusal
+enum-known-refusal c = search needs
 
-enum-told : tie.Need-enum-told
-enum-told c = search needs
-
-enum-told-2 : tie.Need-enum-told-2
-enum-told-2 c = search needs
+number-requires : tie.Need-number-requires
+number-requires c κs = search needs
 
 same-length : tie.Need-same-length
 same-length c = search needs
 
 returns : tie.Need-returns
-returns c = (name-written _ _ _ (told nameOf (c .before .before .before .before .before .before .before .qualified-name .ensures .0) (c .before .before .before .length .given .1)) (c .before .size .ensures), filled-as _ _ _ _ _ (c .before .before .before .before .before .before .before .qualified-name .ensures .1) (c .before .before .before .before .before .before .before .qualified-name .ensures .0))
+returns c = (tells oneNumber _ _ _ (told lengthOf (c .before .before .before .before .before .before .joined-name .ensures .0) (c .before .before .length .given .1)), c .before .before .before .before .before .before .joined-name .ensures .1)
 
 same-length-2 : tie.Need-same-length-2
 same-length-2 c = search needs
 
 returns-2 : tie.Need-returns-2
-returns-2 c = (name-refused _ _ (told nameOf (c .before .before .before .before .before .qualified-name .ensures .0) (c .before .enum-told .given .1)), filled-as _ _ _ _ _ (c .before .before .before .before .before .qualified-name .ensures .1) (c .before .before .before .before .before .qualified-name .ensures .0))
-
-same-length-3 : tie.Need-same-length-3
-same-length-3 c = search needs
-
-returns-3 : tie.Need-returns-3
-returns-3 c = (name-refused _ _ (told nameOf (c .before .before .before .before .before .qualified-name .ensures .0) (c .before .enum-told2 .given .1)), filled-as _ _ _ _ _ (c .before .before .before .before .before .qualified-name .ensures .1) (c .before .before .before .before .before .qualified-name .ensures .0))
+returns-2 c = (refuses oneNumber _ _ _ _ (told lengthOf (c .before .before .before .before .before .before .joined-name .ensures .0) (c .before .before .refusal .given .1)) (c .number .ensures), c .before .before .before .before .before .before .joined-name .ensures .1)
 
 pub hodrupec-qualified-name-spec : {M : Type 1} → statement M
 hodrupec-qualified-name-spec =
     tie.close
     (tie.spec
-    qualified-name-requires
+    joined-name-requires
     enum-known-length
-    size-requires
-    enum-told
-    enum-told-2
+    enum-known-refusal
+    number-requires
     same-length
     returns
     same-length-2
-    returns-2
-    same-length-3
-    returns-3)
+    returns-2)

@@ -1,10 +1,10 @@
--- `exports::listing::head` meets its contract.
+-- `exports::all_rows::pair` meets its contract.
 -- Assumes nothing.
 use mathlib.Core.Path.{refl}
-use Rattle.exports.specs.Listing.{headBytes}
+use Rattle.exports.specs.AllRows.{pairBytes}
 use borrow.Author.Needs.{needs}
-use Rattle.exports.proofs.listing.head.Statement.{statement}
-use Rattle.exports.proofs.listing.head.Tie as tie
+use Rattle.exports.proofs.all_rows.pair.Statement.{statement}
+use Rattle.exports.proofs.all_rows.pair.Tie as tie
 
 cast-t4 : tie.Need-cast-t4
 cast-t4 c = search needs
@@ -55,11 +55,11 @@ cast-t48 : tie.Need-cast-t48
 cast-t48 c = search needs
 
 returns : tie.Need-returns
-unfolding headBytes
+unfolding pairBytes
 returns c = refl
 
-pub head-spec : {M : Type 1} → statement M
-head-spec =
+pub pair-spec : {M : Type 1} → statement M
+pair-spec =
     tie.close
     (tie.spec
     cast-t4
