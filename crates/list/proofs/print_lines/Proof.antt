@@ -1,45 +1,61 @@
--- Each turn leaves one fewer of 16,386, and nothing has to hold from turn to turn.
+-- `list::print_lines` meets its contract. The invariant: the lines that are left are the others.
+-- Assumes nothing.
 use Prim.Native.Nat.{_-_}
 use native.Mathlib.Omega.{arith}
+use mathlib.Core.Path.{sym}
+use Rattle.util.specs.Answers.{told}
+use Rattle.listing.specs.CallsLaws.{answered-is, never-refused}
+use Rattle.printing.specs.Printed.{linesMost, pendingOf, printAnswer}
+use Rattle.printing.specs.PrintedLaws.{step-part}
+use Rattle.printing.specs.Prints.{Going, going-start, going-on, going-end, going-full}
 use borrow.Author.Needs.{needs}
 use Rattle.list.proofs.print_lines.Statement.{statement}
 use Rattle.list.proofs.print_lines.Tie as tie
 
 abbrev Inv-loop : tie.InvT-loop
-Inv-loop bytes segments line₀ left₀ turns₀ line left turns = Unit {0}
+Inv-loop bytes segments line₀ left₀ lines₀ all₀ line left lines all = Going bytes segments (pendingOf left₀) lines (pendingOf left)
 
 abbrev μ-loop : tie.MeasureT-loop
-μ-loop bytes segments line₀ left₀ turns₀ line left turns = 16386 - turns
+μ-loop bytes segments line₀ left₀ lines₀ all₀ line left lines all = linesMost - lines
 
 loop-holds : tie.Need-loop-holds Inv-loop μ-loop
-loop-holds c = tt
+loop-holds c = going-start _ _ _
 
 next-line-requires : tie.Need-next-line-requires Inv-loop μ-loop
-next-line-requires c κs = tt
+next-line-requires c κs = search needs
 
-enum-known-step : tie.Need-enum-known-step Inv-loop μ-loop
-enum-known-step c = search needs
+enum-known-length : tie.Need-enum-known-length Inv-loop μ-loop
+enum-known-length c = search needs
 
-returns : tie.Need-returns Inv-loop μ-loop
-returns c = tt
+line-part-requires : tie.Need-line-part-requires Inv-loop μ-loop
+line-part-requires c κs = search needs
 
 write-line-requires : tie.Need-write-line-requires Inv-loop μ-loop
-write-line-requires c κs = tt
+write-line-requires c κs = step-part _ _ _ _ _ _ _ (answered-is _ _ _ (told (printAnswer _) (c .before .before .before .before .before .before .next-line .ensures .0) (c .before .before .before .before .length .given .1))) (c .line-part .ensures)
 
-returns-2 : tie.Need-returns-2 Inv-loop μ-loop
-returns-2 c = tt
-
-add-turns : tie.Need-add-turns Inv-loop μ-loop
-add-turns c = omega arith
+add-lines : tie.Need-add-lines Inv-loop μ-loop
+add-lines c = search needs
 
 loop-less : tie.Need-loop-less Inv-loop μ-loop
-loop-less c = omega arith
+loop-less c = search needs
 
 loop-again : tie.Need-loop-again Inv-loop μ-loop
-loop-again c = tt
+loop-again c = going-on _ _ _ _ _ _ (c .before .before .before .before .before .before .before .loop .inv) (sym (answered-is _ _ _ (told (printAnswer _) (c .before .before .before .before .next-line .ensures .0) (c .before .before .length .given .1)))) (omega arith)
+
+enum-told : tie.Need-enum-told Inv-loop μ-loop
+enum-told c = search needs
+
+returns : tie.Need-returns Inv-loop μ-loop
+returns c = going-end _ _ _ _ _ (c .before .before .before .before .before .loop .inv) (sym (answered-is _ _ _ (told (printAnswer _) (c .before .before .next-line .ensures .0) (c .enum-told .given .1))))
+
+enum-told-2 : tie.Need-enum-told-2 Inv-loop μ-loop
+enum-told-2 c = search needs
+
+returns-2 : tie.Need-returns-2 Inv-loop μ-loop
+returns-2 c = absurd (never-refused _ _ _ (told (printAnswer _) (c .before .before .next-line .ensures .0) (c .enum-told2 .given .1)) (c .before .before .before .before .before .before .before .before .pre))
 
 returns-3 : tie.Need-returns-3 Inv-loop μ-loop
-returns-3 c = tt
+returns-3 c = going-full _ _ _ _ _ (c .before .loop .inv) (omega arith)
 
 pub print-lines-spec : {M : Type 1} → statement M
 print-lines-spec =
@@ -49,11 +65,14 @@ print-lines-spec =
     μ-loop
     loop-holds
     next-line-requires
-    enum-known-step
-    returns
+    enum-known-length
+    line-part-requires
     write-line-requires
-    returns-2
-    add-turns
+    add-lines
     loop-less
     loop-again
+    enum-told
+    returns
+    enum-told-2
+    returns-2
     returns-3)
