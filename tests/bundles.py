@@ -1,16 +1,20 @@
 #!/usr/bin/env python3
-"""Write the bundles of the crate `listings`, crates/listings/stdin, and their listings, crates/listings/stdout; the samples too, and the
-answers of the crate `refusals`.
+"""The bundles that the listing program is tried on, with their listings; the samples; the answers of the crate `test_refusals`.
 
-usage: tests/bundles.py [--check]        (--check: write nothing; exit status 1 if a file on disk is not what would be written)
+usage: tests/bundles.py             write the files
+       tests/bundles.py --check     write nothing; exit status 1 if a file on disk is not what would be written
+       tests/bundles.py --run LIST  run the listing program LIST on every bundle, and on what is no bundle; exit status 1 if it
+                                    writes anything else than it should, on standard output or on standard error
 
-A record of stdin is a u32 length, little-endian, and a bundle. The listings come from the rules as written down here and in
-tests/vectors.py, and from nothing of the crates. The samples are samples/*.bundle with samples/*.listing; the crate `list` runs on
-one of them.
+The listings come from the rules as written down here and in tests/vectors.py, and from nothing of the crates. The samples are
+samples/*.bundle with samples/*.listing; the crate `list` runs on one of them in every check.
 """
+import os
 import pathlib
 import struct
+import subprocess
 import sys
+import tempfile
 
 ROOT = pathlib.Path(__file__).resolve().parent.parent
 sys.path[:0] = [str(ROOT / "tests"), str(ROOT / "scripts")]
@@ -43,6 +47,33 @@ def parts(bundle):
             return 2
         bodies[kind] = bundle[at - size : at]
     return bodies if IMAGE in bodies else 2
+
+
+def broken(bundle):
+    """The first rule that a bundle breaks, and the byte at which its record starts."""
+    at, last, image = 0, 0, False
+    while at < len(bundle):
+        size, kind = struct.unpack_from("<IH", bundle, at) if at + 6 <= len(bundle) else (len(bundle), 0)
+        if at + 6 + size > len(bundle):
+            return "a record is cut short", at
+        if not 1 <= kind <= 5:
+            return "a kind is not 1 to 5", at
+        if kind <= last:
+            return "a kind does not rise", at
+        if kind == SEGMENTS and size % 32:
+            return "a segment body is not of whole segments of 32 bytes", at
+        if kind > SEGMENTS and size < 8:
+            return "a section body has no room for its address of 8 bytes", at
+        at, last, image = at + 6 + size, kind, image or kind == IMAGE
+    return None if image else ("there is no image", at)
+
+
+def said(bundle):
+    """What the program says of a bundle on standard error."""
+    if len(bundle) > BUNDLE_BYTES:
+        return b"list: refused 5: a bundle has at most 65536 bytes\n"
+    rule = broken(bundle)
+    return b"list: refused 2: %s, at byte %d\n" % (rule[0].encode(), rule[1]) if rule else b""
 
 
 def text(image, found):
@@ -193,12 +224,19 @@ def record_rules():
 
 
 def sizes():
-    """The largest bundle, and two of one byte more, one of them broken besides."""
+    """The largest bundle, longer ones, one of them broken besides, and the largest numbers of slots and rows."""
     fixed = len(record(IMAGE, b"")) + len(CLUE_SEGMENT) + len(CLUE_TYPES)
     for size in (BUNDLE_BYTES, BUNDLE_BYTES + 1):
         bundle(record(IMAGE, CLUE.ljust(size - fixed, b"\0")), CLUE_SEGMENT, CLUE_TYPES)
     bundle(BUNDLES[-2], b"\0")
     bundle(bytes(40))
+    bundle(bytes(200000))
+    bundle(record(IMAGE, CLUE.ljust(200000, b"\0")), CLUE_SEGMENT, CLUE_TYPES)
+    most = (BUNDLE_BYTES - fixed - len(CLUE)) // 4 + 1
+    for count in (99, 100, 101, 150, 8192, most, most + 1, 16384, 16385):
+        bundle(record(IMAGE, CLUE), CLUE_SEGMENT, section(TYPES, 0x2000, slots(0x2000, [0x1000] * count)))
+    # No image byte and no segment: as many slots as a bundle can have.
+    bundle(record(IMAGE, b""), section(TYPES, 0, bytes((BUNDLE_BYTES - 20) // 4 * 4)))
 
 
 def sections():
@@ -357,7 +395,7 @@ for group in (checked_lines, record_rules, sizes, sections, flags, chains, names
 
 
 def refusals():
-    """The answers of the crate `refusals`: calls on lists of 0 to 8 segment numbers."""
+    """The answers of the crate `test_refusals`: calls on lists of 0 to 8 segment numbers."""
     image, types = bytearray(CLUE), slots(0x2000, [0x1000])
     image[4:8] = relative(0x1004, 0x1000)
     for count in range(9):
@@ -377,9 +415,7 @@ def refusals():
 
 def files():
     out = {
-        "crates/refusals/stdout": b"".join(refusals()),
-        "crates/listings/stdin": b"".join(struct.pack("<I", len(b)) + b for b in BUNDLES),
-        "crates/listings/stdout": b"".join(b"-- %d\n" % n + listing(b) for n, b in enumerate(BUNDLES, 1)),
+        "crates/test_refusals/stdout": b"".join(refusals()),
         "crates/list/stdin": garden(),
         "crates/list/stdout": listing(garden()),
     }
@@ -389,11 +425,68 @@ def files():
     return out
 
 
+USAGE = b"usage: list [FILE]\n"
+
+
+def runs(program):
+    """(what is tried, standard output, standard error, the outputs expected) of the program on everything that is tried."""
+
+    def run(what, out, err, *words, **given):
+        got = subprocess.run([program, *words], capture_output="stdout" not in given, stderr=subprocess.PIPE if "stdout" in given else None, **given)
+        return what, got.stdout or b"", got.stderr, out, err
+
+    for number, data in enumerate(BUNDLES, 1):
+        yield run(f"bundle {number}", listing(data), said(data), input=data)
+    with tempfile.TemporaryDirectory() as folder:
+        path = os.path.join(folder, "garden.bundle")
+        pathlib.Path(path).write_bytes(garden())
+        yield run("a file", listing(garden()), b"", path)
+        yield run("a file, from its folder", listing(garden()), b"", "garden.bundle", cwd=folder)
+        yield run("no such file", b"", path.encode() + b"x: No such file or directory\n", path + "x")
+        yield run("a folder", b"", folder.encode() + b": Is a directory\n", folder)
+        yield run("a word that is too long", b"", b"list: argument: File name too long\n", "x" * 5000)
+        yield run("an empty word", b"", b": No such file or directory\n", "")
+        for words in (["--help"], ["-x"], ["-"], [path, path]):
+            yield run(" ".join(words), b"", USAGE, *words)
+        with open(os.devnull, "rb") as empty:
+            yield run("an empty input", b"refused 2\n", said(b""), stdin=empty)
+        directory = os.open(folder, os.O_RDONLY)
+        yield run("a folder as standard input", b"", b"list: standard input: Is a directory\n", stdin=directory)
+        os.close(directory)
+        if os.path.exists("/dev/full"):
+            with open("/dev/full", "wb") as full:
+                yield run("output that is full", b"", b"list: standard output: No space left on device\n", path, stdout=full)
+    # A pipe that hands the bundle over in pieces.
+    pieces = subprocess.Popen([program], stdin=subprocess.PIPE, stdout=subprocess.PIPE, stderr=subprocess.PIPE)
+    for at in range(0, len(garden()), 7):
+        pieces.stdin.write(garden()[at : at + 7])
+        pieces.stdin.flush()
+    yield ("pieces", *pieces.communicate(), listing(garden()), b"")
+    # A terminal.
+    manager, terminal = os.openpty()
+    at_terminal = subprocess.Popen([program], stdin=terminal, stdout=subprocess.PIPE, stderr=subprocess.PIPE)
+    os.write(manager, b"\x04")
+    hint = b"list: reading a bundle from the terminal; `list --help` says more\n"
+    yield ("a terminal", *at_terminal.communicate(), b"refused 2\n", hint + said(b""))
+
+
+def try_program(program):
+    tried = wrong = 0
+    for what, out, err, expected, complaint in runs(os.path.abspath(program)):
+        tried += 1
+        if out != expected or not (err == complaint or complaint == USAGE and err.startswith(USAGE)):
+            wrong += 1
+            print(f"{what}: wrote {out[:200]!r} and said {err[:200]!r}, not {expected[:200]!r} and {complaint!r}")
+    print(f"{program}: {tried} runs, {wrong} wrong")
+    return 1 if wrong else 0
+
+
 def main():
+    if sys.argv[1:2] == ["--run"] and len(sys.argv) == 3:
+        sys.exit(try_program(sys.argv[2]))
     if sys.argv[1:] not in ([], ["--check"]):
         sys.exit(__doc__)
     assert listing(clue()) == b"0000000000001000 struct Clue\nend 1\n" and listing(b"") == b"refused 2\n"
-    assert max(map(len, BUNDLES)) == BUNDLE_BYTES + 1
     for name, content in files().items():
         path = ROOT / name
         if sys.argv[1:]:

@@ -1,5 +1,5 @@
 #!/usr/bin/env python3
-"""Write the vectors of the crate `vectors`, crates/vectors/stdin, and the answers expected of them, crates/vectors/stdout.
+"""Write the vectors of the crate `test_vectors`, its file stdin, and the answers expected of them, its file stdout.
 
 usage: tests/vectors.py [--check]        (--check: write nothing; exit status 1 if a file on disk is not what would be written)
 
@@ -13,7 +13,7 @@ import struct
 import sys
 
 TOP = 2**64
-FOLDER = pathlib.Path(__file__).resolve().parent.parent / "crates" / "vectors"
+FOLDER = pathlib.Path(__file__).resolve().parent.parent / "crates" / "test_vectors"
 
 # The rules.
 
@@ -415,7 +415,7 @@ def main():
         path = FOLDER / name
         if sys.argv[1:]:
             if not path.is_file() or path.read_text() != content:
-                sys.exit(f"crates/vectors/{name} is not what tests/vectors.py writes")
+                sys.exit(f"crates/test_vectors/{name} is not what tests/vectors.py writes")
         else:
             path.write_text(content)
     print(f"{len(VECTORS)} vectors")

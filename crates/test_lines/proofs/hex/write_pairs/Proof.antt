@@ -1,0 +1,102 @@
+-- `test_lines::hex::write_pairs` meets its contract. The invariant: the first `n` bytes are written, and the rest is as it was.
+-- Assumes nothing.
+use Prim.Native.Nat.{_≤_, _-_}
+use native.Mathlib.Omega.{arith}
+use mathlib.Core.Path.{_≡_, refl, _∙_}
+use mathlib.Core.List.{_++_}
+use denote.Ref.{now}
+use lib.ListN.{length, take, drop}
+use Rattle.test_lines.specs.Lines.{pairBytes}
+use Rattle.test_lines.specs.LinesLaws.{pair-byte, pairs-next, pairs-written}
+use borrow.Author.Needs.{needs}
+use Rattle.test_lines.proofs.hex.write_pairs.Statement.{statement}
+use Rattle.test_lines.proofs.hex.write_pairs.Tie as tie
+
+abbrev Inv-loop : tie.InvT-loop
+Inv-loop s out₀ count n₀ out n = (n ≤ count) × (length out ≡ length out₀) × (out ≡ take n (pairBytes s) ++ drop n out₀)
+
+abbrev μ-loop : tie.MeasureT-loop
+μ-loop s out₀ count n₀ out n = count - n
+
+loop-holds : tie.Need-loop-holds Inv-loop μ-loop
+loop-holds c = (omega arith, refl, refl)
+
+mul-digit : tie.Need-mul-digit Inv-loop μ-loop
+mul-digit c = search needs
+
+shared-slice-read-digit : tie.Need-shared-slice-read-digit Inv-loop μ-loop
+shared-slice-read-digit c = search needs
+
+digit-requires : tie.Need-digit-requires Inv-loop μ-loop
+digit-requires c κs = search needs
+
+mul-digit-2 : tie.Need-mul-digit-2 Inv-loop μ-loop
+mul-digit-2 c = search needs
+
+add-digit : tie.Need-add-digit Inv-loop μ-loop
+add-digit c = search needs
+
+shared-slice-read-digit-2 : tie.Need-shared-slice-read-digit-2 Inv-loop μ-loop
+shared-slice-read-digit-2 c = search needs
+
+digit-requires-2 : tie.Need-digit-requires-2 Inv-loop μ-loop
+digit-requires-2 c κs = search needs
+
+mul-out : tie.Need-mul-out Inv-loop μ-loop
+mul-out c = let b = pair-byte _ (c .before .before .before .before .before .loop .n) (c .before .before .before .before .before .before .before .before .pre .0) (omega arith) in search needs
+
+add-out : tie.Need-add-out Inv-loop μ-loop
+add-out c = let b = pair-byte _ (c .before .before .before .before .before .loop .n) (c .before .before .before .before .before .before .before .before .pre .0) (omega arith) in search needs
+
+cast-out : tie.Need-cast-out Inv-loop μ-loop
+cast-out c = let b = pair-byte _ (c .before .before .before .before .before .loop .n) (c .before .before .before .before .before .before .before .before .pre .0) (omega arith) in search needs
+
+slice-write-out : tie.Need-slice-write-out Inv-loop μ-loop
+slice-write-out c = search needs
+
+add-n : tie.Need-add-n Inv-loop μ-loop
+add-n c = search needs
+
+loop-less : tie.Need-loop-less Inv-loop μ-loop
+loop-less c = search needs
+
+loop-again : tie.Need-loop-again Inv-loop μ-loop
+loop-again c =
+    let p = c .before .before .before .before .before in
+    let s = now (p .before .before .before .args .s) in (
+      search needs,
+      search needs,
+      pairs-next s (now (p .before .before .before .args .out)) (p .loop .n) _ _ (p .loop .inv .2) (omega arith) (omega arith) (omega arith),
+    )
+
+same-length : tie.Need-same-length Inv-loop μ-loop
+same-length c = search needs
+
+returns : tie.Need-returns Inv-loop μ-loop
+returns c =
+    let p = c .before in
+    p .loop .inv .2 ∙ pairs-written (now (p .before .before .before .args .s)) (now (p .before .before .before .args .out)) (p .loop .n) (omega arith)
+
+pub write-pairs-spec : {M : Type 1} → statement M
+write-pairs-spec =
+    tie.close
+    (tie.spec
+    Inv-loop
+    μ-loop
+    loop-holds
+    mul-digit
+    shared-slice-read-digit
+    digit-requires
+    mul-digit-2
+    add-digit
+    shared-slice-read-digit-2
+    digit-requires-2
+    mul-out
+    add-out
+    cast-out
+    slice-write-out
+    add-n
+    loop-less
+    loop-again
+    same-length
+    returns)

@@ -1,0 +1,59 @@
+// Lines and their fields.
+ghost use mathlib.Core.Path.{_≡_};
+ghost use Rattle.test_lines.specs.Lines.{findFrom, fieldOf, firstOf, equals};
+
+// The first place of `stop` from `at` on, or the slice's length; `at` itself where it is past the end.
+pub fn find(s: &[u8], at: usize, stop: u8) -> usize
+    ensures { λ r. ⌜ r ≡ findFrom (now (s .entry)) at stop ⌝ }
+{
+    let mut i = at;
+    while i < s.len() {
+        if s[i] == stop {
+            return i;
+        }
+        i += 1;
+    }
+    i
+}
+
+// A field by its number, from 0 on: empty where the line has fewer.
+pub fn field(line: &[u8], number: usize) -> &[u8]
+    ensures { λ r. ⌜ now r ≡ fieldOf (now (line .entry)) number ⌝ }
+{
+    let mut at = 0;
+    let mut left = number;
+    while left > 0 {
+        let end = find(line, at, b' ');
+        if end == line.len() {
+            return &line[..0];
+        }
+        at = end + 1;
+        left -= 1;
+    }
+    let end = find(line, at, b' ');
+    &line[at..end]
+}
+
+// The first numbers of a list: none where it has fewer.
+pub fn first(s: &[u64], n: usize) -> &[u64]
+    ensures { λ r. ⌜ now r ≡ firstOf (now (s .entry)) n ⌝ }
+{
+    if n <= s.len() { &s[..n] } else { &s[..0] }
+}
+
+// Whether two slices have the same bytes.
+pub fn same(a: &[u8], b: &[u8]) -> bool
+    ensures { λ r. ⌜ r ≡ equals (now (a .entry)) (now (b .entry)) ⌝ }
+{
+    if a.len() != b.len() {
+        return false;
+    }
+    let mut i = 0;
+    while i < a.len() {
+        if a[i] != b[i] {
+            return false;
+        }
+        i += 1;
+    }
+    true
+}

@@ -1,0 +1,414 @@
+// Replays the Rust's answers: reads one input a line from standard input, and writes the answers of the proved calls.
+//
+// A line is
+//   input IMAGE TYPES_ADDRESS TYPES STRINGS_ADDRESS STRINGS COUNT SEGMENT_NUMBER.. COUNT ADDRESS..
+// with one space between. The two counts are decimal, all other numbers and the bytes lowercase hexadecimal; `-` stands for no bytes.
+// Its answers are
+//   row SLOT ADDRESS FLAGS PARENT NAME_PLACE NAME_LENGTH    for each row, in order, followed by
+//   context ADDRESS FLAGS NAME_PLACE NAME_LENGTH            its first 8 contexts, the innermost first; `-` for a missing name
+//   depth COUNT                                             how many contexts the walk gives, at most 100 (256)
+//   name LENGTH BYTES                                       the joined name,
+//   refused 3                                               and what a buffer one byte shorter gets, unless the name is empty
+//   refused 4                                               or this in place of both, where a 257th context can be read
+//   end ROWS                                                and then for each address
+//   offset ADDRESS OFFSET                                   its file offset,
+//   field ADDRESS WHERE PLACE LENGTH                        the field name there: 1 in the image, 2 in the strings,
+//   text OFFSET PLACE LENGTH                                the text at the image's offset ADDRESS % (length + 2)
+// with `nothing` where there is none. `target/compare/compare sample OUT crates/test_replay` (after compare/build) makes both
+// files, stdin and stdout, anew from the Rust; OUT gets them as one.
+use listing::NextContext;
+use listing::NextRow;
+use parent::ParentChain;
+use parent::ParentContext;
+use parent::QualifiedName;
+use refusal::Refusal;
+use runtime::FieldName;
+use test_lines::Count;
+use test_lines::Number;
+use typedescriptor::Row;
+use typedescriptor::TypeIter;
+use util::FileOffset;
+use util::Text;
+
+// The lists of numbers in a line.
+
+// A decimal number, at most a few thousand.
+fn parse_count(s: &[u8]) -> Count {
+    if s.len() == 0 {
+        return Count::Bad;
+    }
+    let mut count: u64 = 0;
+    let mut i = 0;
+    while i < s.len() {
+        let d = test_lines::digit(s[i]);
+        if d > 9 {
+            return Count::Bad;
+        }
+        if count > 1000 {
+            return Count::Bad;
+        }
+        count = count * 10 + d;
+        i += 1;
+    }
+    Count::Of(count as usize)
+}
+
+// The numbers of a list: its count is the field `from`, and they are the fields after that.
+fn parse_list(line: &[u8], from: usize, out: &mut [u64]) -> Count {
+    if from > 1000 {
+        return Count::Bad;
+    }
+    let Count::Of(count) = parse_count(test_lines::field(line, from)) else {
+        return Count::Bad;
+    };
+    if out.len() < count {
+        return Count::Bad;
+    }
+    if count > 1000 {
+        return Count::Bad;
+    }
+    let mut n = 0;
+    while n < count {
+        let Number::Value(value) = test_lines::parse_number(test_lines::field(line, from + 1 + n))
+        else {
+            return Count::Bad;
+        };
+        out[n] = value;
+        n += 1;
+    }
+    Count::Of(n)
+}
+
+// Parts of lines.
+
+// What stands in no expected line: for a line that cannot be read, or an answer that none of the calls may give.
+fn bad_line() {
+    io::write_all(1, b"bad line\n");
+}
+
+// A space and a number.
+fn number_field(n: u64) {
+    io::write_all(1, b" ");
+    io::print_hex(1, n, 1);
+}
+
+fn newline() {
+    io::write_all(1, b"\n");
+}
+
+// The rest of a line that tells of nothing.
+fn nothing() {
+    io::write_all(1, b" nothing\n");
+}
+
+// The rest of a line that ends with a place and a length.
+fn place_end(place: usize, length: usize) {
+    number_field(place as u64);
+    number_field(length as u64);
+    newline();
+}
+
+fn refused(refusal: Refusal) {
+    io::write_all(1, b"refused");
+    number_field(refusal::number(refusal));
+    newline();
+}
+
+fn byte_digits(b: u8) {
+    io::print_hex(1, b as u64, 2);
+}
+
+fn name_line(name: &[u8]) {
+    io::write_all(1, b"name");
+    number_field(name.len() as u64);
+    io::write_all(1, b" ");
+    if name.len() == 0 {
+        io::write_all(1, b"-");
+    }
+    let mut i = 0;
+    while i < name.len() {
+        byte_digits(name[i]);
+        i += 1;
+    }
+    newline();
+}
+
+// The rows.
+
+// The joined name once more, into a buffer that is one byte too short for its `n` bytes.
+fn shorter(image: &[u8], segments: &[u64], row: Row, n: usize, buffer: &mut [u8]) {
+    if n == 0 {
+        return;
+    }
+    if buffer.len() < n {
+        bad_line();
+        return;
+    }
+    let end = n - 1;
+    match listing::joined_name(image, segments, row, &mut buffer[..end]) {
+        QualifiedName::Length(_) => bad_line(),
+        QualifiedName::Refused(refusal) => refused(refusal),
+    }
+}
+
+fn name_lines(image: &[u8], segments: &[u64], row: Row, buffer: &mut [u8]) {
+    match listing::joined_name(image, segments, row, buffer) {
+        QualifiedName::Length(n) => {
+            name_line(util::part(buffer, 0, n));
+            shorter(image, segments, row, n, buffer);
+        }
+        QualifiedName::Refused(refusal) => refused(refusal),
+    }
+}
+
+fn context_line(context: ParentContext) {
+    io::write_all(1, b"context");
+    number_field(context.address);
+    number_field(context.flags as u64);
+    let name = context.name;
+    match name {
+        Text::At { place, length } => place_end(place, length),
+        Text::Nothing => {
+            io::write_all(1, b" -\n");
+        }
+    }
+}
+
+// One of the contexts: only the first 8 are written.
+fn shown(depth: u64, context: ParentContext) {
+    if depth < 8 {
+        context_line(context);
+    }
+}
+
+fn depth_line(depth: u64) {
+    io::write_all(1, b"depth");
+    number_field(depth);
+    newline();
+}
+
+// The contexts from a row's parent on. A walk gives at most 256, and then its end.
+fn context_lines(image: &[u8], segments: &[u64], parent: u64) {
+    let mut walk = ParentChain::starting_at(parent);
+    let mut depth: u64 = 0;
+    while depth < 257 {
+        let step = listing::next_context(image, segments, walk);
+        match step {
+            NextContext::Context { context, next } => {
+                shown(depth, context);
+                walk = next;
+                depth += 1;
+            }
+            NextContext::End => {
+                depth_line(depth);
+                return;
+            }
+            NextContext::Refused(refusal) => {
+                refused(refusal);
+                return;
+            }
+        }
+    }
+    bad_line();
+}
+
+fn row_line(slot: usize, row: Row) {
+    io::write_all(1, b"row");
+    number_field(slot as u64);
+    number_field(row.address);
+    number_field(row.flags as u64);
+    number_field(row.parent);
+    place_end(row.name_place, row.name_length);
+}
+
+fn row_lines(image: &[u8], segments: &[u64], slot: usize, row: Row) {
+    let mut buffer = [0u8; 1024];
+    row_line(slot, row);
+    context_lines(image, segments, row.parent);
+    name_lines(image, segments, row, &mut buffer);
+}
+
+fn end_line(rows: u64) {
+    io::write_all(1, b"end");
+    number_field(rows);
+    newline();
+}
+
+// The rows of a types section of fewer than 4,096 slots.
+fn all_rows(image: &[u8], segments: &[u64], types: &[u8], vmaddr: u64) {
+    let mut walk = TypeIter::new();
+    let mut rows: u64 = 0;
+    while rows < 4096 {
+        let step = listing::next_row(image, segments, types, vmaddr, walk);
+        match step {
+            NextRow::Row { slot, row, next } => {
+                row_lines(image, segments, slot, row);
+                walk = next;
+                rows += 1;
+            }
+            NextRow::End => {
+                end_line(rows);
+                return;
+            }
+            NextRow::Refused(refusal) => {
+                refused(refusal);
+                return;
+            }
+        }
+    }
+    bad_line();
+}
+
+// The addresses.
+
+fn offset_line(segments: &[u64], address: u64) {
+    io::write_all(1, b"offset");
+    number_field(address);
+    match runtime::vm_to_file_offset(segments, address) {
+        FileOffset::At(n) => {
+            number_field(n);
+            newline();
+        }
+        FileOffset::Nothing => nothing(),
+    }
+}
+
+fn field_line(image: &[u8], segments: &[u64], strings: &[u8], section: u64, address: u64) {
+    io::write_all(1, b"field");
+    number_field(address);
+    match runtime::lookup_field_name(image, segments, strings, section, address) {
+        FieldName::Image { place, length } => {
+            number_field(1);
+            place_end(place, length);
+        }
+        FieldName::Strings { place, length } => {
+            number_field(2);
+            place_end(place, length);
+        }
+        FieldName::Nothing => nothing(),
+    }
+}
+
+fn text_line(image: &[u8], off: usize) {
+    io::write_all(1, b"text");
+    number_field(off as u64);
+    match util::read_cstr_at(image, off) {
+        Text::At { place, length } => place_end(place, length),
+        Text::Nothing => nothing(),
+    }
+}
+
+// An offset of at most one more than the image's length, which is far below 2^64.
+fn offset_by(image: &[u8], address: u64) -> usize {
+    if image.len() < 0x1_0000_0000 {
+        (address % (image.len() as u64 + 2)) as usize
+    } else {
+        0
+    }
+}
+
+fn all_addresses(image: &[u8], segments: &[u64], strings: &[u8], section: u64, addresses: &[u64]) {
+    let mut i = 0;
+    while i < addresses.len() {
+        let address = addresses[i];
+        offset_line(segments, address);
+        field_line(image, segments, strings, section, address);
+        text_line(image, offset_by(image, address));
+        i += 1;
+    }
+}
+
+// From a line to its answers.
+
+// The line's two lists, and all its answers.
+fn run_lists(
+    line: &[u8],
+    image: &[u8],
+    types_va: u64,
+    types: &[u8],
+    strings_va: u64,
+    strings: &[u8],
+) {
+    let mut segments = [0u64; 64];
+    let mut addresses = [0u64; 64];
+    let Count::Of(numbers) = parse_list(line, 6, &mut segments) else {
+        bad_line();
+        return;
+    };
+    let next = std::num::wrapping_add_usize(7, numbers);
+    let Count::Of(given) = parse_list(line, next, &mut addresses) else {
+        bad_line();
+        return;
+    };
+    let list = test_lines::first(&segments, numbers);
+    all_rows(image, list, types, types_va);
+    all_addresses(
+        image,
+        list,
+        strings,
+        strings_va,
+        test_lines::first(&addresses, given),
+    );
+}
+
+// The line's three pieces of bytes.
+fn run_line(line: &[u8], types_va: u64, strings_va: u64) {
+    let mut image = [0u8; 4096];
+    let mut types = [0u8; 1024];
+    let mut strings = [0u8; 1024];
+    let Count::Of(bytes) = test_lines::parse_bytes(test_lines::field(line, 1), &mut image) else {
+        bad_line();
+        return;
+    };
+    let Count::Of(slots) = test_lines::parse_bytes(test_lines::field(line, 3), &mut types) else {
+        bad_line();
+        return;
+    };
+    let Count::Of(names) = test_lines::parse_bytes(test_lines::field(line, 5), &mut strings) else {
+        bad_line();
+        return;
+    };
+    run_lists(
+        line,
+        util::part(&image, 0, bytes),
+        types_va,
+        util::part(&types, 0, slots),
+        strings_va,
+        util::part(&strings, 0, names),
+    );
+}
+
+fn answer_line(line: &[u8]) {
+    if !test_lines::same(test_lines::field(line, 0), b"input") {
+        bad_line();
+        return;
+    }
+    let Number::Value(types_va) = test_lines::parse_number(test_lines::field(line, 2)) else {
+        bad_line();
+        return;
+    };
+    let Number::Value(strings_va) = test_lines::parse_number(test_lines::field(line, 4)) else {
+        bad_line();
+        return;
+    };
+    run_line(line, types_va, strings_va);
+}
+
+fn answer_lines(input: &[u8]) {
+    let mut at = 0;
+    while at < input.len() {
+        let end = test_lines::find(input, at, b'\n');
+        answer_line(&input[at..end]);
+        if end == input.len() {
+            return;
+        }
+        at = end + 1;
+    }
+}
+
+// What stands past the first 131,072 bytes is not read.
+fn main() {
+    let mut space = [0u8; 131072];
+    let n = io::read_full(0, &mut space);
+    answer_lines(&space[..n]);
+}

@@ -1,0 +1,338 @@
+// Runs vectors of `util` and `runtime`: reads one a line from standard input, and writes one answer line for each.
+//
+// A line is FUNCTION A B BYTES STRINGS SEGMENT.., with one space between: the function called, two numbers, the image's (or the
+// slice's) bytes, the string section's bytes and the segments' numbers, as many as there are. Numbers and bytes are in lowercase
+// hexadecimal; `-` stands for no bytes. tests/vectors.py writes the lines and the answers.
+use runtime::Bytes;
+use runtime::FieldName;
+use test_lines::Count;
+use test_lines::Number;
+use util::FileOffset;
+use util::ReadI32;
+use util::ReadU16;
+use util::ReadU32;
+use util::ReadU64;
+use util::Text;
+
+// The numbers from the sixth field to the line's end.
+fn parse_numbers(line: &[u8], out: &mut [u64]) -> Count {
+    let mut n = 0;
+    while n < 64 {
+        let text = test_lines::field(line, 5 + n);
+        if text.len() == 0 {
+            return Count::Of(n);
+        }
+        let Number::Value(value) = test_lines::parse_number(text) else {
+            return Count::Bad;
+        };
+        if out.len() <= n {
+            return Count::Bad;
+        }
+        out[n] = value;
+        n += 1;
+    }
+    Count::Bad
+}
+
+// A call each, and its whole answer on a line.
+
+fn nothing() {
+    io::write_all(1, b"nothing\n");
+}
+
+fn number_line(n: u64) {
+    io::print_hex(1, n, 1);
+    io::write_all(1, b"\n");
+}
+
+// A number and a space.
+fn number_field(n: u64) {
+    io::print_hex(1, n, 1);
+    io::write_all(1, b" ");
+}
+
+fn byte_digits(b: u8) {
+    io::print_hex(1, b as u64, 2);
+}
+
+// The bytes of a part that two calls give; `differs` where they give two.
+fn bytes_line(part: &[u8], again: &[u8]) {
+    if !test_lines::same(part, again) {
+        io::write_all(1, b"differs\n");
+        return;
+    }
+    if part.len() == 0 {
+        io::write_all(1, b"-");
+    }
+    let mut i = 0;
+    while i < part.len() {
+        byte_digits(part[i]);
+        i += 1;
+    }
+    io::write_all(1, b"\n");
+}
+
+// Where there is no part, both calls give an empty one.
+fn no_part(part: &[u8], again: &[u8]) {
+    if part.len() == 0 && again.len() == 0 {
+        nothing();
+    } else {
+        io::write_all(1, b"differs\n");
+    }
+}
+
+fn read_u16_le_at(s: &[u8], off: usize) {
+    match util::read_u16_le_at(s, off) {
+        ReadU16::Value(n) => number_line(n as u64),
+        ReadU16::Nothing => nothing(),
+    }
+}
+
+fn read_u32_le_at(s: &[u8], off: usize) {
+    match util::read_u32_le_at(s, off) {
+        ReadU32::Value(n) => number_line(n as u64),
+        ReadU32::Nothing => nothing(),
+    }
+}
+
+fn read_u64_le_at(s: &[u8], off: usize) {
+    match util::read_u64_le_at(s, off) {
+        ReadU64::Value(n) => number_line(n),
+        ReadU64::Nothing => nothing(),
+    }
+}
+
+// A sign and the magnitude.
+fn signed_line(n: i32) {
+    if n >= 0 {
+        number_line(n as u64);
+    } else {
+        io::write_all(1, b"-");
+        number_line((-(n as i64)) as u64);
+    }
+}
+
+fn read_i32_le_at(s: &[u8], off: usize) {
+    match util::read_i32_le_at(s, off) {
+        ReadI32::Value(n) => signed_line(n),
+        ReadI32::Nothing => nothing(),
+    }
+}
+
+// The offset is the i32 at the start of `s`.
+fn relative_pointer(base: u64, s: &[u8]) {
+    match util::read_i32_le_at(s, 0) {
+        ReadI32::Value(n) => {
+            io::print_hex(1, util::relative_pointer(base, n), 16);
+            io::write_all(1, b"\n");
+        }
+        ReadI32::Nothing => nothing(),
+    }
+}
+
+fn offset_line(offset: FileOffset) {
+    match offset {
+        FileOffset::At(n) => number_line(n),
+        FileOffset::Nothing => nothing(),
+    }
+}
+
+fn vm_to_file_offset_in(segments: &[u64], vmaddr: u64) {
+    offset_line(util::vm_to_file_offset_in(segments, vmaddr));
+}
+
+fn vm_to_file_offset(segments: &[u64], vmaddr: u64) {
+    offset_line(runtime::vm_to_file_offset(segments, vmaddr));
+}
+
+fn place_fields(place: usize, length: usize) {
+    number_field(place as u64);
+    number_field(length as u64);
+}
+
+fn text_line(text: Text, part: &[u8], again: &[u8]) {
+    match text {
+        Text::At { place, length } => {
+            place_fields(place, length);
+            bytes_line(part, again);
+        }
+        Text::Nothing => no_part(part, again),
+    }
+}
+
+fn read_cstr_at(s: &[u8], off: usize) {
+    let text = util::read_cstr_at(s, off);
+    text_line(text, util::text_part(s, text), util::cstr_at(s, off));
+}
+
+fn read_cstr(image: &[u8], segments: &[u64], vmaddr: u64) {
+    let text = runtime::read_cstr(image, segments, vmaddr);
+    let part = util::text_part(image, text);
+    text_line(text, part, part);
+}
+
+fn read_bytes(image: &[u8], segments: &[u64], vmaddr: u64, length: usize) {
+    let part = runtime::read_bytes(image, segments, vmaddr, length);
+    match runtime::find_bytes(image, segments, vmaddr, length) {
+        Bytes::At(place) => {
+            number_field(place as u64);
+            bytes_line(part, util::part(image, place, length));
+        }
+        Bytes::Nothing => no_part(part, part),
+    }
+}
+
+fn lookup_field_name<'a>(
+    image: &'a [u8],
+    segments: &[u64],
+    strings: &'a [u8],
+    section: u64,
+    vmaddr: u64,
+) {
+    let name = runtime::lookup_field_name(image, segments, strings, section, vmaddr);
+    let part = runtime::field_name_part(image, strings, name);
+    match name {
+        FieldName::Image { place, length } => {
+            io::write_all(1, b"image ");
+            place_fields(place, length);
+            bytes_line(part, util::part(image, place, length));
+        }
+        FieldName::Strings { place, length } => {
+            io::write_all(1, b"strings ");
+            place_fields(place, length);
+            bytes_line(part, util::part(strings, place, length));
+        }
+        FieldName::Nothing => no_part(part, part),
+    }
+}
+
+// From a function's name to its call. The answers are whether the name is known.
+
+fn number_call(name: &[u8], a: u64, bytes: &[u8]) -> bool {
+    if test_lines::same(name, b"read_u16_le_at") {
+        read_u16_le_at(bytes, a as usize);
+        return true;
+    }
+    if test_lines::same(name, b"read_u32_le_at") {
+        read_u32_le_at(bytes, a as usize);
+        return true;
+    }
+    if test_lines::same(name, b"read_u64_le_at") {
+        read_u64_le_at(bytes, a as usize);
+        return true;
+    }
+    if test_lines::same(name, b"read_i32_le_at") {
+        read_i32_le_at(bytes, a as usize);
+        return true;
+    }
+    if test_lines::same(name, b"relative_pointer") {
+        relative_pointer(a, bytes);
+        return true;
+    }
+    if test_lines::same(name, b"read_cstr_at") {
+        read_cstr_at(bytes, a as usize);
+        return true;
+    }
+    false
+}
+
+fn address_call(name: &[u8], a: u64, b: u64, image: &[u8], segments: &[u64]) -> bool {
+    if test_lines::same(name, b"vm_to_file_offset_in") {
+        vm_to_file_offset_in(segments, a);
+        return true;
+    }
+    if test_lines::same(name, b"vm_to_file_offset") {
+        vm_to_file_offset(segments, a);
+        return true;
+    }
+    if test_lines::same(name, b"read_bytes") {
+        read_bytes(image, segments, a, b as usize);
+        return true;
+    }
+    if test_lines::same(name, b"read_cstr") {
+        read_cstr(image, segments, a);
+        return true;
+    }
+    false
+}
+
+fn answer<'a>(
+    name: &[u8],
+    a: u64,
+    b: u64,
+    image: &'a [u8],
+    strings: &'a [u8],
+    segments: &[u64],
+) -> bool {
+    if test_lines::same(name, b"lookup_field_name") {
+        lookup_field_name(image, segments, strings, b, a);
+        return true;
+    }
+    if number_call(name, a, image) {
+        return true;
+    }
+    address_call(name, a, b, image, segments)
+}
+
+fn bad_line() {
+    io::write_all(1, b"bad line\n");
+}
+
+fn run_line(line: &[u8], a: u64, b: u64) {
+    let mut image = [0u8; 1024];
+    let mut strings = [0u8; 1024];
+    let mut segments = [0u64; 64];
+    let Count::Of(bytes) = test_lines::parse_bytes(test_lines::field(line, 3), &mut image) else {
+        bad_line();
+        return;
+    };
+    let Count::Of(names) = test_lines::parse_bytes(test_lines::field(line, 4), &mut strings) else {
+        bad_line();
+        return;
+    };
+    let Count::Of(numbers) = parse_numbers(line, &mut segments) else {
+        bad_line();
+        return;
+    };
+    let known = answer(
+        test_lines::field(line, 0),
+        a,
+        b,
+        util::part(&image, 0, bytes),
+        util::part(&strings, 0, names),
+        test_lines::first(&segments, numbers),
+    );
+    if !known {
+        bad_line();
+    }
+}
+
+fn answer_line(line: &[u8]) {
+    let Number::Value(a) = test_lines::parse_number(test_lines::field(line, 1)) else {
+        bad_line();
+        return;
+    };
+    let Number::Value(b) = test_lines::parse_number(test_lines::field(line, 2)) else {
+        bad_line();
+        return;
+    };
+    run_line(line, a, b);
+}
+
+fn answer_lines(input: &[u8]) {
+    let mut at = 0;
+    while at < input.len() {
+        let end = test_lines::find(input, at, b'\n');
+        answer_line(&input[at..end]);
+        if end == input.len() {
+            return;
+        }
+        at = end + 1;
+    }
+}
+
+fn main() {
+    let mut space = io::large_buffer();
+    let n = io::read_full(0, &mut space);
+    answer_lines(&space[..n]);
+}
