@@ -1,6 +1,6 @@
 //! Both sides timed on the same inputs in one run.
 
-use crate::check::runtime;
+use crate::check::{HEAD, runtime};
 use crate::input::Input;
 use crate::proved;
 use std::hint::black_box;
@@ -149,7 +149,8 @@ fn rows(input: &Input) -> Times {
         || {
             let (mut slot, mut sum) = (0, 0);
             loop {
-                let row = proved::next_row(image, segments, &input.types, input.types_va, slot);
+                let row = proved::next_row(image, segments, &input.types, input.types_va, slot)
+                    .expect("whole segments");
                 if row.there == 0 {
                     return sum;
                 }
@@ -173,7 +174,8 @@ fn listing(input: &Input) -> Times {
         || {
             let (mut slot, mut sum) = (0, 0);
             loop {
-                let row = proved::next_row(image, segments, &input.types, input.types_va, slot);
+                let row = proved::next_row(image, segments, &input.types, input.types_va, slot)
+                    .expect("whole segments");
                 if row.there == 0 {
                     return sum;
                 }
@@ -186,7 +188,7 @@ fn listing(input: &Input) -> Times {
                     row.length,
                     &mut buffer,
                 );
-                sum += black_box(name[1]) as usize;
+                sum += black_box(name.expect("a short name")) as usize;
                 black_box(&buffer);
             }
         },
@@ -205,9 +207,16 @@ fn whole(input: &Input) -> Times {
                 .sum()
         },
         || {
-            let end = proved::listing(image, segments, &input.types, input.types_va, &mut buffer);
+            let listed = proved::listing(
+                image,
+                segments,
+                &input.types,
+                input.types_va,
+                0,
+                &mut buffer,
+            );
             black_box(&buffer);
-            end - 16 * ROWS
+            listed.expect("whole segments").bytes as usize - HEAD * ROWS
         },
     )
 }

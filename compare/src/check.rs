@@ -2,11 +2,15 @@
 
 use crate::input::Input;
 use crate::proved;
+use crate::proved::{Answer, Listed, Refused};
 use darwinscope::swift::{SwiftRuntime, SwiftSection, lookup_field_name};
 use darwinscope::util::{read_cstr_at, vm_to_file_offset_in};
 
 /// The most contexts that a walk gives.
 pub const LIMIT: usize = 256;
+
+/// The bytes of a record before its name.
+pub const HEAD: usize = 32;
 
 /// What a buffer holds before a name is written.
 const PATTERN: u8 = 0xa7;
@@ -24,19 +28,21 @@ pub struct Counts {
     pub too_deep: u64,
     pub listings: u64,
     pub leaves: u64,
+    pub refusals: u64,
 }
 
 impl Counts {
     pub fn line(&self) -> String {
         format!(
-            "{} inputs, {} rows, {} contexts, {} names ({} chains above {LIMIT}), {} listings, {} leaf calls",
+            "{} inputs, {} rows, {} contexts, {} names ({} chains above {LIMIT}), {} listings, {} leaf calls, {} ragged lists",
             self.inputs,
             self.rows,
             self.contexts,
             self.names,
             self.too_deep,
             self.listings,
-            self.leaves
+            self.leaves,
+            self.refusals
         )
     }
 }
@@ -50,6 +56,8 @@ pub struct Checker {
     /// The listing of the Rust's rows, and where each record ends.
     listing: Vec<u8>,
     ends: Vec<usize>,
+    /// A list of segment numbers that is no multiple of four.
+    ragged: Vec<u64>,
 }
 
 pub fn runtime(input: &Input) -> SwiftRuntime<'_> {
@@ -93,7 +101,8 @@ impl Checker {
         self.counts.inputs += 1;
         let rt = runtime(input);
         self.rows(input, &rt)?;
-        self.leaves(input, &rt)
+        self.leaves(input, &rt)?;
+        self.ragged(input)
     }
 
     fn rows(&mut self, input: &Input, rt: &SwiftRuntime<'_>) -> Result<(), String> {
@@ -105,7 +114,7 @@ impl Checker {
         self.listing.clear();
         self.ends.clear();
         for row in rt.types() {
-            let ours = proved::next_row(image, segments, &input.types, input.types_va, slot);
+            let ours = proved::next_row(image, segments, &input.types, input.types_va, slot)?;
             same!(1, ours.there, "row {number} is there");
             same!(row.address(), ours.address, "row {number}, address");
             same!(u64::from(row.flags().0), ours.flags, "row {number}, flags");
@@ -136,7 +145,7 @@ impl Checker {
             number += 1;
             self.counts.rows += 1;
         }
-        let end = proved::next_row(image, segments, &input.types, input.types_va, slot);
+        let end = proved::next_row(image, segments, &input.types, input.types_va, slot)?;
         same!(0, end.there, "row {number} is there");
         self.starts(input)?;
         self.listings(input)
@@ -153,7 +162,7 @@ impl Checker {
                 &input.types,
                 input.types_va,
                 start,
-            );
+            )?;
             same!(
                 rust,
                 (ours.there == 1).then_some(ours.slot),
@@ -163,9 +172,11 @@ impl Checker {
         Ok(())
     }
 
-    /// The listing of the section, in buffers that hold all of it, and only a part.
+    /// The listing of the section, in buffers that hold all of it and only a part, from the first slot and from others; and going on in
+    /// buffers for one record at a time.
     fn listings(&mut self, input: &Input) -> Result<(), String> {
         let whole = self.listing.len();
+        let slots = input.types.len() / 4;
         let sizes = [
             Some(0),
             Some(whole / 2),
@@ -174,31 +185,109 @@ impl Checker {
             Some(whole + 9),
         ];
         for size in sizes.into_iter().flatten() {
-            self.counts.listings += 1;
-            // Records are written up to the first that does not fit.
-            let fitting = self.ends.iter().copied().take_while(|&end| end <= size);
-            let length = fitting.last().unwrap_or(0);
+            self.listing_from(input, 0, size)?;
+        }
+        for start in [slots / 2, slots, slots + 3, usize::MAX] {
+            self.listing_from(input, start, whole)?;
+        }
+        let starts = [0].iter().chain(&self.ends);
+        let largest = self.ends.iter().zip(starts).map(|(end, start)| end - start);
+        let size = largest.max().unwrap_or(0);
+        let mut start = 0;
+        loop {
+            let listed = self.listing_from(input, start, size)?;
+            if listed.all == 1 {
+                return Ok(());
+            }
+            same!(true, listed.bytes > 0, "the row of slot {start} fits");
+            start = listed.next as usize;
+        }
+    }
+
+    /// The records from a slot on into so many bytes.
+    fn listing_from(&mut self, input: &Input, start: usize, size: usize) -> Result<Listed, String> {
+        self.counts.listings += 1;
+        // Records are written up to the first that does not fit.
+        let first = self.slots.partition_point(|&slot| slot < start as u64);
+        let begin = if first == 0 { 0 } else { self.ends[first - 1] };
+        let fitting = self.ends[first..]
+            .iter()
+            .take_while(|&&end| end - begin <= size);
+        let given = first + fitting.count();
+        let end = if given == 0 { 0 } else { self.ends[given - 1] };
+        let records = &self.listing[begin..end];
+        let past = (input.types.len() / 4).max(start) as u64;
+        let rust = Listed {
+            bytes: records.len() as u64,
+            next: self.slots.get(given).copied().unwrap_or(past),
+            all: u64::from(given == self.slots.len()),
+        };
+        self.buffer.clear();
+        self.buffer.resize(size + 2 * GUARD, PATTERN);
+        let lent = &mut self.buffer[GUARD..GUARD + size];
+        let ours = proved::listing(
+            &input.image,
+            input.numbers(),
+            &input.types,
+            input.types_va,
+            start,
+            lent,
+        )?;
+        same!(&rust, &ours, "listing from slot {start} in {size} bytes");
+        let end = GUARD + records.len();
+        same!(
+            records,
+            &self.buffer[GUARD..end],
+            "records from slot {start} in {size} bytes"
+        );
+        same!(
+            true,
+            self.left_alone(end),
+            "bytes left alone by the listing from slot {start} in {size} bytes"
+        );
+        Ok(ours)
+    }
+
+    /// Lists of segment numbers that are no multiple of four are refused by every call, which changes no number and no byte.
+    fn ragged(&mut self, input: &Input) -> Result<(), String> {
+        let (image, types, va) = (&input.image[..], &input.types[..], input.types_va);
+        let target = input.targets.first().copied().unwrap_or(va);
+        self.ragged.clear();
+        self.ragged.extend_from_slice(input.numbers());
+        for more in 1..4 {
+            self.counts.refusals += 1;
+            self.ragged.push(target);
+            let list = &self.ragged[..];
+            fn of<T>(answer: Answer<T>) -> Option<Refused> {
+                answer.err()
+            }
             self.buffer.clear();
-            self.buffer.resize(size + 2 * GUARD, PATTERN);
-            let lent = &mut self.buffer[GUARD..GUARD + size];
-            let ours = proved::listing(
-                &input.image,
-                input.numbers(),
-                &input.types,
-                input.types_va,
-                lent,
-            );
-            same!(length, ours, "length of the listing in {size} bytes");
-            let end = GUARD + length;
+            self.buffer.resize(64 + 2 * GUARD, PATTERN);
+            let lent = &mut self.buffer[GUARD..GUARD + 64];
+            let strings = &input.strings[..];
+            let ours = [
+                of(proved::file_offset(list, target)),
+                of(proved::field_name(
+                    image,
+                    list,
+                    strings,
+                    input.strings_va,
+                    target,
+                )),
+                of(proved::next_row(image, list, types, va, 0)),
+                of(proved::next_context(image, list, target, 0)),
+                of(proved::qualified_name(image, list, target, 0, 4, lent)),
+                of(proved::listing(image, list, types, va, 0, lent)),
+            ];
             same!(
-                &self.listing[..length],
-                &self.buffer[GUARD..end],
-                "listing in {size} bytes"
+                [Some(Refused(1)); 6],
+                ours,
+                "{more} segment numbers too many"
             );
             same!(
                 true,
-                self.left_alone(end),
-                "bytes left alone by the listing in {size} bytes"
+                self.left_alone(GUARD),
+                "bytes left alone by refused calls"
             );
         }
         Ok(())
@@ -210,10 +299,11 @@ impl Checker {
         left.all(|&b| b == PATTERN)
     }
 
-    /// A row's record: its address, the length of its joined name, and the name; 2^64 - 4 for one that is refused.
-    fn record(&mut self, address: u64, length: u64, name: &[u8]) {
-        self.listing.extend_from_slice(&address.to_le_bytes());
-        self.listing.extend_from_slice(&length.to_le_bytes());
+    /// A row's record: its slot, its address, its flags, the length of its joined name, and the name; 2^64 - 4 for one that is refused.
+    fn record(&mut self, row: &proved::Row, length: u64, name: &[u8]) {
+        for number in [row.slot, row.address, row.flags, length] {
+            self.listing.extend_from_slice(&number.to_le_bytes());
+        }
         self.listing.extend_from_slice(name);
         self.ends.push(self.listing.len());
     }
@@ -230,11 +320,11 @@ impl Checker {
         let mut address = row.parent_address();
         let mut given = 0;
         for context in row.parent().take(LIMIT + 1) {
-            let ours = proved::next_context(image, segments, address, given);
+            let ours = proved::next_context(image, segments, address, given)?;
             if given == LIMIT {
                 same!(0, ours.there, "row {number}, a context after {LIMIT}");
                 // It can be read: a walk that starts there has it.
-                let read = proved::next_context(image, segments, address, 0);
+                let read = proved::next_context(image, segments, address, 0)?;
                 same!(1, read.there, "row {number}, the context after {LIMIT}");
                 return Ok(LIMIT + 1);
             }
@@ -264,7 +354,7 @@ impl Checker {
             address = ours.next;
             self.counts.contexts += 1;
         }
-        let end = proved::next_context(image, segments, address, given);
+        let end = proved::next_context(image, segments, address, given)?;
         same!(0, end.there, "row {number}, context {given} is there");
         Ok(given)
     }
@@ -280,15 +370,15 @@ impl Checker {
     ) -> Result<(), String> {
         if depth > LIMIT {
             self.counts.too_deep += 1;
-            self.record(row.address(), 4u64.wrapping_neg(), &[]);
+            self.record(ours, 4u64.wrapping_neg(), &[]);
             for size in [64, 0] {
-                self.name(input, number, ours, size, &[], [4, 0])?;
+                self.name(input, number, ours, size, &[], Err(Refused(4)))?;
             }
             return Ok(());
         }
         let name = row.qualified_name();
         let length = name.len();
-        self.record(row.address(), length as u64, name.as_bytes());
+        self.record(ours, length as u64, name.as_bytes());
         let sizes = [
             Some(0),
             Some(length / 2),
@@ -298,9 +388,9 @@ impl Checker {
         ];
         for size in sizes.into_iter().flatten() {
             let answer = if size < length {
-                [3, 0]
+                Err(Refused(3))
             } else {
-                [1, length as u64]
+                Ok(length as u64)
             };
             let written = if size < length { "" } else { &name };
             self.name(input, number, ours, size, written.as_bytes(), answer)?;
@@ -315,7 +405,7 @@ impl Checker {
         row: &proved::Row,
         size: usize,
         written: &[u8],
-        answer: [u64; 2],
+        answer: Answer<u64>,
     ) -> Result<(), String> {
         self.counts.names += 1;
         self.buffer.clear();
@@ -354,7 +444,7 @@ impl Checker {
             let rust = rust.map_or([0, 0], |off| [1, off]);
             same!(
                 rust,
-                proved::file_offset(segments, target),
+                proved::file_offset(segments, target)?,
                 "translation of {target:x}"
             );
             let name = lookup_field_name(rt, target);
@@ -364,7 +454,7 @@ impl Checker {
                 &input.strings,
                 input.strings_va,
                 target,
-            );
+            )?;
             same!(field_numbers(input, name), ours, "field name at {target:x}");
             self.text(
                 &input.image,
@@ -380,7 +470,7 @@ impl Checker {
     pub fn text(&mut self, data: &[u8], off: usize) -> Result<(), String> {
         let rust = read_cstr_at(data, off).map(|t| place_in(data, t));
         let rust = rust.map_or([0, 0, 0], |(place, length)| [1, place, length]);
-        same!(rust, proved::text(data, off), "text at {off:x}");
+        same!(rust, proved::text(data, off)?, "text at {off:x}");
         self.counts.leaves += 1;
         Ok(())
     }

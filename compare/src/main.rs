@@ -3,14 +3,16 @@
 mod bench;
 mod check;
 mod exhaustive;
+mod flags;
 mod generate;
 mod input;
 mod proved;
 mod sample;
 mod shrink;
+mod util_calls;
 
 use check::Checker;
-use generate::Generator;
+use generate::{Generator, Rng};
 use input::Input;
 use std::time::Instant;
 
@@ -29,6 +31,14 @@ pub fn report(input: &Input, what: &str) -> ! {
         println!("{}", small.line());
     }
     std::process::exit(1);
+}
+
+/// What the readers and flag words compared by themselves told: how many calls, or a difference, which ends the run.
+fn told(calls: Result<u64, String>) -> u64 {
+    calls.unwrap_or_else(|what| {
+        println!("difference: {what}");
+        std::process::exit(1);
+    })
 }
 
 fn number(args: &[String], name: &str) -> Option<u64> {
@@ -56,6 +66,7 @@ fn run(args: &[String]) {
     let mut checker = Checker::default();
     let mut generator = Generator::default();
     let mut input = Input::default();
+    let mut words = 0;
     for i in 0..count {
         if i % 4096 == 0 && seconds.is_some_and(|s| start.elapsed().as_secs() >= s) {
             break;
@@ -64,10 +75,12 @@ fn run(args: &[String]) {
         if let Err(what) = checker.input(&input) {
             report(&input, &format!("seed {seed}, number {i}: {what}"));
         }
+        let mut rng = Rng::new(!seed, i);
+        words += told(util_calls::seeded(&mut rng, &input)) + told(flags::seeded(&mut rng));
     }
     let time = start.elapsed().as_secs_f64();
     println!(
-        "seed {seed}: {}; no difference; {time:.1} s",
+        "seed {seed}: {}, {words} calls on numbers and flag words; no difference; {time:.1} s",
         checker.counts.line()
     );
 }
@@ -76,7 +89,13 @@ fn main() {
     let args: Vec<String> = std::env::args().skip(1).collect();
     match args.first().map(String::as_str) {
         Some("run") => run(&args[1..]),
-        Some("exhaustive") => exhaustive::run(args.iter().any(|a| a == "--few")),
+        Some("exhaustive") => {
+            let start = Instant::now();
+            let calls = told(util_calls::exhaustive()) + told(flags::exhaustive());
+            let time = start.elapsed().as_secs_f64();
+            println!("exhaustive: {calls} calls on numbers and flag words; no difference; {time:.1} s");
+            exhaustive::run(args.iter().any(|a| a == "--few"));
+        }
         Some("one") => match args.get(1).and_then(|line| Input::of_line(line)) {
             Some(input) => match Checker::default().input(&input) {
                 Ok(()) => println!("no difference"),

@@ -2,8 +2,13 @@
 
 #[link(name = "exports", kind = "static")]
 unsafe extern "C" {
-    fn hodrupec_file_offset(segments: *const u64, count: usize, vmaddr: u64, out: &mut [u64; 2]);
-    fn hodrupec_text(data: *const u8, len: usize, off: usize, out: &mut [u64; 3]);
+    fn hodrupec_file_offset(
+        segments: *const u64,
+        count: usize,
+        vmaddr: u64,
+        out: &mut [u64; 2],
+    ) -> u64;
+    fn hodrupec_text(data: *const u8, len: usize, off: usize, out: &mut [u64; 3]) -> u64;
     fn hodrupec_field_name(
         image: *const u8,
         image_len: usize,
@@ -14,7 +19,7 @@ unsafe extern "C" {
         vmaddr: u64,
         target_va: u64,
         out: &mut [u64; 3],
-    );
+    ) -> u64;
     fn hodrupec_next_row(
         image: *const u8,
         image_len: usize,
@@ -25,7 +30,7 @@ unsafe extern "C" {
         vmaddr: u64,
         slot: usize,
         out: &mut [u64; 8],
-    );
+    ) -> u64;
     fn hodrupec_next_context(
         image: *const u8,
         image_len: usize,
@@ -34,7 +39,7 @@ unsafe extern "C" {
         descriptor_va: u64,
         given: usize,
         out: &mut [u64; 8],
-    );
+    ) -> u64;
     fn hodrupec_qualified_name(
         image: *const u8,
         image_len: usize,
@@ -45,8 +50,8 @@ unsafe extern "C" {
         name_length: usize,
         buffer: *mut u8,
         buffer_len: usize,
-        out: &mut [u64; 2],
-    );
+        out: &mut [u64; 1],
+    ) -> u64;
     fn hodrupec_listing(
         image: *const u8,
         image_len: usize,
@@ -55,24 +60,57 @@ unsafe extern "C" {
         types: *const u8,
         types_len: usize,
         vmaddr: u64,
+        start: usize,
         buffer: *mut u8,
         buffer_len: usize,
-    ) -> usize;
+        out: &mut [u64; 3],
+    ) -> u64;
 }
 
 /// What an array holds before a call, so that a number left unwritten shows.
 const UNWRITTEN: u64 = 0x5a5a_a5a5_0ff0_1234;
 
-pub fn file_offset(segments: &[u64], vmaddr: u64) -> [u64; 2] {
-    let mut out = [UNWRITTEN; 2];
-    unsafe { hodrupec_file_offset(segments.as_ptr(), segments.len(), vmaddr, &mut out) };
-    out
+/// The number of a refusal; `TOUCHED` for one that has changed a number of the lent array.
+#[derive(Clone, Copy, Debug, PartialEq)]
+pub struct Refused(pub u64);
+
+const TOUCHED: u64 = u64::MAX;
+
+impl From<Refused> for String {
+    fn from(refused: Refused) -> String {
+        format!("refused with {}", refused.0)
+    }
 }
 
-pub fn text(data: &[u8], off: usize) -> [u64; 3] {
+pub type Answer<T> = Result<T, Refused>;
+
+/// The refusal of a call with this status, which must have left the lent array as it was.
+#[cold]
+fn refusal(status: u64, out: &[u64]) -> Refused {
+    if out.iter().all(|&n| n == UNWRITTEN) {
+        Refused(status)
+    } else {
+        Refused(TOUCHED)
+    }
+}
+
+pub fn file_offset(segments: &[u64], vmaddr: u64) -> Answer<[u64; 2]> {
+    let mut out = [UNWRITTEN; 2];
+    let status =
+        unsafe { hodrupec_file_offset(segments.as_ptr(), segments.len(), vmaddr, &mut out) };
+    if status != 0 {
+        return Err(refusal(status, &out));
+    }
+    Ok(out)
+}
+
+pub fn text(data: &[u8], off: usize) -> Answer<[u64; 3]> {
     let mut out = [UNWRITTEN; 3];
-    unsafe { hodrupec_text(data.as_ptr(), data.len(), off, &mut out) };
-    out
+    let status = unsafe { hodrupec_text(data.as_ptr(), data.len(), off, &mut out) };
+    if status != 0 {
+        return Err(refusal(status, &out));
+    }
+    Ok(out)
 }
 
 pub fn field_name(
@@ -81,9 +119,9 @@ pub fn field_name(
     strings: &[u8],
     vmaddr: u64,
     target_va: u64,
-) -> [u64; 3] {
+) -> Answer<[u64; 3]> {
     let mut out = [UNWRITTEN; 3];
-    unsafe {
+    let status = unsafe {
         hodrupec_field_name(
             image.as_ptr(),
             image.len(),
@@ -96,10 +134,14 @@ pub fn field_name(
             &mut out,
         )
     };
-    out
+    if status != 0 {
+        return Err(refusal(status, &out));
+    }
+    Ok(out)
 }
 
 /// The next row from a slot on.
+#[derive(Debug, PartialEq)]
 pub struct Row {
     pub there: u64,
     pub slot: u64,
@@ -112,9 +154,15 @@ pub struct Row {
 }
 
 #[inline]
-pub fn next_row(image: &[u8], segments: &[u64], types: &[u8], vmaddr: u64, slot: usize) -> Row {
+pub fn next_row(
+    image: &[u8],
+    segments: &[u64],
+    types: &[u8],
+    vmaddr: u64,
+    slot: usize,
+) -> Answer<Row> {
     let mut out = [UNWRITTEN; 8];
-    unsafe {
+    let status = unsafe {
         hodrupec_next_row(
             image.as_ptr(),
             image.len(),
@@ -127,8 +175,11 @@ pub fn next_row(image: &[u8], segments: &[u64], types: &[u8], vmaddr: u64, slot:
             &mut out,
         )
     };
+    if status != 0 {
+        return Err(refusal(status, &out));
+    }
     let [there, slot, next, address, flags, parent, place, length] = out;
-    Row {
+    Ok(Row {
         there,
         slot,
         next,
@@ -137,10 +188,11 @@ pub fn next_row(image: &[u8], segments: &[u64], types: &[u8], vmaddr: u64, slot:
         parent,
         place,
         length,
-    }
+    })
 }
 
 /// One step of a walk up the contexts.
+#[derive(Debug, PartialEq)]
 pub struct Context {
     pub there: u64,
     pub address: u64,
@@ -153,9 +205,14 @@ pub struct Context {
 }
 
 #[inline]
-pub fn next_context(image: &[u8], segments: &[u64], descriptor_va: u64, given: usize) -> Context {
+pub fn next_context(
+    image: &[u8],
+    segments: &[u64],
+    descriptor_va: u64,
+    given: usize,
+) -> Answer<Context> {
     let mut out = [UNWRITTEN; 8];
-    unsafe {
+    let status = unsafe {
         hodrupec_next_context(
             image.as_ptr(),
             image.len(),
@@ -166,8 +223,11 @@ pub fn next_context(image: &[u8], segments: &[u64], descriptor_va: u64, given: u
             &mut out,
         )
     };
+    if status != 0 {
+        return Err(refusal(status, &out));
+    }
     let [there, address, flags, next, given, named, place, length] = out;
-    Context {
+    Ok(Context {
         there,
         address,
         flags,
@@ -176,10 +236,10 @@ pub fn next_context(image: &[u8], segments: &[u64], descriptor_va: u64, given: u
         named,
         place,
         length,
-    }
+    })
 }
 
-/// `[1, length]`, or `[refusal, 0]`.
+/// The length of the joined name that is in the buffer.
 #[inline]
 pub fn qualified_name(
     image: &[u8],
@@ -188,9 +248,9 @@ pub fn qualified_name(
     place: u64,
     length: u64,
     buffer: &mut [u8],
-) -> [u64; 2] {
-    let mut out = [UNWRITTEN; 2];
-    unsafe {
+) -> Answer<u64> {
+    let mut out = [UNWRITTEN; 1];
+    let status = unsafe {
         hodrupec_qualified_name(
             image.as_ptr(),
             image.len(),
@@ -204,19 +264,32 @@ pub fn qualified_name(
             &mut out,
         )
     };
-    out
+    if status != 0 {
+        return Err(refusal(status, &out));
+    }
+    let [length] = out;
+    Ok(length)
 }
 
-/// How many bytes the listing of the section has in the buffer.
+/// How many bytes the listing of the section from a slot on has in the buffer, the slot to go on from, and 1 if all rows are given.
+#[derive(Debug, PartialEq)]
+pub struct Listed {
+    pub bytes: u64,
+    pub next: u64,
+    pub all: u64,
+}
+
 #[inline]
 pub fn listing(
     image: &[u8],
     segments: &[u64],
     types: &[u8],
     vmaddr: u64,
+    start: usize,
     buffer: &mut [u8],
-) -> usize {
-    unsafe {
+) -> Answer<Listed> {
+    let mut out = [UNWRITTEN; 3];
+    let status = unsafe {
         hodrupec_listing(
             image.as_ptr(),
             image.len(),
@@ -225,8 +298,15 @@ pub fn listing(
             types.as_ptr(),
             types.len(),
             vmaddr,
+            start,
             buffer.as_mut_ptr(),
             buffer.len(),
+            &mut out,
         )
+    };
+    if status != 0 {
+        return Err(refusal(status, &out));
     }
+    let [bytes, next, all] = out;
+    Ok(Listed { bytes, next, all })
 }

@@ -1,0 +1,214 @@
+//! The readers of src/util.rs that the Swift reader does not call: LEB128, big-endian numbers, fixed texts, addresses of offsets.
+
+use crate::generate::Rng;
+use crate::input::Input;
+use darwinscope::util::{
+    cstr_from_fixed, file_offset_to_vm_in, read_sleb128, read_u32_be_at, read_u64_be_at,
+    read_uleb128,
+};
+
+unsafe extern "C" {
+    fn hodrupec_uleb128(bytes: *const u8, len: usize, out: &mut [u64; 3]) -> u64;
+    fn hodrupec_sleb128(bytes: *const u8, len: usize, out: &mut [u64; 3]) -> u64;
+    fn hodrupec_u32_be(data: *const u8, len: usize, off: usize, out: &mut [u64; 2]) -> u64;
+    fn hodrupec_u64_be(data: *const u8, len: usize, off: usize, out: &mut [u64; 2]) -> u64;
+    fn hodrupec_fixed_text(bytes: *const u8, len: usize, out: &mut [u64; 2]) -> u64;
+    fn hodrupec_vm_address(
+        segments: *const u64,
+        count: usize,
+        offset: u64,
+        out: &mut [u64; 2],
+    ) -> u64;
+}
+
+/// What an array holds before a call, so that a number left unwritten shows.
+const UNWRITTEN: u64 = 0x5a5a_a5a5_0ff0_1234;
+
+/// Compares the Rust's answer with the status and the numbers of a proved call; tells of them where they differ.
+macro_rules! same {
+    ($rust:expr, $status:expr, $out:expr, $($what:tt)*) => {{
+        let (rust, proved) = (($rust), ($status, $out));
+        if (0, rust) != proved {
+            return Err(format!("{}: the Rust {:x?}, proved {:x?}", format!($($what)*), rust, proved));
+        }
+    }};
+}
+
+fn leb(bytes: &[u8]) -> Result<(), String> {
+    let mut out = [UNWRITTEN; 3];
+    let status = unsafe { hodrupec_uleb128(bytes.as_ptr(), bytes.len(), &mut out) };
+    let rust = read_uleb128(bytes).map_or([0; 3], |(n, used)| [1, n, used as u64]);
+    same!(rust, status, out, "uleb128 {bytes:02x?}");
+    let mut out = [UNWRITTEN; 3];
+    let status = unsafe { hodrupec_sleb128(bytes.as_ptr(), bytes.len(), &mut out) };
+    let rust = read_sleb128(bytes).map_or([0; 3], |(n, used)| [1, n as u64, used as u64]);
+    same!(rust, status, out, "sleb128 {bytes:02x?}");
+    Ok(())
+}
+
+fn big_endian(data: &[u8], off: usize) -> Result<(), String> {
+    let mut out = [UNWRITTEN; 2];
+    let status = unsafe { hodrupec_u32_be(data.as_ptr(), data.len(), off, &mut out) };
+    let rust = read_u32_be_at(data, off).map_or([0; 2], |n| [1, u64::from(n)]);
+    same!(rust, status, out, "u32 at {off} of {data:02x?}");
+    let mut out = [UNWRITTEN; 2];
+    let status = unsafe { hodrupec_u64_be(data.as_ptr(), data.len(), off, &mut out) };
+    let rust = read_u64_be_at(data, off).map_or([0; 2], |n| [1, n]);
+    same!(rust, status, out, "u64 at {off} of {data:02x?}");
+    Ok(())
+}
+
+fn fixed<const N: usize>(bytes: &[u8; N]) -> Result<(), String> {
+    let mut out = [UNWRITTEN; 2];
+    let status = unsafe { hodrupec_fixed_text(bytes.as_ptr(), N, &mut out) };
+    let text = cstr_from_fixed(bytes);
+    if !bytes.starts_with(text.as_bytes()) {
+        return Err(format!("fixed text {bytes:02x?}: no prefix in the Rust"));
+    }
+    same!(
+        [1, text.len() as u64],
+        status,
+        out,
+        "fixed text {bytes:02x?}"
+    );
+    Ok(())
+}
+
+fn vm_address(segments: &[[u64; 4]], offset: u64) -> Result<(), String> {
+    let numbers = segments.as_flattened();
+    let mut out = [UNWRITTEN; 2];
+    let status = unsafe { hodrupec_vm_address(numbers.as_ptr(), numbers.len(), offset, &mut out) };
+    let list = segments.iter().map(|s| (s[0], s[1], s[2], s[3]));
+    let rust = file_offset_to_vm_in(list, offset).map_or([0; 2], |v| [1, v]);
+    same!(
+        rust,
+        status,
+        out,
+        "address of offset {offset:x} in {segments:x?}"
+    );
+    Ok(())
+}
+
+/// A count of numbers that is no multiple of four is refused, and the answer's numbers are left as they were.
+fn ragged(numbers: &[u64], offset: u64) -> Result<(), String> {
+    let mut out = [UNWRITTEN; 2];
+    let status = unsafe { hodrupec_vm_address(numbers.as_ptr(), numbers.len(), offset, &mut out) };
+    if (status, out) != (1, [UNWRITTEN; 2]) {
+        return Err(format!("{} numbers: {status} {out:x?}", numbers.len()));
+    }
+    Ok(())
+}
+
+/// LEB128 of up to three bytes; and of nine that go on, each of them the same, with all tenth and eleventh bytes and some twelfth.
+pub fn exhaustive() -> Result<u64, String> {
+    let mut calls = 0;
+    leb(&[])?;
+    for a in 0..=255u8 {
+        leb(&[a])?;
+        for b in 0..=255u8 {
+            leb(&[a, b])?;
+            for c in 0..=255u8 {
+                leb(&[a, b, c])?;
+            }
+        }
+    }
+    calls += 2 * (1 + 256 + 65_536 + 16_777_216);
+    for first in [0x80, 0x81, 0xbf, 0xc0, 0xff] {
+        let mut bytes = [first; 12];
+        for len in 0..=12 {
+            leb(&bytes[..len])?;
+            calls += 2;
+        }
+        for tenth in 0..=255 {
+            bytes[9] = tenth;
+            leb(&bytes[..10])?;
+            for eleventh in 0..=255 {
+                bytes[10] = eleventh;
+                leb(&bytes[..11])?;
+                for twelfth in [0x00, 0x7f, 0x80] {
+                    bytes[11] = twelfth;
+                    leb(&bytes)?;
+                }
+                calls += 8;
+            }
+        }
+    }
+    for count in 1..12 {
+        if count % 4 != 0 {
+            ragged(&[7; 12][..count], 7)?;
+            calls += 1;
+        }
+    }
+    Ok(calls)
+}
+
+/// One of a few bytes, or any.
+fn pick(rng: &mut Rng, few: &[u8]) -> u8 {
+    let at = rng.below(few.len() + 2);
+    few.get(at).copied().unwrap_or_else(|| rng.next() as u8)
+}
+
+/// One round of calls for a seeded input, whose segments it uses.
+pub fn seeded(rng: &mut Rng, input: &Input) -> Result<u64, String> {
+    let mut bytes = [0; 24];
+    let len = rng.below(13);
+    for b in &mut bytes[..len] {
+        *b = pick(rng, &[0, 0x7f, 0x01, 0x02, 0x3f, 0x40, 0x41]);
+        if rng.below(6) != 0 {
+            *b |= 0x80;
+        }
+    }
+    leb(&bytes[..len])?;
+
+    for b in &mut bytes {
+        *b = pick(rng, &[0, 0xff, 0x80, 0x7f]);
+    }
+    let len = rng.below(25);
+    let off = match rng.below(8) {
+        0 => usize::MAX - rng.below(9),
+        _ => rng.below(26),
+    };
+    big_endian(&bytes[..len], off)?;
+
+    // Mostly ASCII and whole sequences of two to four bytes, and a NUL in every second text.
+    const PIECES: [&[u8]; 8] = [
+        b"_",
+        b"__TEXT",
+        b"a",
+        &[0xc3, 0xa9],
+        "€".as_bytes(),
+        "😀".as_bytes(),
+        &[0xff],
+        &[0xe2, 0x82],
+    ];
+    let mut text = [b'n'; 16];
+    let mut at = 0;
+    while at < 16 {
+        let kinds = if rng.below(8) == 0 { 8 } else { 6 };
+        let piece = PIECES[rng.below(kinds)];
+        let end = 16.min(at + piece.len());
+        text[at..end].copy_from_slice(&piece[..end - at]);
+        at = end;
+    }
+    if rng.below(2) == 0 {
+        text[rng.below(16)] = 0;
+    }
+    fixed(&text)?;
+    fixed::<5>(text.first_chunk().unwrap())?;
+    fixed::<1>(text.first_chunk().unwrap())?;
+    fixed::<0>(text.first_chunk().unwrap())?;
+
+    let mut calls = 8;
+    if let Some(&s) = input.segments.get(rng.below(input.segments.len().max(1))) {
+        let size = s[1].min(s[3]);
+        for near in [s[2], s[2].wrapping_add(size), rng.next()] {
+            let offset = near.wrapping_add(rng.below(5) as u64).wrapping_sub(2);
+            vm_address(&input.segments, offset)?;
+            calls += 1;
+        }
+    } else {
+        vm_address(&input.segments, rng.next())?;
+        calls += 1;
+    }
+    Ok(calls)
+}
