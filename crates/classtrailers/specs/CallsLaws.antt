@@ -86,9 +86,6 @@ pub no-row : (n : ℕ) (t : Trailing) → 11 ≤ n → false ≡ rowAt n .there 
 unfolding rowAt
 no-row n t h = rw (List·getD-eq-default table (plain BlockKind.Generic (λ _. false) 0 Block.Generic) h)
 
-pub last-row : (n : ℕ) → 10 ≤ n → n < 11 → n ≡ 10
-last-row n h l = omega arith
-
 -- the case of a list of entries
 pub entries-say : (image segments : List ℕ) (r : Row) (a : ℕ) (b : ℕ → ℕ → Block) {x y : Entries} → Says image segments r a (blockOf b x) → x ≡ y
     → Says image segments r a (blockOf b y)
@@ -110,6 +107,11 @@ module _ (image segments : List ℕ) (a : ℕ) (x : BlockAt) where
   pub superclass-says : Unread (Block.ResilientSuperclass a) (a + 4) x → Says image segments (rowAt 1) a x
   unfolding rowAt
   superclass-says u = unread-says image segments (rowAt 1) refl refl a x u
+
+  -- a number that no row has
+  pub no-row-says : (n : ℕ) → 11 ≤ n → Unread (Block.Generic a) (a + 0) x → Says image segments (rowAt n) a x
+  unfolding rowAt
+  no-row-says n h u = rw (List·getD-eq-default table (plain BlockKind.Generic (λ _. false) 0 Block.Generic) {n = n} h) (unread-says image segments (plain BlockKind.Generic (λ _. false) 0 Block.Generic) refl refl a x u)
 
   pub foreign-says : Unread (Block.ForeignMetadataInit a) (a + 4) x → Says image segments (rowAt 2) a x
   unfolding rowAt

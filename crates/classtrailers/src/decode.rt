@@ -1,6 +1,6 @@
 // What the blocks say at an address. A header is read once, as its bytes of the image.
 ghost use mathlib.Core.Path.{_≡_};
-ghost use Prim.Native.Nat.{_+_, _*_, _≤_, _<_};
+ghost use Prim.Native.Nat.{_+_, _*_, _≤_};
 ghost use Rattle.classtrailers.specs.Blocks.{rowAt};
 ghost use Rattle.classtrailers.specs.Calls.{Says, Unread, Listed, below, endOf};
 use crate::block::Block;
@@ -173,7 +173,6 @@ fn default_overrides_at(image: &[u8], segments: &[u64], at: u64) -> BlockAt
 
 // The block with this number of the order, at an address.
 pub fn block_at(image: &[u8], segments: &[u64], row: u32, at: u64) -> BlockAt
-    requires { ⌜ row < 11 ⌝ }
     ensures { λ r. ⌜ Says (now (image .entry)) (now (segments .entry)) (rowAt row) at r ⌝ }
 {
     match row {
@@ -187,6 +186,8 @@ pub fn block_at(image: &[u8], segments: &[u64], row: u32, at: u64) -> BlockAt
         7 => prespecializations_at(image, segments, at),
         8 => invertible_at(image, segments, at),
         9 => unread(Block::SingletonMetadataPointer(at), at, 4),
-        _ => default_overrides_at(image, segments, at),
+        10 => default_overrides_at(image, segments, at),
+        // No block has another number: as the definition has it, an empty one.
+        _ => unread(Block::Generic(at), at, 0),
     }
 }

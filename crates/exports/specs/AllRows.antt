@@ -1,3 +1,4 @@
+-- docs/SPECIFICATION.md, "Calls for C".
 -- The rows from a slot on in a fixed layout: for each row its slot, its address, its flags and the length of its joined name, eight bytes each,
 -- the lowest first, and the name. Records are given as long as they fit into the room that there is.
 use Prim.Native.Nat.{ℕ, _-_, _/_, _%_, _^_, max}

@@ -1,3 +1,4 @@
+-- docs/SPECIFICATION.md, "Calls for C".
 -- The answers of the calls as a status and, in a lent array, numbers of a fixed count. The first number is 0, as are all others, where there is nothing.
 use Prim.Native.Nat.{ℕ}
 use mathlib.Core.Path.{_≡_}

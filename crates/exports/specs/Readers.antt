@@ -1,3 +1,4 @@
+-- docs/SPECIFICATION.md, "Calls for C".
 -- The answers of the readers of numbers, texts and offsets as lists of numbers. The first number is 0, as are all others, where there is nothing.
 use Prim.Native.Nat.{ℕ, _^_}
 use mathlib.Core.List.{List, [], _∷_}

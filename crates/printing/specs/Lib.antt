@@ -4,4 +4,4 @@ pub mod Lines
 pub mod LinesLaws
 pub mod Printed
 pub mod PrintedLaws
-pub mod Prints
+pub mod PrintsLaws

@@ -1,4 +1,4 @@
-pub mod Answers
+pub mod AnswersLaws
 pub mod BigEndian
 pub mod BigEndianLaws
 pub mod Buffer

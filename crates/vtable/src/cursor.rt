@@ -1,7 +1,8 @@
 // Walks over the entries of a table: by value, each step hands the walk back.
 ghost use mathlib.Core.Path.{_≡_};
+ghost use Prim.Native.Nat.{_+_, _^_, _<_};
 ghost use Rattle.util.specs.Mapping.{withMapping, Mapped};
-ghost use Rattle.vtable.specs.Entries.{method, override, defaultOverride, prespecialization, start, entryStep, methodStep, overrideStep, defaultOverrideStep, prespecializationStep};
+ghost use Rattle.vtable.specs.Entries.{method, override, defaultOverride, prespecialization, entryOf, ofMethod, ofOverride, ofDefaultOverride, ofPrespecialization, start, entryStep, methodStep, overrideStep, defaultOverrideStep, prespecializationStep};
 use crate::entry::DEFAULT_OVERRIDE_SIZE;
 use crate::entry::DefaultOverrideEntry;
 use crate::entry::METHOD_SIZE;
@@ -10,12 +11,8 @@ use crate::entry::OverrideEntry;
 use crate::entry::PRESPECIALIZATION_SIZE;
 use crate::entry::PrespecializationEntry;
 use crate::entry::VTableEntry;
-use crate::entry::default_override_entry;
 use crate::entry::entry_address;
 use crate::entry::entry_bytes;
-use crate::entry::override_entry;
-use crate::entry::prespecialization_entry;
-use crate::entry::vtable_entry;
 use util::Around;
 use util::Mapping;
 
@@ -69,6 +66,50 @@ pub enum PrespecializationStep {
         next: EntryCursor,
     },
     End,
+}
+
+// What an entry's bytes say, of each kind. The words of the entry lie below 2^64.
+fn vtable_entry(bytes: &[u8], address: u64) -> VTableEntry
+    requires { ⌜ address + 4 < 2 ^ 64 ⌝ }
+    ensures { λ r. ⌜ ofMethod r ≡ entryOf method address (now (bytes .entry)) ⌝ }
+{
+    VTableEntry {
+        address,
+        flags: util::u32_at(bytes, 0),
+        impl_va: util::address_in(bytes, 4, address + 4),
+    }
+}
+
+fn override_entry(bytes: &[u8], address: u64) -> OverrideEntry
+    requires { ⌜ address + 8 < 2 ^ 64 ⌝ }
+    ensures { λ r. ⌜ ofOverride r ≡ entryOf override address (now (bytes .entry)) ⌝ }
+{
+    OverrideEntry {
+        address,
+        class_va: util::address_in(bytes, 0, address),
+        method_va: util::address_in(bytes, 4, address + 4),
+        impl_va: util::address_in(bytes, 8, address + 8),
+    }
+}
+
+fn default_override_entry(bytes: &[u8], address: u64) -> DefaultOverrideEntry
+    requires { ⌜ address + 4 < 2 ^ 64 ⌝ }
+    ensures { λ r. ⌜ ofDefaultOverride r ≡ entryOf defaultOverride address (now (bytes .entry)) ⌝ }
+{
+    DefaultOverrideEntry {
+        address,
+        method_va: util::address_in(bytes, 0, address),
+        impl_va: util::address_in(bytes, 4, address + 4),
+    }
+}
+
+fn prespecialization_entry(bytes: &[u8], address: u64) -> PrespecializationEntry
+    ensures { λ r. ⌜ ofPrespecialization r ≡ entryOf prespecialization address (now (bytes .entry)) ⌝ }
+{
+    PrespecializationEntry {
+        address,
+        metadata_va: util::address_in(bytes, 0, address),
+    }
 }
 
 impl EntryCursor {

@@ -1,7 +1,7 @@
 ghost use mathlib.Core.Path.{_≡_};
-ghost use Prim.Native.Nat.{_+_, _*_, _%_, _^_, _<_};
+ghost use Prim.Native.Nat.{_+_, _*_, _%_, _^_};
 ghost use Rattle.util.specs.Mapping.{withMapping};
-ghost use Rattle.vtable.specs.Entries.{method, override, defaultOverride, prespecialization, entryOf, entryBytes, ofMethod, ofOverride, ofDefaultOverride, ofPrespecialization};
+ghost use Rattle.vtable.specs.Entries.{entryBytes};
 use util::Mapping;
 
 // One entry of each kind: its address, and what its words say. A relative pointer of offset 0 gives address 0.
@@ -68,48 +68,4 @@ pub fn entry_bytes<'a>(
         return &image[..0];
     }
     runtime::read_bytes_near(image, segments, mapping, address, size as usize)
-}
-
-// What an entry's bytes say, of each kind. The words of the entry lie below 2^64.
-pub fn vtable_entry(bytes: &[u8], address: u64) -> VTableEntry
-    requires { ⌜ address + 4 < 2 ^ 64 ⌝ }
-    ensures { λ r. ⌜ ofMethod r ≡ entryOf method address (now (bytes .entry)) ⌝ }
-{
-    VTableEntry {
-        address,
-        flags: util::u32_at(bytes, 0),
-        impl_va: util::address_in(bytes, 4, address + 4),
-    }
-}
-
-pub fn override_entry(bytes: &[u8], address: u64) -> OverrideEntry
-    requires { ⌜ address + 8 < 2 ^ 64 ⌝ }
-    ensures { λ r. ⌜ ofOverride r ≡ entryOf override address (now (bytes .entry)) ⌝ }
-{
-    OverrideEntry {
-        address,
-        class_va: util::address_in(bytes, 0, address),
-        method_va: util::address_in(bytes, 4, address + 4),
-        impl_va: util::address_in(bytes, 8, address + 8),
-    }
-}
-
-pub fn default_override_entry(bytes: &[u8], address: u64) -> DefaultOverrideEntry
-    requires { ⌜ address + 4 < 2 ^ 64 ⌝ }
-    ensures { λ r. ⌜ ofDefaultOverride r ≡ entryOf defaultOverride address (now (bytes .entry)) ⌝ }
-{
-    DefaultOverrideEntry {
-        address,
-        method_va: util::address_in(bytes, 0, address),
-        impl_va: util::address_in(bytes, 4, address + 4),
-    }
-}
-
-pub fn prespecialization_entry(bytes: &[u8], address: u64) -> PrespecializationEntry
-    ensures { λ r. ⌜ ofPrespecialization r ≡ entryOf prespecialization address (now (bytes .entry)) ⌝ }
-{
-    PrespecializationEntry {
-        address,
-        metadata_va: util::address_in(bytes, 0, address),
-    }
 }

@@ -1,7 +1,7 @@
 -- `list::print_from` meets its contract: the space has room for one byte more than a bundle.
 -- Assumes nothing.
 use native.Mathlib.Omega.{arith}
-use Rattle.util.specs.Answers.{case}
+use Rattle.util.specs.AnswersLaws.{case}
 use Rattle.list.specs.Input.{Came}
 use borrow.Author.Needs.{needs}
 use Rattle.list.proofs.print_from.Statement.{statement}

@@ -8,7 +8,7 @@ use denote.Ref.{now}
 use Rattle.bundle.specs.Parts.{segmentNumbersMost}
 use Rattle.printing.specs.Printed.{pendingOf}
 use lib.Seq.{length-take-le}
-use Rattle.printing.specs.Prints.{numbers-whole, numbers-fit, numbers-lent, all-lines}
+use Rattle.printing.specs.PrintsLaws.{numbers-whole, numbers-fit, numbers-lent, all-lines}
 use borrow.Author.Needs.{needs}
 use Rattle.list.proofs.print_listing.Statement.{statement}
 use Rattle.list.proofs.print_listing.Tie as tie

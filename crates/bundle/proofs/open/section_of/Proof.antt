@@ -1,7 +1,7 @@
 -- `bundle::open::section_of` meets its contract: the address is read, as a body within the bytes has one.
 -- Assumes nothing.
 use native.Mathlib.Omega.{arith}
-use Rattle.util.specs.Answers.{told}
+use Rattle.util.specs.AnswersLaws.{told}
 use Rattle.util.specs.LittleEndian.{u64Value}
 use Rattle.util.specs.LittleEndianLaws.{little-beyond}
 use Rattle.bundle.specs.OpenLaws.{section-there, section-missing}

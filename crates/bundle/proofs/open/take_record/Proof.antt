@@ -2,7 +2,7 @@
 -- Assumes nothing.
 use native.Mathlib.Omega.{arith}
 use mathlib.Core.Path.{sym, _∙_}
-use Rattle.util.specs.Answers.{told}
+use Rattle.util.specs.AnswersLaws.{told}
 use Rattle.util.specs.LittleEndian.{u16Value, u32Value}
 use Rattle.util.specs.LittleEndianLaws.{little-within, little-beyond}
 use Rattle.bundle.specs.OpenLaws.{take-past, take-cut, take-other, take-unfit, take-there}

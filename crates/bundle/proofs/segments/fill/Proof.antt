@@ -4,7 +4,7 @@ use borrow.Author.Needs.{needs}
 use native.Mathlib.Omega.{arith}
 use Prim.Native.Nat.{_-_, _/_}
 use lib.ListN.{length-set}
-use Rattle.util.specs.Answers.{told}
+use Rattle.util.specs.AnswersLaws.{told}
 use Rattle.bundle.specs.Parts.{segmentBytes, segmentOf, segmentNumbersMost}
 use Rattle.bundle.specs.PartsLaws.{Started, started-none, started-more, filled-all, filled-full}
 use Rattle.bundle.proofs.segments.fill.Statement.{statement}

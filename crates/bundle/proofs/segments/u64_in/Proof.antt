@@ -1,7 +1,7 @@
 -- `bundle::segments::u64_in` meets its contract: the bytes are there to be read.
 -- Assumes nothing.
 use native.Mathlib.Omega.{arith}
-use Rattle.util.specs.Answers.{told}
+use Rattle.util.specs.AnswersLaws.{told}
 use Rattle.util.specs.LittleEndian.{u64Value}
 use Rattle.util.specs.LittleEndianLaws.{little-value, little-beyond}
 use borrow.Author.Needs.{needs}

@@ -1,7 +1,7 @@
 -- `classtrailers::decode::block_at` meets its contract: each arm is a row of the table.
 -- Assumes nothing.
 use native.Mathlib.Omega.{arith}
-use Rattle.classtrailers.specs.CallsLaws.{past, last-row, row-says, superclass-says, foreign-says, singleton-says, stub-says, pointer-says}
+use Rattle.classtrailers.specs.CallsLaws.{past, no-row-says, row-says, superclass-says, foreign-says, singleton-says, stub-says, pointer-says}
 use borrow.Author.Needs.{needs}
 use Rattle.classtrailers.proofs.decode.block_at.Statement.{statement}
 use Rattle.classtrailers.proofs.decode.block_at.Tie as tie
@@ -39,6 +39,9 @@ unread-requires-5 c κs = search needs
 default-overrides-at-requires : tie.Need-default-overrides-at-requires
 default-overrides-at-requires c κs = search needs
 
+unread-requires-6 : tie.Need-unread-requires-6
+unread-requires-6 c κs = search needs
+
 returns : tie.Need-returns
 returns c = row-says _ 0 (omega arith) _ _ _ _ (c .generic-at .ensures)
 
@@ -70,7 +73,10 @@ returns-10 : tie.Need-returns-10
 returns-10 c = row-says _ 9 (omega arith) _ _ _ _ (pointer-says _ _ _ _ (c .unread5 .ensures))
 
 returns-11 : tie.Need-returns-11
-returns-11 c = row-says _ 10 (last-row _ (past 10 _ (c .before .match .rest)) (search needs)) _ _ _ _ (c .default-overrides-at .ensures)
+returns-11 c = row-says _ 10 (omega arith) _ _ _ _ (c .default-overrides-at .ensures)
+
+returns-12 : tie.Need-returns-12
+returns-12 c = no-row-says _ _ _ _ _ (past 11 _ (c .before .match .rest)) (c .unread6 .ensures)
 
 pub block-at-spec : {M : Type 1} → statement M
 block-at-spec =
@@ -87,6 +93,7 @@ block-at-spec =
     invertible-at-requires
     unread-requires-5
     default-overrides-at-requires
+    unread-requires-6
     returns
     returns-2
     returns-3
@@ -97,4 +104,5 @@ block-at-spec =
     returns-8
     returns-9
     returns-10
-    returns-11)
+    returns-11
+    returns-12)

@@ -1,7 +1,7 @@
 -- `classtrailers::decode::unread` meets its contract.
 -- Assumes nothing.
 use mathlib.Core.Path.{refl}
-use Rattle.util.specs.Answers.{told}
+use Rattle.util.specs.AnswersLaws.{told}
 use Rattle.classtrailers.specs.Calls.{endOf}
 use borrow.Author.Needs.{needs}
 use Rattle.classtrailers.proofs.decode.unread.Statement.{statement}

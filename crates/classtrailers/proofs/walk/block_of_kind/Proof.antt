@@ -5,7 +5,7 @@ use Prim.Native.Nat.{_-_, _≤_}
 use mathlib.Core.Path.{_≡_, sym, _∙_}
 use mathlib.Core.Option.{some}
 use borrow.Author.Tests.{not-true, not-false}
-use Rattle.util.specs.Answers.{told, case}
+use Rattle.util.specs.AnswersLaws.{told, case}
 use Rattle.runtime.specs.Reads.{run}
 use Rattle.classtrailers.specs.Blocks.{reached}
 use Rattle.classtrailers.specs.Calls.{trailingOf, endOf, Says}
@@ -55,7 +55,7 @@ returns-2 : tie.Need-returns-2 Inv-loop μ-loop
 returns-2 c = of-kind _ _ _ _ _ _ _ (c .before .before .before .before .before .before .before .number-of .ensures) (kind-stops _ _ _ _ _ _ (reached-next _ _ _ _ _ _ _ (c .before .before .before .before .loop .inv .1) (told endOf (c .before .before .pass .ensures) (c .enum-told .given .1))) (omega arith))
 
 block-at-requires : tie.Need-block-at-requires Inv-loop μ-loop
-block-at-requires c κs = omega (arith, number-small (c .before .before .before .before .before .before .before .args .kind), c .before .before .before .before .number-of .ensures)
+block-at-requires c κs = search needs
 
 enum-known-block : tie.Need-enum-known-block Inv-loop μ-loop
 enum-known-block c = search needs

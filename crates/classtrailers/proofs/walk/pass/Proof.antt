@@ -2,7 +2,7 @@
 -- Assumes nothing.
 use mathlib.Core.Path.{sym, _∙_}
 use borrow.Author.Tests.{not-true, not-false}
-use Rattle.util.specs.Answers.{case}
+use Rattle.util.specs.AnswersLaws.{case}
 use Rattle.classtrailers.specs.Calls.{Says}
 use Rattle.classtrailers.specs.CallsLaws.{pass-absent, pass-there}
 use borrow.Author.Needs.{needs}

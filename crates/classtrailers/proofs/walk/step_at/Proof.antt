@@ -1,6 +1,6 @@
 -- `classtrailers::walk::step_at` meets its contract.
 -- Assumes nothing.
-use Rattle.util.specs.Answers.{case}
+use Rattle.util.specs.AnswersLaws.{case}
 use Rattle.classtrailers.specs.Calls.{Says}
 use Rattle.classtrailers.specs.CallsLaws.{step-on, step-last, step-none}
 use borrow.Author.Needs.{needs}

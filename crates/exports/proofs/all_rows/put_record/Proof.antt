@@ -5,7 +5,7 @@ use Prim.Native.Nat.{_+_, _-_}
 use lib.ListN.{length}
 use mathlib.Core.Path.{sym, _∙_}
 use denote.Ref.{now}
-use Rattle.util.specs.Answers.{told}
+use Rattle.util.specs.AnswersLaws.{told}
 use Rattle.util.specs.BufferLaws.{past-end, past-into}
 use Rattle.typedescriptor.specs.Row.{rowOf}
 use Rattle.parent.specs.Name.{lengthOf}

@@ -3,7 +3,7 @@
 use native.Mathlib.Omega.{arith}
 use Prim.Native.Nat.{_-_, _≤_, max}
 use mathlib.Core.Path.{_≡_, refl, sym, _∙_}
-use Rattle.util.specs.Answers.{told}
+use Rattle.util.specs.AnswersLaws.{told}
 use Rattle.typedescriptor.specs.Slots.{slots, rowsFrom, typeStepOf}
 use Rattle.typedescriptor.specs.SlotsLaws.{row-left, none-left, rows-out}
 use Rattle.exports.specs.AllRowsLaws.{Going, start-going, left-as, ended, stops, goes-on}

@@ -1,7 +1,7 @@
 -- `exports::calls::hodrupec_field_name` meets its contract.
 -- Assumes nothing.
 use mathlib.Core.Path.{ap}
-use Rattle.util.specs.Answers.{told}
+use Rattle.util.specs.AnswersLaws.{told}
 use Rattle.runtime.specs.FieldName.{fieldNameOf}
 use Rattle.exports.specs.Numbers.{fieldNumbers}
 use Rattle.exports.specs.NumbersLaws.{tells-whole, tells-ragged}

@@ -1,7 +1,7 @@
 -- `exports::calls::hodrupec_file_offset` meets its contract.
 -- Assumes nothing.
 use mathlib.Core.Path.{ap}
-use Rattle.util.specs.Answers.{told}
+use Rattle.util.specs.AnswersLaws.{told}
 use Rattle.util.specs.Segments.{offsetOf}
 use Rattle.exports.specs.Numbers.{valueNumbers}
 use Rattle.exports.specs.NumbersLaws.{tells-whole, tells-ragged}

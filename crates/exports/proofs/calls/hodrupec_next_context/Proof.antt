@@ -1,6 +1,6 @@
 -- `exports::calls::hodrupec_next_context` meets its contract.
 -- Assumes nothing.
-use Rattle.util.specs.Answers.{told}
+use Rattle.util.specs.AnswersLaws.{told}
 use Rattle.listing.specs.Calls.{contextAnswer}
 use Rattle.exports.specs.Numbers.{stepNumbers}
 use Rattle.exports.specs.NumbersLaws.{tells, tells-as, refuses, name-known}

@@ -1,6 +1,6 @@
 -- `exports::calls::hodrupec_next_row` meets its contract.
 -- Assumes nothing.
-use Rattle.util.specs.Answers.{told}
+use Rattle.util.specs.AnswersLaws.{told}
 use Rattle.listing.specs.Calls.{rowAnswer}
 use Rattle.exports.specs.Numbers.{rowNumbers}
 use Rattle.exports.specs.NumbersLaws.{tells, refuses}

@@ -1,7 +1,7 @@
 -- `exports::calls::hodrupec_text` meets its contract.
 -- Assumes nothing.
 use mathlib.Core.Path.{ap}
-use Rattle.util.specs.Answers.{told}
+use Rattle.util.specs.AnswersLaws.{told}
 use Rattle.refusal.specs.Refusal.{answered}
 use Rattle.util.specs.Cstr.{textOf}
 use Rattle.exports.specs.Numbers.{textNumbers}

@@ -1,7 +1,7 @@
 -- `exports::flags::field_kind_number` meets its contract.
 -- Assumes nothing.
 use mathlib.Core.Path.{refl}
-use Rattle.util.specs.Answers.{told}
+use Rattle.util.specs.AnswersLaws.{told}
 use Rattle.exports.specs.Flags.{fieldKindNumber}
 use borrow.Author.Needs.{needs}
 use Rattle.exports.proofs.flags.field_kind_number.Statement.{statement}

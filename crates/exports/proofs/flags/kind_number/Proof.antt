@@ -1,7 +1,7 @@
 -- `exports::flags::kind_number` meets its contract.
 -- Assumes nothing.
 use mathlib.Core.Path.{refl}
-use Rattle.util.specs.Answers.{told}
+use Rattle.util.specs.AnswersLaws.{told}
 use Rattle.exports.specs.Flags.{kindNumber}
 use borrow.Author.Needs.{needs}
 use Rattle.exports.proofs.flags.kind_number.Statement.{statement}

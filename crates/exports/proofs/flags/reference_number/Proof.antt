@@ -1,7 +1,7 @@
 -- `exports::flags::reference_number` meets its contract.
 -- Assumes nothing.
 use mathlib.Core.Path.{refl}
-use Rattle.util.specs.Answers.{told}
+use Rattle.util.specs.AnswersLaws.{told}
 use Rattle.exports.specs.Flags.{referenceNumber}
 use borrow.Author.Needs.{needs}
 use Rattle.exports.proofs.flags.reference_number.Statement.{statement}

@@ -7,7 +7,7 @@ use lib.IntN.{ℤ}
 use mir.Syntax.{w64}
 use mir.Facts.{toZ-ofZ}
 use Rattle.util.specs.Pointer.{modulo}
-use Rattle.util.specs.Answers.{told}
+use Rattle.util.specs.AnswersLaws.{told}
 use Rattle.util.specs.Leb128.{slebValue}
 use Rattle.exports.specs.ReadersLaws.{sleb-given, no-sleb}
 use borrow.Author.Needs.{needs}

@@ -1,7 +1,7 @@
 -- `exports::readers::hodrupec_u32_be` meets its contract.
 -- Assumes nothing.
 use mathlib.Core.Path.{refl}
-use Rattle.util.specs.Answers.{told}
+use Rattle.util.specs.AnswersLaws.{told}
 use Rattle.util.specs.LittleEndian.{u32Value}
 use Rattle.exports.specs.ReadersLaws.{value-given, no-value}
 use borrow.Author.Needs.{needs}

@@ -1,7 +1,7 @@
 -- `exports::readers::hodrupec_u64_be` meets its contract.
 -- Assumes nothing.
 use mathlib.Core.Path.{refl}
-use Rattle.util.specs.Answers.{told}
+use Rattle.util.specs.AnswersLaws.{told}
 use Rattle.util.specs.LittleEndian.{u64Value}
 use Rattle.exports.specs.ReadersLaws.{value-given, no-value}
 use borrow.Author.Needs.{needs}

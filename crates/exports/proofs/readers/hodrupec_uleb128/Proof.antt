@@ -1,7 +1,7 @@
 -- `exports::readers::hodrupec_uleb128` meets its contract.
 -- Assumes nothing.
 use mathlib.Core.Path.{refl}
-use Rattle.util.specs.Answers.{told}
+use Rattle.util.specs.AnswersLaws.{told}
 use Rattle.util.specs.Leb128.{ulebValue}
 use Rattle.exports.specs.ReadersLaws.{uleb-given, no-uleb}
 use borrow.Author.Needs.{needs}

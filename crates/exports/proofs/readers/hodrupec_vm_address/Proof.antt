@@ -1,7 +1,7 @@
 -- `exports::readers::hodrupec_vm_address` meets its contract.
 -- Assumes nothing.
 use mathlib.Core.Path.{ap}
-use Rattle.util.specs.Answers.{told}
+use Rattle.util.specs.AnswersLaws.{told}
 use Rattle.util.specs.VmAddress.{addressOf}
 use Rattle.exports.specs.Numbers.{valueNumbers}
 use Rattle.exports.specs.NumbersLaws.{tells-whole, tells-ragged}

@@ -3,7 +3,7 @@
 use borrow.Author.Needs.{needs}
 use native.Mathlib.Omega.{arith}
 use mathlib.Core.Path.{refl, ap}
-use Rattle.util.specs.Answers.{told, case}
+use Rattle.util.specs.AnswersLaws.{told, case}
 use Rattle.parent.specs.Walk.{ContextLocated, Walked, hopsOf}
 use Rattle.parent.specs.NameLaws.{kept, filled-as, refused-as, hops-written}
 use Rattle.parent.specs.WalkLaws.{walk-deep, last-long, last-fits, last-written, last-filled, none-long, none-written, none-filled, further-fits, further-written, further-refused, further-filled}

@@ -4,7 +4,7 @@ use borrow.Author.Needs.{needs}
 use native.Mathlib.Omega.{arith}
 use mathlib.Core.Path.{_≡_, refl}
 use lib.ListN.{length}
-use Rattle.util.specs.Answers.{told, case}
+use Rattle.util.specs.AnswersLaws.{told, case}
 use Rattle.parent.specs.Context.{headerOf, nameRead, Inside}
 use Rattle.parent.specs.ContextLaws.{unnamed, is-named, no-context-near, context-near}
 use Rattle.parent.specs.Walk.{Block}

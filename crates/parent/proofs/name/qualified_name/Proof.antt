@@ -3,7 +3,7 @@
 use native.Mathlib.Omega.{arith}
 use mathlib.Core.Path.{ap, sym}
 use lib.ListN.{length}
-use Rattle.util.specs.Answers.{told}
+use Rattle.util.specs.AnswersLaws.{told}
 use Rattle.util.specs.BufferLaws.{put-fits}
 use Rattle.refusal.specs.Refusal.{mapped}
 use Rattle.parent.specs.Walk.{hopsOf}

@@ -1,6 +1,6 @@
 -- `printing::lines::next_into` meets its contract: the line of the next row, or the last line.
 -- Assumes nothing.
-use Rattle.util.specs.Answers.{told}
+use Rattle.util.specs.AnswersLaws.{told}
 use Rattle.typedescriptor.specs.Slots.{typeStepOf}
 use Rattle.printing.specs.LinesLaws.{step-done, step-row, step-end}
 use borrow.Author.Needs.{needs}

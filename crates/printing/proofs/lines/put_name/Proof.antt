@@ -6,7 +6,7 @@ use Prim.Native.Nat.{ℕ, _+_, _-_}
 use denote.Ref.{now}
 use native.Mathlib.Nat.{add-sub-cancel-left}
 use Rattle.typedescriptor.specs.Row.{rowOf}
-use Rattle.util.specs.Answers.{told}
+use Rattle.util.specs.AnswersLaws.{told}
 use Rattle.parent.specs.Name.{lengthOf}
 use Rattle.printing.specs.Lines.{nameBytes}
 use Rattle.printing.specs.LinesLaws.{name-put, name-room, refusal-put}

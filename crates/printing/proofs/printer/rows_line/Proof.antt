@@ -1,6 +1,6 @@
 -- `printing::printer::rows_line` meets its contract.
 -- Assumes nothing.
-use Rattle.util.specs.Answers.{told}
+use Rattle.util.specs.AnswersLaws.{told}
 use Rattle.printing.specs.Lines.{lineAnswer}
 use Rattle.printing.specs.PrintedLaws.{rows-print}
 use borrow.Author.Needs.{needs}

@@ -1,7 +1,7 @@
 -- `printing::printer::start` meets its contract.
 -- Assumes nothing.
 use mathlib.Core.Path.{ap}
-use Rattle.util.specs.Answers.{told}
+use Rattle.util.specs.AnswersLaws.{told}
 use Rattle.bundle.specs.Open.{opened}
 use Rattle.printing.specs.Printed.{startOf}
 use borrow.Author.Needs.{needs}

@@ -1,7 +1,7 @@
 -- `runtime::reads::find_bytes_near` meets its contract: each `return` is a case of `bytesPlace`.
 -- Assumes nothing.
 use native.Mathlib.Omega.{arith}
-use Rattle.util.specs.Answers.{told}
+use Rattle.util.specs.AnswersLaws.{told}
 use Rattle.util.specs.Segments.{offsetOf}
 use Rattle.runtime.specs.CallsLaws.{bytes-at, bytes-past, bytes-nowhere}
 use borrow.Author.Needs.{needs}

@@ -1,6 +1,6 @@
 -- `runtime::reads::read_bytes_near` meets its contract.
 -- Assumes nothing.
-use Rattle.util.specs.Answers.{told}
+use Rattle.util.specs.AnswersLaws.{told}
 use Rattle.runtime.specs.Bytes.{bytesPlaceOf}
 use Rattle.runtime.specs.CallsLaws.{read-at, read-nothing}
 use borrow.Author.Needs.{needs}

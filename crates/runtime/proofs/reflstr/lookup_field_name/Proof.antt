@@ -1,6 +1,6 @@
 -- `runtime::reflstr::lookup_field_name` meets its contract: each `return` is a case of `fieldName`.
 -- Assumes nothing.
-use Rattle.util.specs.Answers.{told}
+use Rattle.util.specs.AnswersLaws.{told}
 use Rattle.util.specs.Cstr.{textOf}
 use Rattle.runtime.specs.CallsLaws.{name-zero, name-image, name-strings}
 use borrow.Author.Needs.{needs}

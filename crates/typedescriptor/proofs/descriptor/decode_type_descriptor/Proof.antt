@@ -1,7 +1,7 @@
 -- `typedescriptor::descriptor::decode_type_descriptor` meets its contract: each `return` is a case of `descriptor`.
 -- Assumes nothing.
 use native.Mathlib.Omega.{arith}
-use Rattle.util.specs.Answers.{told}
+use Rattle.util.specs.AnswersLaws.{told}
 use Rattle.util.specs.Cstr.{textOf}
 use Rattle.typedescriptor.specs.RowLaws.{no-header, no-slot, no-name, row-at}
 use borrow.Author.Needs.{needs}

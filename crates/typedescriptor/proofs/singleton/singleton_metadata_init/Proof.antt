@@ -1,7 +1,7 @@
 -- `typedescriptor::singleton::singleton_metadata_init` meets its contract: each `return` is a case of `singletonInit`.
 -- Assumes nothing.
 use native.Mathlib.Omega.{arith}
-use Rattle.util.specs.Answers.{told}
+use Rattle.util.specs.AnswersLaws.{told}
 use Rattle.typedescriptor.specs.Singleton.{targetOf}
 use Rattle.typedescriptor.specs.SingletonLaws.{no-init, no-cache, no-incomplete, no-completion, init-at}
 use borrow.Author.Needs.{needs}

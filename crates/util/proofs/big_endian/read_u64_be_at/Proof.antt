@@ -1,7 +1,7 @@
 -- `util::big_endian::read_u64_be_at` meets its contract: two runs of four bytes are one of eight.
 -- Assumes nothing.
 use native.Mathlib.Omega.{arith}
-use Rattle.util.specs.Answers.{told}
+use Rattle.util.specs.AnswersLaws.{told}
 use Rattle.util.specs.LittleEndian.{u32Value}
 use Rattle.util.specs.BigEndianLaws.{big-within, big-join, big-nothing, big-beyond}
 use borrow.Author.Needs.{needs}

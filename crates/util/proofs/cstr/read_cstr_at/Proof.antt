@@ -2,7 +2,7 @@
 -- Assumes nothing.
 use native.Mathlib.Omega.{arith}
 use Rattle.utf8.specs.Text.{scanned}
-use Rattle.util.specs.Answers.{told}
+use Rattle.util.specs.AnswersLaws.{told}
 use Rattle.util.specs.CstrLaws.{text-past, text-scanned}
 use borrow.Author.Needs.{needs}
 use Rattle.util.proofs.cstr.read_cstr_at.Statement.{statement}

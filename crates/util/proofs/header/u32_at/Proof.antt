@@ -1,6 +1,6 @@
 -- `util::header::u32_at` meets its contract.
 -- Assumes nothing.
-use Rattle.util.specs.Answers.{told}
+use Rattle.util.specs.AnswersLaws.{told}
 use Rattle.util.specs.LittleEndian.{u32Value}
 use Rattle.util.specs.LittleEndianLaws.{unsigned-in}
 use borrow.Author.Needs.{needs}

@@ -4,7 +4,7 @@ use native.Mathlib.Omega.{arith}
 use mathlib.Core.Path.{_∙_}
 use mir.Syntax.{w64}
 use mir.Facts.{toZ-ofZ}
-use Rattle.util.specs.Answers.{case}
+use Rattle.util.specs.AnswersLaws.{case}
 use Rattle.util.specs.Leb128Walk.{Chunked}
 use Rattle.util.specs.Leb128Laws.{sleb-longer, sign-room, sleb-positive, sleb-negative, sleb-ten, sleb-eleven, sleb-refused}
 use borrow.Author.Needs.{needs}

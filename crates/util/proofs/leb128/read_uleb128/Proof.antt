@@ -1,6 +1,6 @@
 -- `util::leb128::read_uleb128` meets its contract.
 -- Assumes nothing.
-use Rattle.util.specs.Answers.{case}
+use Rattle.util.specs.AnswersLaws.{case}
 use Rattle.util.specs.Leb128Walk.{Chunked}
 use Rattle.util.specs.Leb128Laws.{uleb-longer, uleb-short, uleb-eleven, uleb-refused}
 use borrow.Author.Needs.{needs}

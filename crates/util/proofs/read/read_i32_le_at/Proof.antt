@@ -3,7 +3,7 @@
 use mathlib.Core.Path.{_∙_}
 use mir.Syntax.{w32}
 use mir.Facts.{toZ-ofZ}
-use Rattle.util.specs.Answers.{told}
+use Rattle.util.specs.AnswersLaws.{told}
 use Rattle.util.specs.LittleEndian.{u32Value}
 use Rattle.util.specs.LittleEndianLaws.{signed-found, signed-nothing}
 use borrow.Author.Needs.{needs}

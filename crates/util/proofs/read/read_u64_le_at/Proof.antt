@@ -1,7 +1,7 @@
 -- `util::read::read_u64_le_at` meets its contract: two runs of four bytes are one of eight.
 -- Assumes nothing.
 use native.Mathlib.Omega.{arith}
-use Rattle.util.specs.Answers.{told}
+use Rattle.util.specs.AnswersLaws.{told}
 use Rattle.util.specs.LittleEndian.{u32Value}
 use Rattle.util.specs.LittleEndianLaws.{little-within, little-join, little-nothing, little-beyond}
 use borrow.Author.Needs.{needs}

@@ -1,7 +1,7 @@
 -- `parent::chain::ParentChain::next` meets its contract.
 -- Assumes nothing.
 use native.Mathlib.Omega.{arith}
-use Rattle.util.specs.Answers.{told}
+use Rattle.util.specs.AnswersLaws.{told}
 use Rattle.parent.specs.Context.{contextOf}
 use Rattle.parent.specs.ContextLaws.{chain-full, chain-ends, chain-goes-on}
 use borrow.Author.Needs.{needs}

@@ -4,7 +4,7 @@ use borrow.Author.Needs.{needs}
 use native.Mathlib.Omega.{arith}
 use Prim.Native.Nat.{_-_}
 use mathlib.Core.Path.{_≡_, refl, sym, _∙_}
-use Rattle.util.specs.Answers.{told}
+use Rattle.util.specs.AnswersLaws.{told}
 use Rattle.typedescriptor.specs.Row.{descriptorOf}
 use Rattle.typedescriptor.specs.Slots.{slots, nextRow}
 use Rattle.typedescriptor.specs.RowLaws.{row-next, slot-passed, rows-end}

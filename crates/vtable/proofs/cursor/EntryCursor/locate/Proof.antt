@@ -1,7 +1,7 @@
 -- `vtable::cursor::EntryCursor::locate` meets its contract.
 -- Assumes nothing.
 use denote.Ref.{now}
-use Rattle.util.specs.Answers.{case}
+use Rattle.util.specs.AnswersLaws.{case}
 use Rattle.util.specs.Mapping.{Located}
 use Rattle.util.specs.MappingLaws.{empty-mapped}
 use borrow.Author.Needs.{needs}

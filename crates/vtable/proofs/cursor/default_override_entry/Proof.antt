@@ -1,10 +1,10 @@
--- `vtable::entry::default_override_entry` meets its contract.
+-- `vtable::cursor::default_override_entry` meets its contract.
 -- Assumes nothing.
 use Rattle.vtable.specs.Entries.{defaultOverride}
 use Rattle.vtable.specs.EntriesLaws.{entry-of, first-word}
 use borrow.Author.Needs.{needs}
-use Rattle.vtable.proofs.entry.default_override_entry.Statement.{statement}
-use Rattle.vtable.proofs.entry.default_override_entry.Tie as tie
+use Rattle.vtable.proofs.cursor.default_override_entry.Statement.{statement}
+use Rattle.vtable.proofs.cursor.default_override_entry.Tie as tie
 
 address-in-requires : tie.Need-address-in-requires
 address-in-requires c κs = search needs

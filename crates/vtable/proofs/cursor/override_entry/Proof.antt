@@ -1,10 +1,10 @@
--- `vtable::entry::override_entry` meets its contract.
+-- `vtable::cursor::override_entry` meets its contract.
 -- Assumes nothing.
 use Rattle.vtable.specs.Entries.{override}
 use Rattle.vtable.specs.EntriesLaws.{entry-of, first-word}
 use borrow.Author.Needs.{needs}
-use Rattle.vtable.proofs.entry.override_entry.Statement.{statement}
-use Rattle.vtable.proofs.entry.override_entry.Tie as tie
+use Rattle.vtable.proofs.cursor.override_entry.Statement.{statement}
+use Rattle.vtable.proofs.cursor.override_entry.Tie as tie
 
 address-in-requires : tie.Need-address-in-requires
 address-in-requires c κs = search needs

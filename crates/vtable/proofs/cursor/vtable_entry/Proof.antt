@@ -1,10 +1,10 @@
--- `vtable::entry::vtable_entry` meets its contract.
+-- `vtable::cursor::vtable_entry` meets its contract.
 -- Assumes nothing.
 use Rattle.vtable.specs.Entries.{method}
 use Rattle.vtable.specs.EntriesLaws.{entry-of}
 use borrow.Author.Needs.{needs}
-use Rattle.vtable.proofs.entry.vtable_entry.Statement.{statement}
-use Rattle.vtable.proofs.entry.vtable_entry.Tie as tie
+use Rattle.vtable.proofs.cursor.vtable_entry.Statement.{statement}
+use Rattle.vtable.proofs.cursor.vtable_entry.Tie as tie
 
 u32-at-requires : tie.Need-u32-at-requires
 u32-at-requires c κs = search needs

@@ -1,10 +1,10 @@
--- `vtable::entry::prespecialization_entry` meets its contract.
+-- `vtable::cursor::prespecialization_entry` meets its contract.
 -- Assumes nothing.
 use Rattle.vtable.specs.Entries.{prespecialization}
 use Rattle.vtable.specs.EntriesLaws.{entry-of, first-word}
 use borrow.Author.Needs.{needs}
-use Rattle.vtable.proofs.entry.prespecialization_entry.Statement.{statement}
-use Rattle.vtable.proofs.entry.prespecialization_entry.Tie as tie
+use Rattle.vtable.proofs.cursor.prespecialization_entry.Statement.{statement}
+use Rattle.vtable.proofs.cursor.prespecialization_entry.Tie as tie
 
 address-in-requires : tie.Need-address-in-requires
 address-in-requires c κs = search needs
