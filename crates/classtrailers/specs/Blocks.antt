@@ -183,15 +183,3 @@ blocksOf image segments t start (k ∷ ks) = withBlock (run image segments (bloc
 -- those of all kinds, in the table's order
 unfoldable pub blocks : List ℕ → List ℕ → Trailing → ℕ → List Block
 blocks image segments t start = blocksOf image segments t start (map (λ (r : Row). r .kind) table)
-
--- the blocks that at most `n` steps of a walk give, each step from where the one before it left off
-unfoldable pub stepped : List ℕ → List ℕ → ℕ → Walk → List Block
-stepped image segments zero w = []
-stepped image segments (suc n) w =
-    elim (nextBlock image segments w) [ none ↦ [] | some s ↦ s .block ∷ stepped image segments n (s .next) ]
-
--- and the walk at which they leave off
-unfoldable pub steppedTo : List ℕ → List ℕ → ℕ → Walk → Walk
-steppedTo image segments zero w = w
-steppedTo image segments (suc n) w =
-    elim (nextBlock image segments w) [ none ↦ w | some s ↦ steppedTo image segments n (s .next) ]

@@ -13,10 +13,22 @@ use lib.Seq.{take-all}
 use lib.Dec.{leb, eqb}
 use Rattle.context.specs.Bits.{bit}
 use Rattle.runtime.specs.Reads.{Reads, done, nothing, bytesPlace, andThen, run}
-use Rattle.classtrailers.specs.Blocks.{Trailing, Row, table, setBits, rowAt, readHeader, recordAt, endAt, reached, blockIn, rowNumber, block, Walk, Step, after, stepAt, nextBlock, withBlock, blocks, stepped, steppedTo}
+use Rattle.classtrailers.specs.Blocks.{Trailing, Row, table, setBits, rowAt, readHeader, recordAt, endAt, reached, blockIn, rowNumber, block, Walk, Step, after, stepAt, nextBlock, withBlock, blocks}
 use Rattle.classtrailers.specs.CallsLaws.{next-there, next-absent, walk-over, pass-absent, pass-there, reached-start, reached-next, stopped, kind-stops, kind-absent, kind-there}
 use Rattle.classtrailers.specs.declared.block.Block.{Block}
 use Rattle.classtrailers.specs.declared.block.BlockKind.{BlockKind}
+
+-- the blocks that at most `n` steps of a walk give, each step from where the one before it left off
+unfoldable pub stepped : List ℕ → List ℕ → ℕ → Walk → List Block
+stepped image segments zero w = []
+stepped image segments (suc n) w =
+    elim (nextBlock image segments w) [ none ↦ [] | some s ↦ s .block ∷ stepped image segments n (s .next) ]
+
+-- and the walk at which they leave off
+unfoldable pub steppedTo : List ℕ → List ℕ → ℕ → Walk → Walk
+steppedTo image segments zero w = w
+steppedTo image segments (suc n) w =
+    elim (nextBlock image segments w) [ none ↦ w | some s ↦ steppedTo image segments n (s .next) ]
 
 -- ---- the table
 

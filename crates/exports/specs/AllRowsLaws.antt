@@ -22,7 +22,17 @@ use Rattle.typedescriptor.specs.Slots.{slots, slotRow, Found, found, rowsFrom}
 use Rattle.typedescriptor.specs.SlotsLaws.{rows-out}
 use Rattle.parent.specs.Name.{tooDeep, qualifiedName, nameAnswer}
 use Rattle.parent.specs.NameLaws.{name-length}
-use Rattle.exports.specs.AllRows.{eightBytes, pairBytes, headBytes, rowBytes, Listing, after, listing, listingFrom, listingNumbers, listingBytes, records, Resumes}
+use Rattle.exports.specs.AllRows.{eightBytes, pairBytes, headBytes, rowBytes, Listing, after, listing, listingFrom, listingNumbers, listingBytes}
+
+-- the records of all these rows
+unfoldable pub records : List ℕ → List ℕ → List Found → List ℕ
+records image segments [] = []
+records image segments (f ∷ fs) = rowBytes image segments (f .slot) (f .row) ++ records image segments fs
+
+-- a listing `l` of these rows, with the rows from each slot on: from its slot to go on from there are the other records, and none where it says that all are given
+pub record Resumes (image segments : List ℕ) (all : List Found) (l : Listing) (from : ℕ → List Found) : Type 0 where
+  pub together : records image segments all ≡ l .bytes ++ records image segments (from (l .next))
+  pub done : l .all ≡ 1 → from (l .next) ≡ []
 
 -- ---- a record
 

@@ -59,18 +59,6 @@ rowsFrom image segments types start (suc n) i =
 unfoldable pub rows : List ℕ → List ℕ → List ℕ → ℕ → List Found
 rows image segments types start = rowsFrom image segments types start (slots types) 0
 
--- the rows that at most `n` steps from slot `i` on give, each step from where the one before it left off
-unfoldable pub stepped : List ℕ → List ℕ → List ℕ → ℕ → ℕ → ℕ → List Found
-stepped image segments types start zero i = []
-stepped image segments types start (suc n) i =
-    elim (nextRow image segments types start i) [ none ↦ [] | some f ↦ f ∷ stepped image segments types start n (f .next) ]
-
--- and the slot at which they leave off
-unfoldable pub steppedTo : List ℕ → List ℕ → List ℕ → ℕ → ℕ → ℕ → ℕ
-steppedTo image segments types start zero i = i
-steppedTo image segments types start (suc n) i =
-    elim (nextRow image segments types start i) [ none ↦ i | some f ↦ steppedTo image segments types start n (f .next) ]
-
 abbrev pub typeStepOf : List ℕ → TypeStep → Option Found
 typeStepOf image (TypeStep.Row i r c) = some (record { slot = i; row = rowOf image r; next = c .slot })
 typeStepOf image TypeStep.End = none

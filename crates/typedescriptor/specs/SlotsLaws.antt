@@ -13,8 +13,20 @@ use lib.ListN.{length, take}
 use lib.Seq.{take-all}
 use Rattle.runtime.specs.Reads.{run}
 use Rattle.typedescriptor.specs.Row.{TypeRow}
-use Rattle.typedescriptor.specs.Slots.{slots, slotRow, Found, found, firstRow, nextRow, rowsFrom, rows, stepped, steppedTo}
+use Rattle.typedescriptor.specs.Slots.{slots, slotRow, Found, found, firstRow, nextRow, rowsFrom, rows}
 use Rattle.typedescriptor.specs.RowLaws.{past-slots, rows-end}
+
+-- the rows that at most `n` steps from slot `i` on give, each step from where the one before it left off
+unfoldable pub stepped : List ℕ → List ℕ → List ℕ → ℕ → ℕ → ℕ → List Found
+stepped image segments types start zero i = []
+stepped image segments types start (suc n) i =
+    elim (nextRow image segments types start i) [ none ↦ [] | some f ↦ f ∷ stepped image segments types start n (f .next) ]
+
+-- and the slot at which they leave off
+unfoldable pub steppedTo : List ℕ → List ℕ → List ℕ → ℕ → ℕ → ℕ → ℕ
+steppedTo image segments types start zero i = i
+steppedTo image segments types start (suc n) i =
+    elim (nextRow image segments types start i) [ none ↦ i | some f ↦ steppedTo image segments types start n (f .next) ]
 
 module _ (image segments types : List ℕ) (start : ℕ) where
   -- ---- the first row of some slots, and those after it
