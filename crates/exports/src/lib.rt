@@ -2,5 +2,3 @@
 // it answers and else the refusal's number, and writes its answer into a lent array (and buffer), of which a refused call changes nothing.
 mod all_rows;
 mod calls;
-mod flags;
-mod readers;

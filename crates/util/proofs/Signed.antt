@@ -12,7 +12,6 @@ use mir.Syntax.{w32, w64}
 use mir.Val.{Fits, SFits, toZ, ofZ}
 use mir.Facts.{toZ-ofZ, toZ-pos, sfits-widen}
 use Rattle.util.specs.LittleEndian.{twosComplement}
-use Rattle.util.specs.LittleEndianLaws.{twos-negative}
 use Rattle.util.specs.Pointer.{relativePointer}
 
 -- the numbers of 32 bits below 2^31 mean themselves
@@ -40,21 +39,6 @@ module _ (n : ℕ) (low : 2147483648 ≤ n) (high : n < 2 ^ 32) where
   pub twos-high : toZ w32 (ofZ w32 (toZ w64 (ofZ w64 (toZ w64 n -ℤ pos 4294967296)))) ≡ twosComplement 32 n
   unfolding twosComplement
   twos-high = toZ-ofZ minus-cast ∙ toZ-ofZ minus-fits ∙ rw (wide, le-ltb n 2147483648 low)
-
--- the numbers of 64 bits from 2^63 on: as many below -1 as they are below the last one
-less-one : (m : ℕ) → negsuc 0 -ℤ pos m ≡ negsuc m
-less-one zero = refl
-less-one (suc m) = ap negsuc (omega arith)
-
-module _ (n : ℕ) (low : 9223372036854775808 ≤ n) (high : n < 2 ^ 64) where
-  minus-one : negsuc 0 -ℤ toZ w64 (18446744073709551615 - n) ≡ negsuc (18446744073709551615 - n)
-  minus-one = rw (toZ-pos w64 {n = 18446744073709551615 - n} (omega arith)) (less-one (18446744073709551615 - n))
-
-  pub minus-one-fits : SFits w64 (negsuc 0 -ℤ toZ w64 (18446744073709551615 - n))
-  minus-one-fits = rw minus-one (record { sfits = omega arith })
-
-  pub twos-high-64 : toZ w64 (ofZ w64 (negsuc 0 -ℤ toZ w64 (18446744073709551615 - n))) ≡ twosComplement 64 n
-  twos-high-64 = toZ-ofZ minus-one-fits ∙ minus-one ∙ ap negsuc (omega arith) ∙ sym (twos-negative 64 n low high)
 
 -- an offset of 0 or more goes forward
 forward-fits : (y : ℤ) → SFits w32 y → leZ (pos 0) y ≡ true → T (nonNeg y) × Fits w64 (natAbs y)

@@ -5,10 +5,6 @@ pub mod Buffer
 pub mod BufferLaws
 pub mod Cstr
 pub mod CstrLaws
-pub mod Leb128
-pub mod Leb128Laws
-pub mod Leb128Theorems
-pub mod Leb128Walk
 pub mod LittleEndian
 pub mod LittleEndianLaws
 pub mod Mapping

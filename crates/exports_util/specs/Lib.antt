@@ -1,0 +1,3 @@
+pub mod Flags
+pub mod Readers
+pub mod ReadersLaws

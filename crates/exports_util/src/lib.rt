@@ -1,0 +1,4 @@
+// The readers of numbers, texts and flag words for programs in C or Rust, by the rules of the crate `exports`. They are compared with the
+// Rust, and no listing needs them.
+mod flags;
+mod readers;
