@@ -26,22 +26,31 @@ pub data Word : Type 0 where
   number : Word
   pointer : Word
 
+-- what the words of an entry are, and how far its start is from the next entry's
+pub record Layout : Type 0 where
+  pub words : List Word
+  pub stride : ℕ
+
+-- entries that follow one another without a gap
+abbrev pub packed : List Word → Layout
+packed ws = record { words = ws; stride = 4 * length ws }
+
 -- method: flags and implementation; override: class, method and implementation; default override: method and implementation (the header has
 -- three pointers, see docs/DIFFERENCES.md); prespecialization: the metadata
-abbrev pub method : List Word
-method = number ∷ pointer ∷ []
+abbrev pub method : Layout
+method = packed (number ∷ pointer ∷ [])
 
-abbrev pub override : List Word
-override = pointer ∷ pointer ∷ pointer ∷ []
+abbrev pub override : Layout
+override = packed (pointer ∷ pointer ∷ pointer ∷ [])
 
-abbrev pub defaultOverride : List Word
-defaultOverride = pointer ∷ pointer ∷ []
+abbrev pub defaultOverride : Layout
+defaultOverride = packed (pointer ∷ pointer ∷ [])
 
-abbrev pub prespecialization : List Word
-prespecialization = pointer ∷ []
+abbrev pub prespecialization : Layout
+prespecialization = packed (pointer ∷ [])
 
-abbrev pub entrySize : List Word → ℕ
-entrySize ws = 4 * length ws
+abbrev pub entrySize : Layout → ℕ
+entrySize layout = 4 * length (layout .words)
 
 -- what a word says, at an offset of an entry's bytes; the entry is at an address
 abbrev pub wordAt : Word → ℕ → ℕ → List ℕ → ℕ
@@ -57,26 +66,26 @@ pub record Entry : Type 0 where
   pub words : List ℕ
 
 -- the entry that these bytes are, at an address
-abbrev pub entryOf : List Word → ℕ → List ℕ → Entry
-entryOf ws a h = record { address = a; words = wordsFrom ws a 0 h }
+abbrev pub entryOf : Layout → ℕ → List ℕ → Entry
+entryOf layout a h = record { address = a; words = wordsFrom (layout .words) a 0 h }
 
 -- the address of entry `k` of a table that starts at `base`
-abbrev pub entryAddress : List Word → ℕ → ℕ → ℕ
-entryAddress ws base k = base + entrySize ws * k
+abbrev pub entryAddress : Layout → ℕ → ℕ → ℕ
+entryAddress layout base k = base + layout .stride * k
 
 -- entry `k` by itself: all its words lie below 2^64
-unfoldable pub entryAt : List Word → ℕ → ℕ → Reads Entry
-entryAt ws base k =
-    cond (leb (2 ^ 64) (entryAddress ws base k + (entrySize ws - 4))) nothing
-    (bytes (entryAddress ws base k) (entrySize ws) (λ h. done (entryOf ws (entryAddress ws base k) h)))
+unfoldable pub entryAt : Layout → ℕ → ℕ → Reads Entry
+entryAt layout base k =
+    cond (leb (2 ^ 64) (entryAddress layout base k + (entrySize layout - 4))) nothing
+    (bytes (entryAddress layout base k) (entrySize layout) (λ h. done (entryOf layout (entryAddress layout base k) h)))
 
 -- entry `k` of a list: a list ends at its first unreadable entry, so the entries 0 to `k` are read
-unfoldable pub upTo : List Word → ℕ → ℕ → Reads Entry
-upTo ws base zero = entryAt ws base 0
-upTo ws base (suc k) = bind (upTo ws base k) (λ _. entryAt ws base (suc k))
+unfoldable pub upTo : Layout → ℕ → ℕ → Reads Entry
+upTo layout base zero = entryAt layout base 0
+upTo layout base (suc k) = bind (upTo layout base k) (λ _. entryAt layout base (suc k))
 
-unfoldable pub entry : List Word → ℕ → ℕ → ℕ → Reads Entry
-entry ws base count k = cond (ltb k count) (upTo ws base k) nothing
+unfoldable pub entry : Layout → ℕ → ℕ → ℕ → Reads Entry
+entry layout base count k = cond (ltb k count) (upTo layout base k) nothing
 
 -- a walk: the table's start, the number of its entries, and the next one's. A walk starts at entry 0
 abbrev pub start : ℕ → ℕ → EntryCursor
@@ -90,15 +99,16 @@ pub record Step : Type 0 where
   pub found : Option Entry
   pub next : EntryCursor
 
-unfoldable pub entryStep : List ℕ → List ℕ → List Word → EntryCursor → Option Step
-entryStep image segments ws c =
-    cond (ltb (c .next) (c .count)) (some (record { found = run image segments (entryAt ws (c .«base_va») (c .next)); next = moved c })) none
+unfoldable pub entryStep : List ℕ → List ℕ → Layout → EntryCursor → Option Step
+entryStep image segments layout c =
+    cond (ltb (c .next) (c .count)) (some (record { found = run image segments (entryAt layout (c .«base_va») (c .next)); next = moved c })) none
 
--- the bytes of entry `k` of a table of entries of `size` bytes, as the calls hand them on: none where one of the entry's words, the
--- last one at `size` - 4, does not lie below 2^64
-unfoldable pub entryBytes : List ℕ → List ℕ → ℕ → ℕ → ℕ → List ℕ
-entryBytes image segments size base k =
-    cond (ltb size 4) [] (cond (leb (2 ^ 64) (base + size * k + (size - 4))) [] (bytesRead image segments (base + size * k) size))
+-- the bytes of entry `k` of a table of entries of `size` bytes, `stride` bytes from one to the next, as the calls hand them on: none where
+-- one of the entry's words, the last one at `size` - 4, does not lie below 2^64
+unfoldable pub entryBytes : List ℕ → List ℕ → ℕ → ℕ → ℕ → ℕ → List ℕ
+entryBytes image segments size stride base k =
+    cond (ltb size 4) []
+    (cond (leb (2 ^ 64) (base + stride * k + (size - 4))) [] (bytesRead image segments (base + stride * k) size))
 
 -- the entries as lists of words
 abbrev pub ofMethod : VTableEntry → Entry

@@ -1,4 +1,4 @@
--- What the calls' tests say of the definitions, once for the four kinds of entries: the bytes of an entry (`small`, `wraps`, `below`), what they say
+-- What the calls' tests say of the definitions, once for every layout: the bytes of an entry (`small`, `wraps`, `below`), what they say
 -- (`entry-of`, `no-entry`, `an-entry`), a step's answers (`step-end`, `step-gives`), and that a true mapping changes none (`step-mapped`).
 use Prim.Native.Nat.{ℕ, _+_, _-_, _*_, _%_, _^_, _≤_, _<_}
 use native.Mathlib.Nat.{mod-eq-of-lt, mul-le-mul-left, mul-lt-mul-of-pos-right, lt-of-le-of-lt, le-of-lt}
@@ -17,7 +17,7 @@ use Rattle.runtime.specs.Reads.{Reads, bytesPlace, run, done}
 use Rattle.runtime.specs.Bytes.{bytesFrom, bytesRead}
 use Rattle.runtime.specs.CallsLaws.{bytes-within, run-bytes, run-no-bytes, run-mapped}
 use Rattle.vtable.specs.declared.cursor.EntryCursor.{EntryCursor}
-use Rattle.vtable.specs.Entries.{Word, pointer, entrySize, wordAt, wordsFrom, Entry, entryOf, entryAddress, entryAt, moved, entryStep, entryBytes}
+use Rattle.vtable.specs.Entries.{Word, pointer, Layout, entrySize, wordAt, wordsFrom, Entry, entryOf, entryAddress, entryAt, moved, entryStep, entryBytes}
 
 -- two numbers of 32 bits have a product of 64
 pub product : {a b : ℕ} → a < 2 ^ 32 → b < 2 ^ 32 → a * b < 2 ^ 64
@@ -36,19 +36,19 @@ whole image segments a n h e z = go (bytesPlace image segments a n) refl
 
 -- ---- the bytes of an entry
 
-module _ (image segments : List ℕ) (size base k : ℕ) where
-  pub small : size < 4 → [] ≡ entryBytes image segments size base k
+module _ (image segments : List ℕ) (size stride base k : ℕ) where
+  pub small : size < 4 → [] ≡ entryBytes image segments size stride base k
   unfolding entryBytes
   small h = simp (lt-ltb size 4 h)
 
-  pub wraps : 4 ≤ size → 2 ^ 64 ≤ base + size * k + (size - 4) → [] ≡ entryBytes image segments size base k
+  pub wraps : 4 ≤ size → 2 ^ 64 ≤ base + stride * k + (size - 4) → [] ≡ entryBytes image segments size stride base k
   unfolding entryBytes
-  wraps h w = simp (le-ltb size 4 h, le-leb (2 ^ 64) (base + size * k + (size - 4)) w)
+  wraps h w = simp (le-ltb size 4 h, le-leb (2 ^ 64) (base + stride * k + (size - 4)) w)
 
-  pub below : (r : List ℕ) → 4 ≤ size → base + size * k + (size - 4) < 2 ^ 64 → r ≡ bytesRead image segments (base + size * k) size
-      → r ≡ entryBytes image segments size base k
+  pub below : (r : List ℕ) → 4 ≤ size → base + stride * k + (size - 4) < 2 ^ 64 → r ≡ bytesRead image segments (base + stride * k) size
+      → r ≡ entryBytes image segments size stride base k
   unfolding entryBytes
-  below r h w e = simp (le-ltb size 4 h, lt-leb (2 ^ 64) (base + size * k + (size - 4)) w) e
+  below r h w e = simp (le-ltb size 4 h, lt-leb (2 ^ 64) (base + stride * k + (size - 4)) w) e
 
 -- ---- what its words say
 
@@ -64,8 +64,8 @@ words-from [] a o h (x ∷ xs) e = absurd e
 words-from (w ∷ ws) a o h [] e = absurd e
 words-from (w ∷ ws) a o h (x ∷ xs) e = cc (e .0, words-from ws a (o + 4) h xs (e .1))
 
-pub entry-of : (ws : List Word) (a : ℕ) (h xs : List ℕ) → Says ws a 0 h xs → record { address = a; words = xs } ≡ entryOf ws a h
-entry-of ws a h xs e = ap (λ (l : List ℕ). record { address = a; words = l }) (words-from ws a 0 h xs e)
+pub entry-of : (layout : Layout) (a : ℕ) (h xs : List ℕ) → Says (layout .words) a 0 h xs → record { address = a; words = xs } ≡ entryOf layout a h
+entry-of layout a h xs e = ap (λ (l : List ℕ). record { address = a; words = l }) (words-from (layout .words) a 0 h xs e)
 
 -- a pointer that is an entry's first word
 pub first-word : (a x : ℕ) (h : List ℕ) → x ≡ relativeAddress a (signedIn 4 h 0) → x ≡ wordAt pointer a 0 h
@@ -74,66 +74,66 @@ first-word a x h e = e ∙ ap (λ (n : ℕ). relativeAddress n (signedIn 4 h 0))
 -- ---- an entry's bytes
 
 -- bytes that were handed on are those of the entry, and its words lie below 2^64
-module _ (image segments : List ℕ) (ws : List Word) (base k : ℕ) (some-words : 1 ≤ length ws) (h : List ℕ) (e : h ≡ entryBytes image segments (entrySize ws) base k) where
+module _ (image segments : List ℕ) (layout : Layout) (base k : ℕ) (some-words : 1 ≤ length (layout .words)) (h : List ℕ) (e : h ≡ entryBytes image segments (entrySize layout) (layout .stride) base k) where
   abbrev last : ℕ
-  last = entryAddress ws base k + (entrySize ws - 4)
+  last = entryAddress layout base k + (entrySize layout - 4)
 
   abbrev k-of : List ℕ → Reads Entry
-  k-of = λ h. done (entryOf ws (entryAddress ws base k) h)
+  k-of = λ h. done (entryOf layout (entryAddress layout base k) h)
 
   abbrev There : Type 0
-  There = (last < 2 ^ 64) × (h ≡ bytesRead image segments (entryAddress ws base k) (entrySize ws))
+  There = (last < 2 ^ 64) × (h ≡ bytesRead image segments (entryAddress layout base k) (entrySize layout))
 
-  is-read : last < 2 ^ 64 → h ≡ bytesRead image segments (entryAddress ws base k) (entrySize ws)
-  is-read l = e ∙ sym (below image segments (entrySize ws) base k _ (omega arith) l refl)
+  is-read : last < 2 ^ 64 → h ≡ bytesRead image segments (entryAddress layout base k) (entrySize layout)
+  is-read l = e ∙ sym (below image segments (entrySize layout) (layout .stride) base k _ (omega arith) l refl)
 
   is-there : (length h ≡ 0 → ⊥) → There
   is-there n = go (decLe (2 ^ 64) last)
     where
       go : Dec (2 ^ 64 ≤ last) → There
       go (yes w) =
-          let f : h ≡ [] = e ∙ sym (wraps image segments (entrySize ws) base k (omega arith) w) in
+          let f : h ≡ [] = e ∙ sym (wraps image segments (entrySize layout) (layout .stride) base k (omega arith) w) in
           absurd (n (ap length f))
       go (no w) = (omega arith, is-read (omega arith))
 
-  pub slots-below : (length h ≡ 0 → ⊥) → (a : ℕ) → a ≡ entryAddress ws base k % 2 ^ 64 → a + (entrySize ws - 4) < 2 ^ 64
+  pub slots-below : (length h ≡ 0 → ⊥) → (a : ℕ) → a ≡ entryAddress layout base k % 2 ^ 64 → a + (entrySize layout - 4) < 2 ^ 64
   slots-below n a ea =
       let t = is-there n .0 in
-      let f : a ≡ entryAddress ws base k = ea ∙ mod-eq-of-lt (omega arith) in
+      let f : a ≡ entryAddress layout base k = ea ∙ mod-eq-of-lt (omega arith) in
       omega arith
 
-  pub no-entry : length h ≡ 0 → none ≡ run image segments (entryAt ws base k)
+  pub no-entry : length h ≡ 0 → none ≡ run image segments (entryAt layout base k)
   unfolding entryAt run
   no-entry n = go (decLe (2 ^ 64) last)
     where
-      go : Dec (2 ^ 64 ≤ last) → none ≡ run image segments (entryAt ws base k)
+      go : Dec (2 ^ 64 ≤ last) → none ≡ run image segments (entryAt layout base k)
       go (yes w) = simp (le-leb (2 ^ 64) last w)
       go (no w) =
           let b : last < 2 ^ 64 = omega arith in
-          simp (lt-leb (2 ^ 64) last b) (sym (run-no-bytes image segments (entryAddress ws base k) (entrySize ws) k-of h (is-read b) (omega arith)))
+          simp (lt-leb (2 ^ 64) last b) (sym (run-no-bytes image segments (entryAddress layout base k) (entrySize layout) k-of h (is-read b) (omega arith)))
 
-  pub an-entry : (length h ≡ 0 → ⊥) → (a : ℕ) (x : Entry) → a ≡ entryAddress ws base k % 2 ^ 64 → x ≡ entryOf ws a h → some x ≡ run image segments (entryAt ws base k)
+  pub an-entry : (length h ≡ 0 → ⊥) → (a : ℕ) (x : Entry) → a ≡ entryAddress layout base k % 2 ^ 64 → x ≡ entryOf layout a h → some x ≡ run image segments (entryAt layout base k)
   unfolding entryAt run
   an-entry n a x ea ex =
       let t = is-there n in
       let b = t .0 in
-      let f : a ≡ entryAddress ws base k = ea ∙ mod-eq-of-lt (omega arith) in
-      let r = run-bytes image segments (entryAddress ws base k) (entrySize ws) k-of h (t .1) (omega arith) (whole image segments _ _ h (t .1) n) in
+      let f : a ≡ entryAddress layout base k = ea ∙ mod-eq-of-lt (omega arith) in
+      let r = run-bytes image segments (entryAddress layout base k) (entrySize layout) k-of h (t .1) (omega arith) (whole image segments _ _ h (t .1) n) in
       simp (lt-leb (2 ^ 64) last b) (rw (r, ex, f))
 
 -- ---- a step
 
-module _ (image segments : List ℕ) (ws : List Word) (c : EntryCursor) where
-  pub step-end : c .count ≤ c .next → none ≡ entryStep image segments ws c
+module _ (image segments : List ℕ) (layout : Layout) (c : EntryCursor) where
+  pub step-end : c .count ≤ c .next → none ≡ entryStep image segments layout c
   unfolding entryStep
   step-end h = simp (le-ltb (c .next) (c .count) h)
 
-  pub step-gives : (x : Option Entry) → x ≡ run image segments (entryAt ws (c .«base_va») (c .next)) → c .next < c .count
-      → some (record { found = x; next = moved c }) ≡ entryStep image segments ws c
+  pub step-gives : (x : Option Entry) → x ≡ run image segments (entryAt layout (c .«base_va») (c .next)) → c .next < c .count
+      → some (record { found = x; next = moved c }) ≡ entryStep image segments layout c
   unfolding entryStep
   step-gives x e l = simp (lt-ltb (c .next) (c .count) l) (rw (← e))
 
   -- a true mapping changes no step
-  pub step-mapped : (m : Mapping) → Mapped segments m → entryStep image (withMapping m segments) ws c ≡ entryStep image segments ws c
+  pub step-mapped : (m : Mapping) → Mapped segments m → entryStep image (withMapping m segments) layout c ≡ entryStep image segments layout c
   unfolding entryStep
-  step-mapped m w = rw (run-mapped image segments m w (entryAt ws (c .«base_va») (c .next)))
+  step-mapped m w = rw (run-mapped image segments m w (entryAt layout (c .«base_va») (c .next)))

@@ -1,4 +1,4 @@
--- What stepping gives, for the four kinds at once: the step after `k` steps from the start gives what the program of entry `k` gives, as long as no
+-- What stepping gives, for every layout at once: the step after `k` steps from the start gives what the program of entry `k` gives, as long as no
 -- earlier entry is unreadable (`stepped-entry`); and the list of a caller who steps until an entry is unreadable or the end is there has the
 -- entries whose programs answer, in order, and no others (`listed-all`).
 use Prim.Native.Nat.{ℕ, zero, suc, _+_, _≤_, _<_}
@@ -15,67 +15,67 @@ use borrow.Author.Tests.{lt-ltb, le-ltb}
 use Rattle.runtime.specs.Reads.{nothing, andThen, run}
 use Rattle.runtime.specs.ReadsLaws.{run-bind}
 use Rattle.vtable.specs.declared.cursor.EntryCursor.{EntryCursor}
-use Rattle.vtable.specs.Entries.{Word, Entry, entryAt, upTo, entry, start, Step, entryStep}
+use Rattle.vtable.specs.Entries.{Layout, Entry, entryAt, upTo, entry, start, Step, entryStep}
 use Rattle.vtable.specs.EntriesLaws.{step-end, step-gives}
 
 -- a walk over the same table at entry `k`
 abbrev pub walkAt : ℕ → ℕ → ℕ → EntryCursor
 walkAt base count k = record { «base_va» = base; count = count; next = k }
 
-module _ (image segments : List ℕ) (ws : List Word) where
+module _ (image segments : List ℕ) (layout : Layout) where
   -- ---- by number
 
   -- what the step after `n` steps gives; a step moves on past an unreadable entry
   unfoldable pub stepAfter : ℕ → EntryCursor → Option Step
-  stepAfter zero c = entryStep image segments ws c
-  stepAfter (suc n) c = elim (entryStep image segments ws c) [ none ↦ none | some s ↦ stepAfter n (s .next) ]
+  stepAfter zero c = entryStep image segments layout c
+  stepAfter (suc n) c = elim (entryStep image segments layout c) [ none ↦ none | some s ↦ stepAfter n (s .next) ]
 
-  after-by : (n : ℕ) (c : EntryCursor) (x : Option Step) → entryStep image segments ws c ≡ x
+  after-by : (n : ℕ) (c : EntryCursor) (x : Option Step) → entryStep image segments layout c ≡ x
       → stepAfter (suc n) c ≡ (elim x as (λ _. Option Step) [ none ↦ none | some s ↦ stepAfter n (s .next) ])
   unfolding stepAfter
   after-by n c x e = rw (stepAfter, e)
 
   module _ (base count : ℕ) where
-    pub step-after : (n k : ℕ) → stepAfter n (walkAt base count k) ≡ entryStep image segments ws (walkAt base count (n + k))
+    pub step-after : (n k : ℕ) → stepAfter n (walkAt base count k) ≡ entryStep image segments layout (walkAt base count (n + k))
     unfolding stepAfter
-    step-after zero k = ap (λ (j : ℕ). entryStep image segments ws (walkAt base count j)) (omega arith)
+    step-after zero k = ap (λ (j : ℕ). entryStep image segments layout (walkAt base count j)) (omega arith)
     step-after (suc n) k = go (step-after n) (decLt k count)
       where
-        go : ((j : ℕ) → stepAfter n (walkAt base count j) ≡ entryStep image segments ws (walkAt base count (n + j))) → Dec (k < count)
-            → stepAfter (suc n) (walkAt base count k) ≡ entryStep image segments ws (walkAt base count (suc n + k))
+        go : ((j : ℕ) → stepAfter n (walkAt base count j) ≡ entryStep image segments layout (walkAt base count (n + j))) → Dec (k < count)
+            → stepAfter (suc n) (walkAt base count k) ≡ entryStep image segments layout (walkAt base count (suc n + k))
         go ih (yes l) =
-            after-by n (walkAt base count k) _ (sym (step-gives image segments ws (walkAt base count k) _ refl l))
+            after-by n (walkAt base count k) _ (sym (step-gives image segments layout (walkAt base count k) _ refl l))
             ∙ ih (k + 1)
-            ∙ ap (λ (j : ℕ). entryStep image segments ws (walkAt base count j)) (omega arith)
+            ∙ ap (λ (j : ℕ). entryStep image segments layout (walkAt base count j)) (omega arith)
         go ih (no l) =
-            after-by n (walkAt base count k) none (sym (step-end image segments ws (walkAt base count k) (omega arith)))
-            ∙ step-end image segments ws (walkAt base count (suc n + k)) (omega arith)
+            after-by n (walkAt base count k) none (sym (step-end image segments layout (walkAt base count k) (omega arith)))
+            ∙ step-end image segments layout (walkAt base count (suc n + k)) (omega arith)
 
     -- no earlier entry is unreadable
     abbrev pub Readable : ℕ → Type 0
-    Readable k = (j : ℕ) → j < k → run image segments (entryAt ws base j) ≡ none → ⊥
+    Readable k = (j : ℕ) → j < k → run image segments (entryAt layout base j) ≡ none → ⊥
 
-    up-to-run : (k : ℕ) → Readable k → run image segments (upTo ws base k) ≡ run image segments (entryAt ws base k)
+    up-to-run : (k : ℕ) → Readable k → run image segments (upTo layout base k) ≡ run image segments (entryAt layout base k)
     unfolding upTo
     up-to-run zero r = refl
-    up-to-run (suc k) r = run-bind image segments (λ _. entryAt ws base (suc k)) (upTo ws base k) ∙ rw (up-to-run k (λ j l. r j (omega arith))) (go (run image segments (entryAt ws base k)) refl)
+    up-to-run (suc k) r = run-bind image segments (λ _. entryAt layout base (suc k)) (upTo layout base k) ∙ rw (up-to-run k (λ j l. r j (omega arith))) (go (run image segments (entryAt layout base k)) refl)
       where
-        go : (x : Option Entry) → run image segments (entryAt ws base k) ≡ x → andThen x (λ _. run image segments (entryAt ws base (suc k))) ≡ run image segments (entryAt ws base (suc k))
+        go : (x : Option Entry) → run image segments (entryAt layout base k) ≡ x → andThen x (λ _. run image segments (entryAt layout base (suc k))) ≡ run image segments (entryAt layout base (suc k))
         go none e = absurd (r k (omega arith) e)
         go (some a) e = refl
 
     -- stepping k + 1 times gives what the program of entry k gives
     pub stepped-entry : (k : ℕ) → k < count → Readable k
-        → stepAfter k (start base count) ≡ some (record { found = run image segments (entry ws base count k); next = walkAt base count (k + 1) })
+        → stepAfter k (start base count) ≡ some (record { found = run image segments (entry layout base count k); next = walkAt base count (k + 1) })
     unfolding entry
     stepped-entry k l r =
         step-after k 0
-        ∙ ap (λ (j : ℕ). entryStep image segments ws (walkAt base count j)) (omega arith)
-        ∙ sym (step-gives image segments ws (walkAt base count k) _ (simp (lt-ltb k count l) (up-to-run k r)) l)
+        ∙ ap (λ (j : ℕ). entryStep image segments layout (walkAt base count j)) (omega arith)
+        ∙ sym (step-gives image segments layout (walkAt base count k) _ (simp (lt-ltb k count l) (up-to-run k r)) l)
 
     -- and past the last entry the end
     pub stepped-end : (k : ℕ) → count ≤ k → stepAfter k (start base count) ≡ none
-    stepped-end k l = step-after k 0 ∙ sym (step-end image segments ws (walkAt base count (k + 0)) (omega arith))
+    stepped-end k l = step-after k 0 ∙ sym (step-end image segments layout (walkAt base count (k + 0)) (omega arith))
 
   -- ---- as a list
 
@@ -83,7 +83,7 @@ module _ (image segments : List ℕ) (ws : List Word) where
   unfoldable pub listed : ℕ → EntryCursor → List Entry
   listed zero c = []
   listed (suc n) c =
-      elim (entryStep image segments ws c) [
+      elim (entryStep image segments layout c) [
         | none ↦ []
         | some s ↦ elim (s .found) [ none ↦ [] | some e ↦ e ∷ listed n (s .next) ]
       ]
@@ -91,46 +91,46 @@ module _ (image segments : List ℕ) (ws : List Word) where
   module _ (base count : ℕ) where
     -- entry `k` from entry `i` on: the entries `i` to `i` + `k` are read
     unfoldable from : ℕ → ℕ → Option Entry
-    from i zero = run image segments (entryAt ws base i)
-    from i (suc k) = andThen (run image segments (entryAt ws base i)) (λ _. from (suc i) k)
+    from i zero = run image segments (entryAt layout base i)
+    from i (suc k) = andThen (run image segments (entryAt layout base i)) (λ _. from (suc i) k)
 
     then-then : (x y : Option Entry) (z : Option Entry) → andThen x (λ _. andThen y (λ _. z)) ≡ andThen (andThen x (λ _. y)) (λ _. z)
     then-then none y z = refl
     then-then (some a) y z = refl
 
-    from-last : (k i : ℕ) → from i (suc k) ≡ andThen (from i k) (λ _. run image segments (entryAt ws base (suc (k + i))))
+    from-last : (k i : ℕ) → from i (suc k) ≡ andThen (from i k) (λ _. run image segments (entryAt layout base (suc (k + i))))
     unfolding from
-    from-last zero i = ap (λ (j : ℕ). andThen (run image segments (entryAt ws base i)) (λ _. run image segments (entryAt ws base (suc j)))) (omega arith)
+    from-last zero i = ap (λ (j : ℕ). andThen (run image segments (entryAt layout base i)) (λ _. run image segments (entryAt layout base (suc j)))) (omega arith)
     from-last (suc k) i =
-        ap (λ (x : Option Entry). andThen (run image segments (entryAt ws base i)) (λ _. x)) (from-last k (suc i))
-        ∙ then-then (run image segments (entryAt ws base i)) (from (suc i) k) _
-        ∙ ap (λ (j : ℕ). andThen (from i (suc k)) (λ _. run image segments (entryAt ws base (suc j)))) (omega arith)
+        ap (λ (x : Option Entry). andThen (run image segments (entryAt layout base i)) (λ _. x)) (from-last k (suc i))
+        ∙ then-then (run image segments (entryAt layout base i)) (from (suc i) k) _
+        ∙ ap (λ (j : ℕ). andThen (from i (suc k)) (λ _. run image segments (entryAt layout base (suc j)))) (omega arith)
 
-    from-start : (k : ℕ) → from 0 k ≡ run image segments (upTo ws base k)
+    from-start : (k : ℕ) → from 0 k ≡ run image segments (upTo layout base k)
     unfolding upTo from
     from-start zero = refl
     from-start (suc k) =
         from-last k 0
-        ∙ ap (λ (x : Option Entry). andThen x (λ _. run image segments (entryAt ws base (suc (k + 0))))) (from-start k)
-        ∙ ap (λ (j : ℕ). andThen (run image segments (upTo ws base k)) (λ _. run image segments (entryAt ws base (suc j)))) (omega arith)
-        ∙ sym (run-bind image segments (λ _. entryAt ws base (suc k)) (upTo ws base k))
+        ∙ ap (λ (x : Option Entry). andThen x (λ _. run image segments (entryAt layout base (suc (k + 0))))) (from-start k)
+        ∙ ap (λ (j : ℕ). andThen (run image segments (upTo layout base k)) (λ _. run image segments (entryAt layout base (suc j)))) (omega arith)
+        ∙ sym (run-bind image segments (λ _. entryAt layout base (suc k)) (upTo layout base k))
 
-    listed-by : (n i : ℕ) → i < count → (x : Option Entry) → run image segments (entryAt ws base i) ≡ x
+    listed-by : (n i : ℕ) → i < count → (x : Option Entry) → run image segments (entryAt layout base i) ≡ x
         → listed (suc n) (walkAt base count i) ≡ (elim x as (λ _. List Entry) [ none ↦ [] | some e ↦ e ∷ listed n (walkAt base count (i + 1)) ])
     unfolding listed
-    listed-by n i l x e = rw (listed, sym (step-gives image segments ws (walkAt base count i) x (sym e) l))
+    listed-by n i l x e = rw (listed, sym (step-gives image segments layout (walkAt base count i) x (sym e) l))
 
     listed-none : (n i : ℕ) → count ≤ i → listed n (walkAt base count i) ≡ []
     unfolding listed
     listed-none zero i l = refl
-    listed-none (suc n) i l = rw (listed, sym (step-end image segments ws (walkAt base count i) l))
+    listed-none (suc n) i l = rw (listed, sym (step-end image segments layout (walkAt base count i) l))
 
-    from-none : (i k : ℕ) → run image segments (entryAt ws base i) ≡ none → from i k ≡ none
+    from-none : (i k : ℕ) → run image segments (entryAt layout base i) ≡ none → from i k ≡ none
     unfolding from
     from-none i zero e = e
     from-none i (suc k) e = rw e
 
-    from-some : (i k : ℕ) (a : Entry) → run image segments (entryAt ws base i) ≡ some a → from i (suc k) ≡ from (i + 1) k
+    from-some : (i k : ℕ) (a : Entry) → run image segments (entryAt layout base i) ≡ some a → from i (suc k) ≡ from (i + 1) k
     unfolding from
     from-some i k a e = rw (e, add-one)
 
@@ -142,15 +142,15 @@ module _ (image segments : List ℕ) (ws : List Word) where
     abbrev place : ℕ → ℕ → Option Entry
     place i k = cond (ltb (k + i) count) (from i k) none
 
-    place-none : (i k : ℕ) → run image segments (entryAt ws base i) ≡ none → place i k ≡ none
+    place-none : (i k : ℕ) → run image segments (entryAt layout base i) ≡ none → place i k ≡ none
     place-none i k e = rw (from-none i k e) (cond-none (ltb (k + i) count))
 
-    place-some : (i k : ℕ) (a : Entry) → run image segments (entryAt ws base i) ≡ some a → place i (suc k) ≡ place (i + 1) k
+    place-some : (i k : ℕ) (a : Entry) → run image segments (entryAt layout base i) ≡ some a → place i (suc k) ≡ place (i + 1) k
     place-some i k a e =
         let j : suc k + i ≡ k + (i + 1) = omega arith in
         rw (from-some i k a e, j)
 
-    place-first : (i : ℕ) (a : Entry) → i < count → run image segments (entryAt ws base i) ≡ some a → place i 0 ≡ some a
+    place-first : (i : ℕ) (a : Entry) → i < count → run image segments (entryAt layout base i) ≡ some a → place i 0 ≡ some a
     unfolding from
     place-first i a l e = let j : 0 + i < count = omega arith in simp (lt-ltb (0 + i) count j) e
 
@@ -162,7 +162,7 @@ module _ (image segments : List ℕ) (ws : List Word) where
     listed-at (suc n) i k l = go (listed-at n (i + 1)) (decLt i count)
       where
         with-first : ((j : ℕ) → j < n → getElem? (listed n (walkAt base count (i + 1))) j ≡ place (i + 1) j) → i < count
-            → (x : Option Entry) → run image segments (entryAt ws base i) ≡ x → (k : ℕ) → k < suc n
+            → (x : Option Entry) → run image segments (entryAt layout base i) ≡ x → (k : ℕ) → k < suc n
             → getElem? (elim x as (λ _. List Entry) [ none ↦ [] | some e ↦ e ∷ listed n (walkAt base count (i + 1)) ]) k ≡ place i k
         with-first ih h none e k l = sym (place-none i k e)
         with-first ih h (some a) e zero l = sym (place-first i a h e)
@@ -170,15 +170,15 @@ module _ (image segments : List ℕ) (ws : List Word) where
 
         go : ((j : ℕ) → j < n → getElem? (listed n (walkAt base count (i + 1))) j ≡ place (i + 1) j) → Dec (i < count)
             → getElem? (listed (suc n) (walkAt base count i)) k ≡ place i k
-        go ih (yes h) = rw (listed-by n i h (run image segments (entryAt ws base i)) refl) (with-first ih h (run image segments (entryAt ws base i)) refl k l)
+        go ih (yes h) = rw (listed-by n i h (run image segments (entryAt layout base i)) refl) (with-first ih h (run image segments (entryAt layout base i)) refl k l)
         go ih (no h) = rw (listed-none (suc n) i (omega arith)) (sym (place-past i k (omega arith)))
 
     -- entry `k` of the list of a caller who steps `n` times is what its program reads
-    pub listed-entry : (n k : ℕ) → k < n → getElem? (listed n (start base count)) k ≡ run image segments (entry ws base count k)
+    pub listed-entry : (n k : ℕ) → k < n → getElem? (listed n (start base count)) k ≡ run image segments (entry layout base count k)
     unfolding entry run
-    listed-entry n k l = listed-at n 0 k l ∙ rw (from-start k) (ap (λ (j : ℕ). cond (ltb j count) (run image segments (upTo ws base k)) none) (omega arith) ∙ go (ltb k count))
+    listed-entry n k l = listed-at n 0 k l ∙ rw (from-start k) (ap (λ (j : ℕ). cond (ltb j count) (run image segments (upTo layout base k)) none) (omega arith) ∙ go (ltb k count))
       where
-        go : (b : Bool) → cond b (run image segments (upTo ws base k)) none ≡ run image segments (cond b (upTo ws base k) nothing)
+        go : (b : Bool) → cond b (run image segments (upTo layout base k)) none ≡ run image segments (cond b (upTo layout base k) nothing)
         go true = refl
         go false = refl
 
@@ -193,7 +193,7 @@ module _ (image segments : List ℕ) (ws : List Word) where
         with-first ih (some a) = omega arith
 
         go : length (listed n (walkAt base count (i + 1))) ≤ n → Dec (i < count) → length (listed (suc n) (walkAt base count i)) ≤ suc n
-        go ih (yes h) = rw (listed-by n i h (run image segments (entryAt ws base i)) refl) (with-first ih (run image segments (entryAt ws base i)))
+        go ih (yes h) = rw (listed-by n i h (run image segments (entryAt layout base i)) refl) (with-first ih (run image segments (entryAt layout base i)))
         go ih (no h) = rw (listed-none (suc n) i (omega arith)) (omega arith)
 
     -- past a list's end there is nothing
@@ -203,10 +203,10 @@ module _ (image segments : List ℕ) (ws : List Word) where
     past-end (a ∷ l) (suc k) h = past-end l k (omega arith)
 
     -- the list of a caller who steps to the end: its entry `k` is what the program of entry `k` reads, for every `k`
-    pub listed-all : (n k : ℕ) → count ≤ n → getElem? (listed n (start base count)) k ≡ run image segments (entry ws base count k)
+    pub listed-all : (n k : ℕ) → count ≤ n → getElem? (listed n (start base count)) k ≡ run image segments (entry layout base count k)
     unfolding entry run
     listed-all n k c = go (decLt k n)
       where
-        go : Dec (k < n) → getElem? (listed n (start base count)) k ≡ run image segments (entry ws base count k)
+        go : Dec (k < n) → getElem? (listed n (start base count)) k ≡ run image segments (entry layout base count k)
         go (yes l) = listed-entry n k l
         go (no l) = past-end (listed n (start base count)) k (omega (arith, few n 0)) ∙ simp (le-ltb k count (omega arith))

@@ -13,32 +13,32 @@ use Rattle.util.specs.Segments.{segmentsOf, decides, inFile, fileOffset}
 use Rattle.runtime.specs.Reads.{Reads, done, bytes, bind, andThen, within, bytesPlace, run, Range, bytesRange, path}
 use Rattle.runtime.specs.ReadsLaws.{run-bind, path-bind}
 use Rattle.runtime.specs.PathLaws.{path-bytes, bytes-read}
-use Rattle.vtable.specs.Entries.{Word, method, override, defaultOverride, prespecialization, entrySize, Entry, entryOf, entryAddress, entryAt, upTo, entry}
+use Rattle.vtable.specs.Entries.{Layout, method, override, defaultOverride, prespecialization, entrySize, Entry, entryOf, entryAddress, entryAt, upTo, entry}
 
 -- where an address lies in the file, 0 where it does not
 abbrev pub offsetIn : List ℕ → ℕ → ℕ
 offsetIn segments a = Option·getD (fileOffset (segmentsOf segments) a) 0
 
 -- the bytes of the entries 0 to `k` in the file, one range to an entry
-unfoldable pub ranges : List ℕ → List Word → ℕ → ℕ → List Range
-ranges segments ws base zero = bytesRange (offsetIn segments (entryAddress ws base 0)) (entrySize ws) ∷ []
-ranges segments ws base (suc k) = ranges segments ws base k ++ (bytesRange (offsetIn segments (entryAddress ws base (suc k))) (entrySize ws) ∷ [])
+unfoldable pub ranges : List ℕ → Layout → ℕ → ℕ → List Range
+ranges segments layout base zero = bytesRange (offsetIn segments (entryAddress layout base 0)) (entrySize layout) ∷ []
+ranges segments layout base (suc k) = ranges segments layout base k ++ (bytesRange (offsetIn segments (entryAddress layout base (suc k))) (entrySize layout) ∷ [])
 
 -- an entry's bytes lie in the image, at the offset of its address
-pub record Placed (image segments : List ℕ) (ws : List Word) (base k : ℕ) : Type 0 where
-  pub at : fileOffset (segmentsOf segments) (entryAddress ws base k) ≡ some (offsetIn segments (entryAddress ws base k))
-  pub inside : offsetIn segments (entryAddress ws base k) + entrySize ws ≤ length image
-  pub below : entryAddress ws base k + (entrySize ws - 4) < 2 ^ 64
+pub record Placed (image segments : List ℕ) (layout : Layout) (base k : ℕ) : Type 0 where
+  pub at : fileOffset (segmentsOf segments) (entryAddress layout base k) ≡ some (offsetIn segments (entryAddress layout base k))
+  pub inside : offsetIn segments (entryAddress layout base k) + entrySize layout ≤ length image
+  pub below : entryAddress layout base k + (entrySize layout - 4) < 2 ^ 64
 
-module _ (image segments : List ℕ) (ws : List Word) (base : ℕ) where
+module _ (image segments : List ℕ) (layout : Layout) (base : ℕ) where
   -- ---- an entry by itself
 
-  module _ (k : ℕ) (e : Entry) (there : run image segments (entryAt ws base k) ≡ some e) where
+  module _ (k : ℕ) (e : Entry) (there : run image segments (entryAt layout base k) ≡ some e) where
     abbrev last : ℕ
-    last = entryAddress ws base k + (entrySize ws - 4)
+    last = entryAddress layout base k + (entrySize layout - 4)
 
     abbrev says : List ℕ → Reads Entry
-    says h = done (entryOf ws (entryAddress ws base k) h)
+    says h = done (entryOf layout (entryAddress layout base k) h)
 
     last-below : last < 2 ^ 64
     unfolding entryAt run
@@ -51,28 +51,28 @@ module _ (image segments : List ℕ) (ws : List Word) (base : ℕ) where
             absurd (omega arith)
         go (no w) = omega arith
 
-    program : entryAt ws base k ≡ bytes (entryAddress ws base k) (entrySize ws) says
+    program : entryAt layout base k ≡ bytes (entryAddress layout base k) (entrySize layout) says
     unfolding entryAt
     program = simp (lt-leb (2 ^ 64) last last-below)
 
-    pub placed : Placed image segments ws base k
+    pub placed : Placed image segments layout base k
     placed =
-        let w = bytes-read image segments (entryAddress ws base k) e (entrySize ws) says (rw program at there) in
-        let q : offsetIn segments (entryAddress ws base k) ≡ w .offset = ap (λ (x : Option ℕ). Option·getD x 0) (w .at) in
+        let w = bytes-read image segments (entryAddress layout base k) e (entrySize layout) says (rw program at there) in
+        let q : offsetIn segments (entryAddress layout base k) ≡ w .offset = ap (λ (x : Option ℕ). Option·getD x 0) (w .at) in
         record { at = w .at ∙ ap some (sym q); inside = omega (arith, w .inside); below = last-below }
 
-    own-path : path image segments (entryAt ws base k) ≡ bytesRange (offsetIn segments (entryAddress ws base k)) (entrySize ws) ∷ []
+    own-path : path image segments (entryAt layout base k) ≡ bytesRange (offsetIn segments (entryAddress layout base k)) (entrySize layout) ∷ []
     unfolding path
-    own-path = ap (path image segments) program ∙ path-bytes image segments (entryAddress ws base k) (entrySize ws) says _ (placed .at) (placed .inside)
+    own-path = ap (path image segments) program ∙ path-bytes image segments (entryAddress layout base k) (entrySize layout) says _ (placed .at) (placed .inside)
 
     -- and it is what these bytes say
-    pub own-words : e ≡ entryOf ws (entryAddress ws base k) (take (entrySize ws) (drop (offsetIn segments (entryAddress ws base k)) image))
+    pub own-words : e ≡ entryOf layout (entryAddress layout base k) (take (entrySize layout) (drop (offsetIn segments (entryAddress layout base k)) image))
     unfolding run
     own-words =
-        let w = bytes-read image segments (entryAddress ws base k) e (entrySize ws) says (rw program at there) in
-        let q : offsetIn segments (entryAddress ws base k) ≡ w .offset = ap (λ (x : Option ℕ). Option·getD x 0) (w .at) in
-        let f : some (entryOf ws (entryAddress ws base k) (take (entrySize ws) (drop (w .offset) image))) ≡ some e = w .goes in
-        let g : e ≡ entryOf ws (entryAddress ws base k) (take (entrySize ws) (drop (w .offset) image)) = cc in
+        let w = bytes-read image segments (entryAddress layout base k) e (entrySize layout) says (rw program at there) in
+        let q : offsetIn segments (entryAddress layout base k) ≡ w .offset = ap (λ (x : Option ℕ). Option·getD x 0) (w .at) in
+        let f : some (entryOf layout (entryAddress layout base k) (take (entrySize layout) (drop (w .offset) image))) ≡ some e = w .goes in
+        let g : e ≡ entryOf layout (entryAddress layout base k) (take (entrySize layout) (drop (w .offset) image)) = cc in
         rw q g
 
   -- ---- an entry of a list
@@ -80,26 +80,26 @@ module _ (image segments : List ℕ) (ws : List Word) (base : ℕ) where
   -- the last one before an entry that is there, and itself
   record Both (k : ℕ) (e : Entry) : Type 0 where
     before : Entry
-    was : run image segments (upTo ws base k) ≡ some before
-    is : run image segments (entryAt ws base (suc k)) ≡ some e
+    was : run image segments (upTo layout base k) ≡ some before
+    is : run image segments (entryAt layout base (suc k)) ≡ some e
 
-  both : (k : ℕ) (e : Entry) → run image segments (upTo ws base (suc k)) ≡ some e → Both k e
+  both : (k : ℕ) (e : Entry) → run image segments (upTo layout base (suc k)) ≡ some e → Both k e
   unfolding upTo
-  both k e there = go (run image segments (upTo ws base k)) refl (sym (run-bind image segments (λ _. entryAt ws base (suc k)) (upTo ws base k)) ∙ there)
+  both k e there = go (run image segments (upTo layout base k)) refl (sym (run-bind image segments (λ _. entryAt layout base (suc k)) (upTo layout base k)) ∙ there)
     where
-      go : (x : Option Entry) → run image segments (upTo ws base k) ≡ x → andThen x (λ _. run image segments (entryAt ws base (suc k))) ≡ some e → Both k e
+      go : (x : Option Entry) → run image segments (upTo layout base k) ≡ x → andThen x (λ _. run image segments (entryAt layout base (suc k))) ≡ some e → Both k e
       go none t f = let z : _≡_ {A = ℕ} 0 1 = cc in absurd (omega arith)
       go (some a) t f = record { before = a; was = t; is = f }
 
-  up-to-path : (k : ℕ) (e : Entry) → run image segments (upTo ws base k) ≡ some e → path image segments (upTo ws base k) ≡ ranges segments ws base k
+  up-to-path : (k : ℕ) (e : Entry) → run image segments (upTo layout base k) ≡ some e → path image segments (upTo layout base k) ≡ ranges segments layout base k
   unfolding upTo ranges
   up-to-path zero e there = own-path 0 e there
   up-to-path (suc k) e there =
       let b = both k e there in
-      path-bind image segments (λ _. entryAt ws base (suc k)) (upTo ws base k)
+      path-bind image segments (λ _. entryAt layout base (suc k)) (upTo layout base k)
       ∙ rw (b .was, up-to-path k (b .before) (b .was), own-path (suc k) e (b .is))
 
-  up-to-placed : (k : ℕ) (e : Entry) → run image segments (upTo ws base k) ≡ some e → (j : ℕ) → j ≤ k → Placed image segments ws base j
+  up-to-placed : (k : ℕ) (e : Entry) → run image segments (upTo layout base k) ≡ some e → (j : ℕ) → j ≤ k → Placed image segments layout base j
   unfolding upTo
   up-to-placed zero e there j l = let z : j ≡ 0 = omega arith in rw z (placed 0 e there)
   up-to-placed (suc k) e there j l = go (up-to-placed k (b .before) (b .was)) (decLe j k)
@@ -107,21 +107,21 @@ module _ (image segments : List ℕ) (ws : List Word) (base : ℕ) where
       b : Both k e
       b = both k e there
 
-      go : ((i : ℕ) → i ≤ k → Placed image segments ws base i) → Dec (j ≤ k) → Placed image segments ws base j
+      go : ((i : ℕ) → i ≤ k → Placed image segments layout base i) → Dec (j ≤ k) → Placed image segments layout base j
       go ih (yes h) = ih j h
       go ih (no h) = let z : j ≡ suc k = omega arith in rw z (placed (suc k) e (b .is))
 
-  up-to-own : (k : ℕ) (e : Entry) → run image segments (upTo ws base k) ≡ some e → run image segments (entryAt ws base k) ≡ some e
+  up-to-own : (k : ℕ) (e : Entry) → run image segments (upTo layout base k) ≡ some e → run image segments (entryAt layout base k) ≡ some e
   unfolding upTo
   up-to-own zero e there = there
   up-to-own (suc k) e there = both k e there .is
 
-  module _ (count k : ℕ) (e : Entry) (there : run image segments (entry ws base count k) ≡ some e) where
-    is-program : (k < count) × (entry ws base count k ≡ upTo ws base k)
+  module _ (count k : ℕ) (e : Entry) (there : run image segments (entry layout base count k) ≡ some e) where
+    is-program : (k < count) × (entry layout base count k ≡ upTo layout base k)
     unfolding entry run
     is-program = go (decLt k count)
       where
-        go : Dec (k < count) → (k < count) × (entry ws base count k ≡ upTo ws base k)
+        go : Dec (k < count) → (k < count) × (entry layout base count k ≡ upTo layout base k)
         go (yes l) = (l, simp (lt-ltb k count l))
         go (no l) =
             let f : _≡_ {A = Option Entry} none (some e) = simp (le-ltb k count (omega arith)) at there in
@@ -133,15 +133,15 @@ module _ (image segments : List ℕ) (ws : List Word) (base : ℕ) where
     entry-counted = is-program .0
 
     -- its path: the entries 0 to `k`, each with all its bytes
-    pub entry-path : path image segments (entry ws base count k) ≡ ranges segments ws base k
+    pub entry-path : path image segments (entry layout base count k) ≡ ranges segments layout base k
     entry-path = ap (path image segments) (is-program .1) ∙ up-to-path k e (rw (is-program .1) at there)
 
     -- each of which lies in the image
-    pub entry-placed : (j : ℕ) → j ≤ k → Placed image segments ws base j
+    pub entry-placed : (j : ℕ) → j ≤ k → Placed image segments layout base j
     entry-placed = up-to-placed k e (rw (is-program .1) at there)
 
     -- and the entry is what its own bytes say
-    pub entry-words : e ≡ entryOf ws (entryAddress ws base k) (take (entrySize ws) (drop (offsetIn segments (entryAddress ws base k)) image))
+    pub entry-words : e ≡ entryOf layout (entryAddress layout base k) (take (entrySize layout) (drop (offsetIn segments (entryAddress layout base k)) image))
     entry-words = own-words k e (up-to-own k e (rw (is-program .1) at there))
 
 -- ---- the words, by examples
@@ -161,11 +161,11 @@ highSegments = 18446744073709551592 ∷ 23 ∷ 0 ∷ 24 ∷ []
 abbrev answered : ℕ → List ℕ → Option Entry
 answered a xs = some (record { address = a; words = xs })
 
-abbrev sample : List Word → ℕ → ℕ → Option Entry
-sample ws count k = run sampleImage sampleSegments (entry ws 4096 count k)
+abbrev sample : Layout → ℕ → ℕ → Option Entry
+sample layout count k = run sampleImage sampleSegments (entry layout 4096 count k)
 
-abbrev high : List Word → ℕ → Option Entry
-high ws base = run sampleImage highSegments (entry ws base 1 0)
+abbrev high : Layout → ℕ → Option Entry
+high layout base = run sampleImage highSegments (entry layout base 1 0)
 
 pub record Worked : Type 0 where
   pub sizes : (entrySize method ≡ 8) × (entrySize override ≡ 12) × (entrySize defaultOverride ≡ 8) × (entrySize prespecialization ≡ 4)

@@ -147,7 +147,15 @@ impl EntryCursor {
             count,
             next: k + 1,
         };
-        let bytes = entry_bytes(image, segments, mapping, base_va, METHOD_SIZE, k);
+        let bytes = entry_bytes(
+            image,
+            segments,
+            mapping,
+            base_va,
+            METHOD_SIZE,
+            METHOD_SIZE,
+            k,
+        );
         if bytes.len() == 0 {
             return MethodStep::Unreadable { next };
         }
@@ -176,7 +184,15 @@ impl EntryCursor {
             count,
             next: k + 1,
         };
-        let bytes = entry_bytes(image, segments, mapping, base_va, OVERRIDE_SIZE, k);
+        let bytes = entry_bytes(
+            image,
+            segments,
+            mapping,
+            base_va,
+            OVERRIDE_SIZE,
+            OVERRIDE_SIZE,
+            k,
+        );
         if bytes.len() == 0 {
             return OverrideStep::Unreadable { next };
         }
@@ -205,7 +221,15 @@ impl EntryCursor {
             count,
             next: k + 1,
         };
-        let bytes = entry_bytes(image, segments, mapping, base_va, DEFAULT_OVERRIDE_SIZE, k);
+        let bytes = entry_bytes(
+            image,
+            segments,
+            mapping,
+            base_va,
+            DEFAULT_OVERRIDE_SIZE,
+            DEFAULT_OVERRIDE_SIZE,
+            k,
+        );
         if bytes.len() == 0 {
             return DefaultOverrideStep::Unreadable { next };
         }
@@ -234,7 +258,15 @@ impl EntryCursor {
             count,
             next: k + 1,
         };
-        let bytes = entry_bytes(image, segments, mapping, base_va, PRESPECIALIZATION_SIZE, k);
+        let bytes = entry_bytes(
+            image,
+            segments,
+            mapping,
+            base_va,
+            PRESPECIALIZATION_SIZE,
+            PRESPECIALIZATION_SIZE,
+            k,
+        );
         if bytes.len() == 0 {
             return PrespecializationStep::Unreadable { next };
         }

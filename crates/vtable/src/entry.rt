@@ -38,28 +38,29 @@ pub const DEFAULT_OVERRIDE_SIZE: u32 = 8;
 
 pub const PRESPECIALIZATION_SIZE: u32 = 4;
 
-// The address of entry `k` of a table of entries of `size` bytes, modulo 2^64.
-pub fn entry_address(base_va: u64, size: u32, k: u32) -> u64
-    ensures { λ r. ⌜ r ≡ («base_va» + size * k) % 2 ^ 64 ⌝ }
+// The address of entry `k` of a table whose entries are `stride` bytes from one another, modulo 2^64.
+pub fn entry_address(base_va: u64, stride: u32, k: u32) -> u64
+    ensures { λ r. ⌜ r ≡ («base_va» + stride * k) % 2 ^ 64 ⌝ }
 {
-    std::num::wrapping_add_u64(base_va, (size as u64) * (k as u64))
+    std::num::wrapping_add_u64(base_va, (stride as u64) * (k as u64))
 }
 
-// Its bytes, as that part of the image: empty where they cannot be read, or where one of its words does not lie below 2^64.
+// Its `size` bytes, as that part of the image: empty where they cannot be read, or where one of its words does not lie below 2^64.
 pub fn entry_bytes<'a>(
     image: &'a [u8],
     segments: &[u64],
     mapping: Mapping,
     base_va: u64,
     size: u32,
+    stride: u32,
     k: u32,
 ) -> &'a [u8]
-    ensures { λ r. ⌜ now r ≡ entryBytes (now (image .entry)) (withMapping mapping (now (segments .entry))) size «base_va» k ⌝ }
+    ensures { λ r. ⌜ now r ≡ entryBytes (now (image .entry)) (withMapping mapping (now (segments .entry))) size stride «base_va» k ⌝ }
 {
     if size < 4 {
         return &image[..0];
     }
-    let before = (size as u64) * (k as u64);
+    let before = (stride as u64) * (k as u64);
     if 0xffff_ffff_ffff_ffff - base_va < before {
         return &image[..0];
     }

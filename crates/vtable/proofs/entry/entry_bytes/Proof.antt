@@ -10,7 +10,7 @@ slice-aggregate-result : tie.Need-slice-aggregate-result
 slice-aggregate-result c = search needs
 
 returns : tie.Need-returns
-returns c = small _ _ _ _ _ (c .before .if1 .taken)
+returns c = small _ _ _ _ _ _ (c .before .if1 .taken)
 
 mul-before : tie.Need-mul-before
 mul-before c = record { fits = product (search needs) (search needs) }
@@ -22,7 +22,7 @@ slice-aggregate-result-2 : tie.Need-slice-aggregate-result-2
 slice-aggregate-result-2 c = search needs
 
 returns-2 : tie.Need-returns-2
-returns-2 c = wraps _ _ _ _ _ (omega arith) (omega arith)
+returns-2 c = wraps _ _ _ _ _ _ (omega arith) (omega arith)
 
 add-address : tie.Need-add-address
 add-address c = search needs
@@ -37,13 +37,13 @@ slice-aggregate-result-3 : tie.Need-slice-aggregate-result-3
 slice-aggregate-result-3 c = search needs
 
 returns-3 : tie.Need-returns-3
-returns-3 c = wraps _ _ _ _ _ (omega arith) (omega arith)
+returns-3 c = wraps _ _ _ _ _ _ (omega arith) (omega arith)
 
 read-bytes-near-requires : tie.Need-read-bytes-near-requires
 read-bytes-near-requires c κs = search needs
 
 returns-4 : tie.Need-returns-4
-returns-4 c = below _ _ _ _ _ _ (omega arith) (omega arith) (c .read-bytes-near .ensures)
+returns-4 c = below _ _ _ _ _ _ _ (omega arith) (omega arith) (c .read-bytes-near .ensures)
 
 pub entry-bytes-spec : {M : Type 1} → statement M
 entry-bytes-spec =

@@ -1,0 +1,5 @@
+pub mod Fields
+pub mod FieldsLaws
+pub mod PathLaws
+pub mod Records
+pub mod RecordsLaws

@@ -1,0 +1,128 @@
+// The records of a field descriptor, read from the image at their addresses.
+ghost use mathlib.Core.Path.{_≡_};
+ghost use Prim.Native.Nat.{_+_, _^_, _<_};
+ghost use Rattle.util.specs.Cstr.{textOf};
+ghost use Rattle.util.specs.Mapping.{withMapping, Mapped};
+ghost use Rattle.runtime.specs.Reads.{textPlace};
+ghost use Rattle.runtime.specs.FieldName.{fieldName, fieldNameOf};
+ghost use Rattle.vtable.specs.Entries.{packed, entryOf};
+ghost use Rattle.field.specs.Records.{recordWords, recordStep, ofRecord, recordStepOf};
+use runtime::FieldName;
+use util::Around;
+use util::Mapping;
+use util::Text;
+
+// How many bytes of a record are read, whatever the record size is.
+const RECORD_SIZE: u32 = 12;
+
+// Its address, and what its words say. The names are texts at these addresses, 0 where there is none.
+pub struct FieldRecord {
+    pub address: u64,
+    pub flags: u32,
+    pub mangled_type_name_va: u64,
+    pub field_name_va: u64,
+}
+
+// A walk over records: the first one's address, how many there are, the bytes from one to the next, and the next one's number.
+pub struct FieldRecordIter {
+    pub base_va: u64,
+    pub count: u32,
+    pub entry_size: u32,
+    pub cursor: u32,
+}
+
+// What a step gives: a record, or that there is one that cannot be read, each with the walk from there on; or the end.
+pub enum FieldRecordStep {
+    Record {
+        record: FieldRecord,
+        next: FieldRecordIter,
+    },
+    Unreadable {
+        next: FieldRecordIter,
+    },
+    End,
+}
+
+fn field_record(bytes: &[u8], address: u64) -> FieldRecord
+    requires { ⌜ address + 8 < 2 ^ 64 ⌝ }
+    ensures { λ r. ⌜ ofRecord r ≡ entryOf (packed recordWords) address (now (bytes .entry)) ⌝ }
+{
+    FieldRecord {
+        address,
+        flags: util::u32_at(bytes, 0),
+        mangled_type_name_va: util::address_in(bytes, 4, address + 4),
+        field_name_va: util::address_in(bytes, 8, address + 8),
+    }
+}
+
+impl FieldRecordIter {
+    // What is in the file around the records' start. With it a step need not go through the segments again; without it the answers are the same.
+    pub fn locate(self, segments: &[u64]) -> Mapping
+        ensures { λ r. ⌜ Mapped (now (segments .entry)) r ⌝ }
+    {
+        match util::locate(segments, self.base_va) {
+            Around::Mapping(mapping) => mapping,
+            Around::Nothing => Mapping::empty(),
+        }
+    }
+
+    pub fn next_near(self, image: &[u8], segments: &[u64], mapping: Mapping) -> FieldRecordStep
+        ensures { λ r. ⌜ recordStepOf r ≡ recordStep (now (image .entry)) (withMapping mapping (now (segments .entry))) self ⌝ }
+    {
+        let base_va = self.base_va;
+        let count = self.count;
+        let entry_size = self.entry_size;
+        let k = self.cursor;
+        if count <= k {
+            return FieldRecordStep::End;
+        }
+        let next = FieldRecordIter {
+            base_va,
+            count,
+            entry_size,
+            cursor: k + 1,
+        };
+        let bytes = vtable::entry_bytes(
+            image,
+            segments,
+            mapping,
+            base_va,
+            RECORD_SIZE,
+            entry_size,
+            k,
+        );
+        if bytes.len() == 0 {
+            return FieldRecordStep::Unreadable { next };
+        }
+        FieldRecordStep::Record {
+            record: field_record(bytes, vtable::entry_address(base_va, entry_size, k)),
+            next,
+        }
+    }
+
+    // The same with nothing known of the addresses around.
+    pub fn next(self, image: &[u8], segments: &[u64]) -> FieldRecordStep
+        ensures { λ r. ⌜ recordStepOf r ≡ recordStep (now (image .entry)) (now (segments .entry)) self ⌝ }
+    {
+        self.next_near(image, segments, Mapping::empty())
+    }
+}
+
+pub fn record_type_name(image: &[u8], segments: &[u64], record: FieldRecord) -> Text
+    ensures { λ r. ⌜ textOf r ≡ textPlace (now (image .entry)) (now (segments .entry)) («record» .«mangled_type_name_va») ⌝ }
+{
+    runtime::read_cstr(image, segments, record.mangled_type_name_va)
+}
+
+// The image's text at the name's address, else that of the string section, whose first byte is at `strings_va`.
+pub fn field_name(
+    image: &[u8],
+    segments: &[u64],
+    strings: &[u8],
+    strings_va: u64,
+    record: FieldRecord,
+) -> FieldName
+    ensures { λ r. ⌜ fieldNameOf r ≡ fieldName (now (image .entry)) (now (segments .entry)) (now (strings .entry)) «strings_va» («record» .«field_name_va») ⌝ }
+{
+    runtime::lookup_field_name(image, segments, strings, strings_va, record.field_name_va)
+}
