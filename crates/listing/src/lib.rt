@@ -1,8 +1,34 @@
 // The product's calls over an image, its segments and its sections, with their refusals.
+mod blocks;
+mod bodies;
 mod calls;
+mod entries;
+mod singletons;
 
+pub use blocks::BlockAnswer;
+pub use blocks::NextBlock;
+pub use blocks::block_of_kind;
+pub use blocks::block_walk;
+pub use blocks::next_block;
+pub use bodies::BodyAnswer;
+pub use bodies::TextAnswer;
+pub use bodies::row_body;
+pub use bodies::superclass_name;
+pub use bodies::text_at;
 pub use calls::NextContext;
 pub use calls::NextRow;
 pub use calls::joined_name;
 pub use calls::next_context;
 pub use calls::next_row;
+pub use entries::NextDefaultOverride;
+pub use entries::NextMethod;
+pub use entries::NextOverride;
+pub use entries::NextPrespecialization;
+pub use entries::next_default_override;
+pub use entries::next_method;
+pub use entries::next_override;
+pub use entries::next_prespecialization;
+pub use singletons::InitAnswer;
+pub use singletons::PointerAnswer;
+pub use singletons::singleton_init;
+pub use singletons::singleton_pointer;

@@ -1,0 +1,28 @@
+-- `listing::blocks::block_walk` meets its contract.
+-- Assumes nothing.
+use mathlib.Core.Path.{ap}
+use Rattle.util.specs.AnswersLaws.{told}
+use Rattle.typedescriptor.specs.Items.{trailersOf}
+use Rattle.listing.specs.Blocks.{walkFrom}
+use borrow.Author.Needs.{needs}
+use Rattle.listing.proofs.blocks.block_walk.Statement.{statement}
+use Rattle.listing.proofs.blocks.block_walk.Tie as tie
+
+trailing-requires : tie.Need-trailing-requires
+trailing-requires c κs = search needs
+
+enum-known-first : tie.Need-enum-known-first
+enum-known-first c = search needs
+
+enum-told : tie.Need-enum-told
+enum-told c = search needs
+
+returns : tie.Need-returns
+returns c = ap walkFrom (told trailersOf (c .before .before .before .trailing .ensures) (c .before .first .given .1))
+
+returns-2 : tie.Need-returns-2
+returns-2 c = ap walkFrom (told trailersOf (c .before .before .trailing .ensures) (c .enum-told .given .1))
+
+pub block-walk-spec : {M : Type 1} → statement M
+block-walk-spec =
+    tie.close (tie.spec trailing-requires enum-known-first enum-told returns returns-2)

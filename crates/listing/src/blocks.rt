@@ -1,0 +1,102 @@
+// The blocks that trail a row's body.
+ghost use mathlib.Core.Path.{_≡_};
+ghost use Rattle.refusal.specs.Refusal.{answered};
+ghost use Rattle.classtrailers.specs.Blocks.{nextBlock};
+ghost use Rattle.classtrailers.specs.Calls.{walkOf};
+ghost use Rattle.typedescriptor.specs.Body.{bodyOf};
+ghost use Rattle.typedescriptor.specs.Items.{trailers};
+ghost use Rattle.listing.specs.Calls.{guarded};
+ghost use Rattle.listing.specs.Blocks.{walkFrom, kindFrom, nextBlockAnswer, blockAnswer};
+use classtrailers::Block;
+use classtrailers::BlockKind;
+use classtrailers::BlockRead;
+use classtrailers::BlockStep;
+use classtrailers::BlockWalk;
+use classtrailers::Trailing;
+use refusal::Refusal;
+use typedescriptor::Row;
+use typedescriptor::TrailingRead;
+use typedescriptor::TypeBody;
+
+// The number of a walk that is over: how many kinds of blocks there are.
+const OVER: u32 = 11;
+
+pub enum NextBlock {
+    Block { block: Block, next: BlockWalk },
+    End,
+    Refused(Refusal),
+}
+
+pub enum BlockAnswer {
+    Block(Block),
+    Nothing,
+    Refused(Refusal),
+}
+
+// The walk over the blocks of a row with this body: it is over where nothing follows.
+pub fn block_walk(row: Row, body: TypeBody) -> BlockWalk
+    ensures { λ r. ⌜ walkOf r ≡ walkFrom (trailers (row .address) (row .flags) (bodyOf body)) ⌝ }
+{
+    match typedescriptor::trailing(row.address, row.flags, body) {
+        TrailingRead::Start(first) => BlockWalk {
+            trailing: Trailing {
+                flags: first.flags,
+                is_class: first.is_class,
+                extra: first.extra,
+            },
+            row: 0,
+            address: first.start,
+        },
+        TrailingRead::Nothing => BlockWalk {
+            trailing: Trailing {
+                flags: 0,
+                is_class: false,
+                extra: 0,
+            },
+            row: OVER,
+            address: 0,
+        },
+    }
+}
+
+// The next block from where the walk stands.
+pub fn next_block(image: &[u8], segments: &[u64], walk: BlockWalk) -> NextBlock
+    ensures { λ r. ⌜ nextBlockAnswer r ≡ guarded (now (segments .entry)) (answered (nextBlock (now (image .entry)) (now (segments .entry)) (walkOf walk))) ⌝ }
+{
+    if segments.len() % 4 != 0 {
+        return NextBlock::Refused(Refusal::RaggedSegments);
+    }
+    match walk.next(image, segments) {
+        BlockStep::Block { block, next } => NextBlock::Block { block, next },
+        BlockStep::End => NextBlock::End,
+    }
+}
+
+// The block of a kind of a row with this body.
+pub fn block_of_kind(
+    image: &[u8],
+    segments: &[u64],
+    row: Row,
+    body: TypeBody,
+    kind: BlockKind,
+) -> BlockAnswer
+    ensures { λ r. ⌜ blockAnswer r ≡ guarded (now (segments .entry)) (answered (kindFrom (now (image .entry)) (now (segments .entry)) kind (trailers (row .address) (row .flags) (bodyOf body)))) ⌝ }
+{
+    if segments.len() % 4 != 0 {
+        return BlockAnswer::Refused(Refusal::RaggedSegments);
+    }
+    match typedescriptor::trailing(row.address, row.flags, body) {
+        TrailingRead::Start(first) => {
+            let trailing = Trailing {
+                flags: first.flags,
+                is_class: first.is_class,
+                extra: first.extra,
+            };
+            match classtrailers::block_of_kind(image, segments, trailing, first.start, kind) {
+                BlockRead::Block(block) => BlockAnswer::Block(block),
+                BlockRead::Nothing => BlockAnswer::Nothing,
+            }
+        }
+        TrailingRead::Nothing => BlockAnswer::Nothing,
+    }
+}
