@@ -1,8 +1,7 @@
 -- The paths of field descriptors and records (docs/SPECIFICATION.md, "Items, paths and the cut"), as equations; and what they say, by examples.
-use Prim.Native.Nat.{ℕ, _+_, _^_}
+use Prim.Native.Nat.{ℕ}
 use mathlib.Core.Path.{_≡_, refl, sym, ap, _∙_}
 use mathlib.Core.List.{List, [], _∷_, _++_}
-use mathlib.Core.Bool.{cond}
 use mathlib.Core.Option.{Option, some, none}
 use Rattle.util.specs.LittleEndian.{littleEndian, bytesAt, littleAt, twosComplement, signedAt, unsignedIn, signedIn}
 use Rattle.util.specs.Pointer.{relativePointer, relativeAddress}
@@ -91,9 +90,10 @@ pub record Worked : Type 0 where
   pub wrapped : run [] [] (descriptorAt (head 12 0 ++ head 0 3) 18446744073709551600 1) ≡ some (says 0 18446744073709551600 12 0 3)
   pub no-third : run [] [] (descriptorAt (head 12 0 ++ head 0 3) 18446744073709551600 2) ≡ none
   pub list-ends : run [] [] (descriptorAt (head 12 0 ++ head 0 3) 18446744073709551612 1) ≡ none
-  -- records from address + 16 on, from 0 where that is 2^64
+  -- records from address + 16 on, from 0 where that is 2^64 or more
   pub base-last : recordsBase 18446744073709551599 ≡ 18446744073709551615
   pub base-zero : recordsBase 18446744073709551600 ≡ 0
+  pub base-past : recordsBase 18446744073709551608 ≡ 0
   -- record 1 of size 0 is record 0; of size 11, 12 and 13 it is at 11, 12 and 13
   pub record-0 : second 0 ≡ answered 4096 (16 ∷ (4096 ∷ (67310089 ∷ [])))
   pub record-11 : second 11 ≡ answered 4107 (4 ∷ (6159 ∷ (69651 ∷ [])))
@@ -123,6 +123,7 @@ worked =
       list-ends = refl;
       base-last = refl;
       base-zero = refl;
+      base-past = refl;
       record-0 = refl;
       record-11 = refl;
       record-12 = refl;

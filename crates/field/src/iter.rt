@@ -72,6 +72,7 @@ impl FieldIter {
         }
         let header = util::part(fields, at, HEADER_SIZE);
         let records = (util::u32_at(header, 12) as usize) * (util::u16_at(header, 10) as usize);
+        // An overrun: the walk stays at this header.
         if fields.len() - HEADER_SIZE - at < records {
             return FieldStep::End { next: self };
         }
@@ -79,6 +80,7 @@ impl FieldIter {
             at: at + (HEADER_SIZE + records),
         };
         let address = std::num::wrapping_add_u64(vmaddr, at as u64);
+        // The superclass's offset has no address: nothing, though the walk has moved on.
         if address > 0xffff_ffff_ffff_fffb {
             return FieldStep::End { next };
         }
@@ -94,6 +96,7 @@ impl FieldDescriptor {
     pub fn records(self) -> FieldRecordIter
         ensures { λ r. ⌜ r ≡ recordsOf self ⌝ }
     {
+        // Where the address behind the header reaches 2^64, the Rust starts from 0.
         let base_va = if self.address > 0xffff_ffff_ffff_ffef {
             0
         } else {
