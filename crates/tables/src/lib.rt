@@ -1,0 +1,14 @@
+// Whole tables of entries in one call: the methods, overrides, default overrides and prespecializations of a type, and the records of a field
+// descriptor, into a lent list of numbers. Each call refuses a list of segment numbers that is no multiple of four, before all else (refusal 1).
+mod calls;
+mod entry;
+mod list;
+mod window;
+
+pub use calls::TableAnswer;
+pub use calls::default_overrides;
+pub use calls::field_records;
+pub use calls::methods;
+pub use calls::overrides;
+pub use calls::prespecializations;
+pub use list::Listed;
