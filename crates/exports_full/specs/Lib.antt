@@ -1,0 +1,6 @@
+pub mod Bodies
+pub mod BodiesLaws
+pub mod Blocks
+pub mod BlocksLaws
+pub mod Entries
+pub mod Singletons
