@@ -1,6 +1,6 @@
 -- What the stores and the turns of the loop say of the list of methods.
 use Prim.Native.Nat.{ℕ, zero, suc, _+_, _-_, _*_, _/_, _≤_, _<_, max}
-use native.Mathlib.Nat.{add-zero}
+use native.Mathlib.Nat.{add-zero, sub-zero}
 use native.Mathlib.Numerals.{add-one}
 use native.Mathlib.Omega.{arith}
 use mathlib.Core.Path.{_≡_, refl, sym, _∙_, ap}
@@ -16,6 +16,7 @@ use Rattle.util.specs.declared.segment.Mapping.{Mapping}
 use Rattle.runtime.specs.Reads.{run}
 use Rattle.vtable.specs.Entries.{method, Entry, entryAt, Step, moved, entryStep, methodStep}
 use Rattle.vtable.specs.EntriesLaws.{step-gives, step-mapped}
+use Rattle.vtable.specs.ListLaws.{listed}
 use Rattle.vtable.specs.declared.cursor.EntryCursor.{EntryCursor}
 use Rattle.exports_full.specs.Entries.{cursorAt}
 use Rattle.exports_full.specs.Methods.{methodsIn, whyEnded, methodsFrom, methodsNumbers, methodsWritten, entryList, inOrder}
@@ -154,3 +155,41 @@ module _ (image segments : List ℕ) (base : ℕ) where
       unreadable l r f =
           stops 2 (all-done (methods-stop count k l f))
           (simp (ne-eqb (k - next) (count - next) (λ z. omega (arith, g .from)), ne-eqb (k - next) (length b₀ / 3) (λ z. omega (arith, g .three, g .within, same-long))))
+
+-- ---- what the list is
+
+module _ (image segments : List ℕ) (base : ℕ) where
+  -- the entries that stepping gives
+  pub methods-listed : (count n k : ℕ) → k + n ≡ count → methodsIn image segments base n k ≡ listed image segments method n (cursorAt base count k)
+  unfolding methodsIn listed
+  methods-listed count zero k e = refl
+  methods-listed count (suc n) k e = go (methods-listed count n (k + 1) (omega arith)) (run image segments (entryAt method base k)) refl
+    where
+      go : methodsIn image segments base n (k + 1) ≡ listed image segments method n (cursorAt base count (k + 1)) → (x : Option Entry)
+          → run image segments (entryAt method base k) ≡ x → methodsIn image segments base (suc n) k ≡ listed image segments method (suc n) (cursorAt base count k)
+      go ih none f = methods-by image segments base n k none f ∙ rw (listed, sym (step-gives image segments method (cursorAt base count k) none (sym f) (omega arith)))
+      go ih (some a) f =
+          methods-by image segments base n k (some a) f
+          ∙ ap (λ (l : List Entry). a ∷ l) ih
+          ∙ rw (listed, sym (step-gives image segments method (cursorAt base count k) (some a) (sym f) (omega arith)))
+
+  -- `m` of `n` entries from entry `k` on at most, and then those from the entry to go on from
+  abbrev pub Goes : ℕ → List Entry → ℕ → ℕ → Type 0
+  Goes m l n k = l ≡ take m l ++ methodsIn image segments base (n - length (take m l)) (k + length (take m l))
+
+  pub going-on : (m n k : ℕ) → Goes m (methodsIn image segments base n k) n k
+  unfolding methodsIn
+  going-on zero n k = rw (sub-zero, add-zero)
+  going-on (suc m) zero k = refl
+  going-on (suc m) (suc n) k = go (going-on m n (k + 1)) (run image segments (entryAt method base k)) refl
+    where
+      go : Goes m (methodsIn image segments base n (k + 1)) n (k + 1) → (x : Option Entry) → run image segments (entryAt method base k) ≡ x
+          → Goes (suc m) (methodsIn image segments base (suc n) k) (suc n) k
+      go ih none f =
+          let e = methods-by image segments base n k none f in
+          rw e (rw (sub-zero, add-zero) (sym e))
+      go ih (some a) f =
+          let given : ℕ = length (take m (methodsIn image segments base n (k + 1))) in
+          let s : n - given ≡ suc n - suc given = omega arith in
+          let t : k + 1 + given ≡ k + suc given = omega arith in
+          rw (methods-by image segments base n k (some a) f) (ap (λ (l : List Entry). a ∷ l) (ih ∙ rw (s, t)))
