@@ -394,6 +394,27 @@ for group in (checked_lines, record_rules, sizes, sections, flags, chains, names
     group()
 
 
+def full_reads(image, numbers):
+    """What the calls of the full level answer on the descriptor at 0x1000, whose first 12 bytes are a table's entry and a singleton's
+    records too, and whose first 16 are a generic block's header."""
+    if len(numbers) % 4:
+        return [b"refused 1"] * 11
+
+    def word(size, at):
+        """Where the offset at `at` of a record of this size at 0x1000 leads."""
+        found = bytes_at(image, numbers, 0x1000, size)
+        return None if found is None else b"%d" % pointer(image, found[0] + at, 0x1000 + at, 0)
+
+    body = bytes_at(image, numbers, 0x1014, 8)
+    name = text_at_address(image, numbers, 0x101C)
+    generic = bytes_at(image, numbers, 0x1000, 16)
+    texts = [b"%d" % name[0] if name else b"nothing"] * 2
+    blocks = [b"%d" % 0x1000] * 2 if generic else [b"end", b"nothing"]
+    entries = [word(size, at) or b"unreadable" for size, at in ((8, 4), (12, 8), (8, 4), (4, 0))]
+    records = [word(size, at) or b"nothing" for size, at in ((12, 8), (4, 0))]
+    return [b"%d" % number_at(image, body[0], 4) if body else b"nothing"] + texts + blocks + entries + records
+
+
 def refusals():
     """The answers of the crate `test_refusals`: calls on lists of 0 to 8 segment numbers."""
     image, types = bytearray(CLUE), slots(0x2000, [0x1000])
@@ -407,6 +428,7 @@ def refusals():
             line = b"%016x struct refused 4\n" % 0x1000 if found else b"end 0\n"
             walks = [b"%d" % found[0] if found else b"end", b"%d" % 0x1000 if chain else b"end", b"%d" % len(line)]
         yield b"walks %d %s\n" % (count, b" ".join(walks))
+        yield b"reads %d %s\n" % (count, b" ".join(full_reads(image, numbers)))
         for parent, size in ((0, 8), (0, 4), (0, 3), (0x1000, 8), (0x1000, 3), (0x1000, 0)):
             name, refusal = (b"", 1) if count % 4 else joined(image, numbers, parent, b"Clue", size)
             answer = b"refused %d" % refusal if refusal else b"%d" % len(name)

@@ -2,18 +2,42 @@
 // segment numbers, the joined name of a type without parent and of one that is its own parent, with buffers that hold it, just hold it,
 // and do not. A line is
 //   walks COUNT ROW CONTEXT LINE             what next_row, next_context and next_line answer: an address or a length, `end`, or a refusal
+//   reads COUNT BODY SUPERCLASS TEXT BLOCK KIND METHOD OVERRIDE DEFAULT PRESPECIALIZATION INIT POINTER
+//                                            what the calls of the full level answer: a number of it, `nothing`, `unreadable`, `end`, or a refusal
 //   name COUNT PARENT SIZE ANSWER BUFFER     what joined_name answers, and the eight bytes of which SIZE were lent
 // tests/bundles.py writes the answers.
+use classtrailers::Block;
+use classtrailers::BlockKind;
+use classtrailers::BlockWalk;
+use classtrailers::Trailing;
+use listing::BlockAnswer;
+use listing::BodyAnswer;
+use listing::InitAnswer;
+use listing::NextBlock;
 use listing::NextContext;
+use listing::NextDefaultOverride;
+use listing::NextMethod;
+use listing::NextOverride;
+use listing::NextPrespecialization;
 use listing::NextRow;
+use listing::PointerAnswer;
+use listing::TextAnswer;
 use parent::ParentChain;
 use parent::QualifiedName;
 use printing::LINE_BYTES;
 use printing::Lister;
 use printing::NextLine;
 use refusal::Refusal;
+use typedescriptor::ClassBody;
+use typedescriptor::ClassSizes;
 use typedescriptor::Row;
+use typedescriptor::SingletonMetadataInit;
+use typedescriptor::SingletonMetadataPointer;
+use typedescriptor::StructBody;
+use typedescriptor::TypeBody;
 use typedescriptor::TypeIter;
+use util::Text;
+use vtable::EntryCursor;
 
 fn number(n: u64) {
     io::write_all(1, b" ");
@@ -78,6 +102,171 @@ fn try_walks(image: &[u8], segments: &[u64]) {
     io::write_all(1, b"\n");
 }
 
+fn nothing() {
+    io::write_all(1, b" nothing");
+}
+
+fn end() {
+    io::write_all(1, b" end");
+}
+
+fn unreadable() {
+    io::write_all(1, b" unreadable");
+}
+
+fn row_at(address: u64, flags: u32) -> Row {
+    Row {
+        address,
+        flags,
+        parent: 0,
+        name_place: 0,
+        name_length: 0,
+    }
+}
+
+// The fields of the body.
+fn try_body(image: &[u8], segments: &[u64]) {
+    match listing::row_body(image, segments, row_at(0x1000, 17)) {
+        BodyAnswer::Body(body) => match body {
+            TypeBody::Class(_) => nothing(),
+            TypeBody::Struct(fields) => number(fields.num_fields as u64),
+            TypeBody::Enum(_) => nothing(),
+            TypeBody::Nothing => nothing(),
+        },
+        BodyAnswer::Refused(refusal) => refused(refusal),
+    }
+}
+
+// The place of a text.
+fn answer_text(found: TextAnswer) {
+    match found {
+        TextAnswer::Text(text) => match text {
+            Text::At { place, length } => number(place as u64),
+            Text::Nothing => nothing(),
+        },
+        TextAnswer::Refused(refusal) => refused(refusal),
+    }
+}
+
+// The name at 0x101c, as that of a superclass and by itself.
+fn try_texts(image: &[u8], segments: &[u64]) {
+    let class = TypeBody::Class(ClassBody {
+        superclass_va: 0x101c,
+        sizes: ClassSizes::Fixed {
+            negative_words: 0,
+            positive_words: 0,
+        },
+        num_immediate_members: 0,
+        num_fields: 0,
+        field_offset_vector_offset: 0,
+    });
+    answer_text(listing::superclass_name(image, segments, class));
+    answer_text(listing::text_at(image, segments, 0x101c));
+}
+
+// The address of a generic block.
+fn block(found: Block) {
+    match found {
+        Block::Generic(va) => number(va),
+        _ => nothing(),
+    }
+}
+
+// The descriptor's bytes as the generic block of a walk, and as that of a struct 28 bytes before them.
+fn try_blocks(image: &[u8], segments: &[u64]) {
+    let walk = BlockWalk {
+        trailing: Trailing {
+            flags: 0x91,
+            is_class: false,
+            extra: 0,
+        },
+        row: 0,
+        address: 0x1000,
+    };
+    match listing::next_block(image, segments, walk) {
+        NextBlock::Block { block: found, next } => block(found),
+        NextBlock::End => end(),
+        NextBlock::Refused(refusal) => refused(refusal),
+    }
+    let body = TypeBody::Struct(StructBody {
+        num_fields: 0,
+        field_offset_vector_offset: 0,
+    });
+    match listing::block_of_kind(
+        image,
+        segments,
+        row_at(0xfe4, 0x91),
+        body,
+        BlockKind::Generic,
+    ) {
+        BlockAnswer::Block(found) => block(found),
+        BlockAnswer::Nothing => nothing(),
+        BlockAnswer::Refused(refusal) => refused(refusal),
+    }
+}
+
+// The descriptor's bytes as the first entry of each kind of table: its last word.
+fn try_tables(image: &[u8], segments: &[u64]) {
+    let cursor = EntryCursor::new(0x1000, 1);
+    match listing::next_method(image, segments, cursor) {
+        NextMethod::Entry { entry, next } => number(entry.impl_va),
+        NextMethod::Unreadable { next } => unreadable(),
+        NextMethod::End => end(),
+        NextMethod::Refused(refusal) => refused(refusal),
+    }
+    match listing::next_override(image, segments, cursor) {
+        NextOverride::Entry { entry, next } => number(entry.impl_va),
+        NextOverride::Unreadable { next } => unreadable(),
+        NextOverride::End => end(),
+        NextOverride::Refused(refusal) => refused(refusal),
+    }
+    match listing::next_default_override(image, segments, cursor) {
+        NextDefaultOverride::Entry { entry, next } => number(entry.impl_va),
+        NextDefaultOverride::Unreadable { next } => unreadable(),
+        NextDefaultOverride::End => end(),
+        NextDefaultOverride::Refused(refusal) => refused(refusal),
+    }
+    match listing::next_prespecialization(image, segments, cursor) {
+        NextPrespecialization::Entry { entry, next } => number(entry.metadata_va),
+        NextPrespecialization::Unreadable { next } => unreadable(),
+        NextPrespecialization::End => end(),
+        NextPrespecialization::Refused(refusal) => refused(refusal),
+    }
+}
+
+// The descriptor's bytes as the records of a singleton: the completion function, and the metadata.
+fn try_singletons(image: &[u8], segments: &[u64]) {
+    match listing::singleton_init(image, segments, 0x1000) {
+        InitAnswer::Init(init) => match init {
+            SingletonMetadataInit::At {
+                initialization_cache_va,
+                incomplete_metadata_va,
+                completion_function_va,
+            } => number(completion_function_va),
+            SingletonMetadataInit::Nothing => nothing(),
+        },
+        InitAnswer::Refused(refusal) => refused(refusal),
+    }
+    match listing::singleton_pointer(image, segments, 0x1000) {
+        PointerAnswer::Pointer(pointer) => match pointer {
+            SingletonMetadataPointer::At(metadata_va) => number(metadata_va),
+            SingletonMetadataPointer::Nothing => nothing(),
+        },
+        PointerAnswer::Refused(refusal) => refused(refusal),
+    }
+}
+
+fn try_reads(image: &[u8], segments: &[u64]) {
+    io::write_all(1, b"reads");
+    number(segments.len() as u64);
+    try_body(image, segments);
+    try_texts(image, segments);
+    try_blocks(image, segments);
+    try_tables(image, segments);
+    try_singletons(image, segments);
+    io::write_all(1, b"\n");
+}
+
 fn answer(joined: QualifiedName) {
     match joined {
         QualifiedName::Length(n) => number(n as u64),
@@ -114,6 +303,7 @@ fn try_name(image: &[u8], segments: &[u64], parent: u64, size: usize) {
 
 fn try_all(image: &[u8], segments: &[u64]) {
     try_walks(image, segments);
+    try_reads(image, segments);
     try_name(image, segments, 0, 8);
     try_name(image, segments, 0, 4);
     try_name(image, segments, 0, 3);

@@ -1,0 +1,87 @@
+-- What an answer says of what is made of it: of the start of a descriptor's blocks, and of the block of a kind.
+use Prim.Native.Nat.{ℕ, zero, suc, _%_, _≤_}
+use native.Mathlib.Omega.{arith}
+use mathlib.Core.Path.{_≡_, refl, sym, _∙_, ap}
+use mathlib.Core.List.{List, [], _∷_, _++_, map}
+use mathlib.Core.Bool.{Bool, true, false, cond}
+use mathlib.Core.Option.{Option, some, none}
+use lib.ListN.{length, getElem?}
+use lib.Dec.{eqb}
+use Rattle.refusal.specs.Refusal.{Guarded, answered, refused, mapped}
+use Rattle.runtime.specs.Reads.{andThen, run}
+use Rattle.classtrailers.specs.Blocks.{Row, table}
+use Rattle.classtrailers.specs.declared.block.Block.{Block}
+use Rattle.classtrailers.specs.declared.block.BlockKind.{BlockKind}
+use Rattle.typedescriptor.specs.Body.{Body, body}
+use Rattle.typedescriptor.specs.Items.{trailers, trailersOf}
+use Rattle.typedescriptor.specs.declared.trailers.TrailingRead.{TrailingRead}
+use Rattle.typedescriptor.specs.declared.trailers.TrailingStart.{TrailingStart}
+use Rattle.listing.specs.Calls.{guarded}
+use Rattle.listing.specs.CallsLaws.{answered-is}
+use Rattle.listing.specs.Blocks.{kindFrom}
+use Rattle.exports.specs.Flags.{flagNumber}
+use Rattle.exports_full.specs.Blocks.{startAt, startNumbers, blockNumbers, kindNumbered, blockNumbered}
+
+-- ---- what is made of an answer
+
+module _ (segments : List ℕ) {A B : Type 0} (f : A → B) (x : A) where
+  guarded-then : mapped f (guarded segments (answered x)) ≡ guarded segments (answered (f x))
+  unfolding guarded
+  guarded-then = go (eqb (length segments % 4) 0)
+    where
+      go : (t : Bool) → mapped f (cond t (answered x) (refused 1)) ≡ cond t (answered (f x)) (refused 1)
+      go true = refl
+      go false = refl
+
+  pub answered-then : (y : A) → answered y ≡ guarded segments (answered x) → answered (f y) ≡ guarded segments (answered (f x))
+  answered-then y e = ap (mapped f) e ∙ guarded-then
+
+  pub refused-then : (n : ℕ) → refused n ≡ guarded segments (answered x) → refused n ≡ guarded segments (answered (f x))
+  refused-then n e = ap (mapped f) e ∙ guarded-then
+
+-- ---- numbers
+
+pub start-known : (read : TrailingRead) (s : TrailingStart) (b : ℕ) → read ≡ TrailingRead.Start s → b ≡ flagNumber (s .«is_class»)
+    → 1 ∷ (b ∷ (s .extra ∷ (s .start ∷ []))) ≡ startNumbers (trailersOf read)
+start-known read s b e eb = rw (eb, e)
+
+pub step-known : (b : Block) (l rest : List ℕ) → l ≡ blockNumbers b → 1 ∷ (l ++ rest) ≡ 1 ∷ (blockNumbers b ++ rest)
+step-known b l rest e = ap (λ (x : List ℕ). 1 ∷ (x ++ rest)) e
+
+-- ---- the kind with a number
+
+pub kind-as : (n k : ℕ) (x : Option BlockKind) → n ≡ k → x ≡ kindNumbered k → x ≡ kindNumbered n
+kind-as n k x e f = rw e f
+
+past-end : (l : List BlockKind) (n : ℕ) → length l ≤ n → none ≡ getElem? l n
+past-end [] n h = refl
+past-end (a ∷ l) zero h = absurd (omega arith)
+past-end (a ∷ l) (suc n) h = past-end l n (omega arith)
+
+pub no-kind : (n : ℕ) → 11 ≤ n → none ≡ kindNumbered n
+unfolding kindNumbered
+no-kind n h = past-end (map (λ (r : Row). r .kind) table) n h
+
+-- ---- the block of a kind
+
+module _ (image segments : List ℕ) (address flags number : ℕ) where
+  -- made of a body
+  abbrev pub blockWith : Option Body → Option Block
+  blockWith b = blockNumbered image segments (trailers address flags b) number
+
+  module _ (b : Option Body) (e : answered b ≡ guarded segments (answered (run image segments (body address flags)))) where
+    pub no-kind-no-block : none ≡ kindNumbered number → answered none ≡ guarded segments (answered (blockNumbered image segments (startAt image segments address flags) number))
+    no-kind-no-block f =
+        ap (λ (k : Option BlockKind). answered (andThen k (λ k. kindFrom image segments k (trailers address flags b)))) f
+        ∙ answered-then segments blockWith _ b e
+
+    pub kind-block : (k : BlockKind) (x : Guarded (Option Block)) → some k ≡ kindNumbered number → x ≡ guarded segments (answered (kindFrom image segments k (trailers address flags b)))
+        → x ≡ guarded segments (answered (blockNumbered image segments (startAt image segments address flags) number))
+    kind-block k x f g =
+        g
+        ∙ ap (λ (k : Option BlockKind). guarded segments (answered (andThen k (λ k. kindFrom image segments k (trailers address flags b))))) f
+        ∙ ap (λ (b : Option Body). guarded segments (answered (blockWith b))) (answered-is segments _ b e)
+
+  pub no-body-no-block : (n : ℕ) → refused n ≡ guarded segments (answered (run image segments (body address flags)))
+      → refused n ≡ guarded segments (answered (blockNumbered image segments (startAt image segments address flags) number))
+  no-body-no-block n e = refused-then segments blockWith _ n e

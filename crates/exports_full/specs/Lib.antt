@@ -1,0 +1,8 @@
+pub mod Bodies
+pub mod BodiesLaws
+pub mod Blocks
+pub mod BlocksLaws
+pub mod Entries
+pub mod Methods
+pub mod MethodsLaws
+pub mod Singletons

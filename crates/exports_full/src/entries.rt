@@ -1,0 +1,173 @@
+// The entries of tables: each call is a step of a walk that stands at entry `next`. Told are: 1, the next entry's number, the entry's
+// address and what its words say; 2, the next entry's number and no more for an entry that cannot be read; only 0 at the end.
+ghost use mathlib.Core.Path.{_≡_};
+ghost use Rattle.refusal.specs.Refusal.{answered, mapped};
+ghost use Rattle.vtable.specs.Entries.{method, override, defaultOverride, prespecialization, entryStep};
+ghost use Rattle.listing.specs.Calls.{guarded};
+ghost use Rattle.exports.specs.Numbers.{Tells};
+ghost use Rattle.exports_full.specs.Entries.{entryNumbers, cursorAt};
+use crate::bodies::ANSWERED;
+use crate::bodies::THERE;
+use listing::NextDefaultOverride;
+use listing::NextMethod;
+use listing::NextOverride;
+use listing::NextPrespecialization;
+use vtable::EntryCursor;
+
+// The first number of an entry that cannot be read.
+const UNREADABLE: u64 = 2;
+
+// Its flags and its implementation.
+#[no_mangle]
+pub extern "C" fn hodrupec_next_method(
+    image: &[u8],
+    segments: &[u64],
+    base_va: u64,
+    count: u32,
+    next: u32,
+    out: &mut [u64; 5],
+) -> u64
+    ensures { λ r. ⌜ Tells (mapped (entryNumbers 2) (guarded (now (segments .entry)) (answered (entryStep (now (image .entry)) (now (segments .entry)) method (cursorAt «base_va» count next))))) (now (out .entry)) r (now (out .exit)) ⌝ }
+{
+    let cursor = EntryCursor {
+        base_va,
+        count,
+        next,
+    };
+    match listing::next_method(image, segments, cursor) {
+        NextMethod::Entry { entry, next } => {
+            *out = [
+                THERE,
+                next.next as u64,
+                entry.address,
+                entry.flags as u64,
+                entry.impl_va,
+            ];
+            ANSWERED
+        }
+        NextMethod::Unreadable { next } => {
+            *out = [UNREADABLE, next.next as u64, 0, 0, 0];
+            ANSWERED
+        }
+        NextMethod::End => {
+            *out = [0; 5];
+            ANSWERED
+        }
+        NextMethod::Refused(refusal) => refusal::number(refusal),
+    }
+}
+
+// Class, method and implementation.
+#[no_mangle]
+pub extern "C" fn hodrupec_next_override(
+    image: &[u8],
+    segments: &[u64],
+    base_va: u64,
+    count: u32,
+    next: u32,
+    out: &mut [u64; 6],
+) -> u64
+    ensures { λ r. ⌜ Tells (mapped (entryNumbers 3) (guarded (now (segments .entry)) (answered (entryStep (now (image .entry)) (now (segments .entry)) override (cursorAt «base_va» count next))))) (now (out .entry)) r (now (out .exit)) ⌝ }
+{
+    let cursor = EntryCursor {
+        base_va,
+        count,
+        next,
+    };
+    match listing::next_override(image, segments, cursor) {
+        NextOverride::Entry { entry, next } => {
+            *out = [
+                THERE,
+                next.next as u64,
+                entry.address,
+                entry.class_va,
+                entry.method_va,
+                entry.impl_va,
+            ];
+            ANSWERED
+        }
+        NextOverride::Unreadable { next } => {
+            *out = [UNREADABLE, next.next as u64, 0, 0, 0, 0];
+            ANSWERED
+        }
+        NextOverride::End => {
+            *out = [0; 6];
+            ANSWERED
+        }
+        NextOverride::Refused(refusal) => refusal::number(refusal),
+    }
+}
+
+// Method and implementation.
+#[no_mangle]
+pub extern "C" fn hodrupec_next_default_override(
+    image: &[u8],
+    segments: &[u64],
+    base_va: u64,
+    count: u32,
+    next: u32,
+    out: &mut [u64; 5],
+) -> u64
+    ensures { λ r. ⌜ Tells (mapped (entryNumbers 2) (guarded (now (segments .entry)) (answered (entryStep (now (image .entry)) (now (segments .entry)) defaultOverride (cursorAt «base_va» count next))))) (now (out .entry)) r (now (out .exit)) ⌝ }
+{
+    let cursor = EntryCursor {
+        base_va,
+        count,
+        next,
+    };
+    match listing::next_default_override(image, segments, cursor) {
+        NextDefaultOverride::Entry { entry, next } => {
+            *out = [
+                THERE,
+                next.next as u64,
+                entry.address,
+                entry.method_va,
+                entry.impl_va,
+            ];
+            ANSWERED
+        }
+        NextDefaultOverride::Unreadable { next } => {
+            *out = [UNREADABLE, next.next as u64, 0, 0, 0];
+            ANSWERED
+        }
+        NextDefaultOverride::End => {
+            *out = [0; 5];
+            ANSWERED
+        }
+        NextDefaultOverride::Refused(refusal) => refusal::number(refusal),
+    }
+}
+
+// The metadata.
+#[no_mangle]
+pub extern "C" fn hodrupec_next_prespecialization(
+    image: &[u8],
+    segments: &[u64],
+    base_va: u64,
+    count: u32,
+    next: u32,
+    out: &mut [u64; 4],
+) -> u64
+    ensures { λ r. ⌜ Tells (mapped (entryNumbers 1) (guarded (now (segments .entry)) (answered (entryStep (now (image .entry)) (now (segments .entry)) prespecialization (cursorAt «base_va» count next))))) (now (out .entry)) r (now (out .exit)) ⌝ }
+{
+    let cursor = EntryCursor {
+        base_va,
+        count,
+        next,
+    };
+    match listing::next_prespecialization(image, segments, cursor) {
+        NextPrespecialization::Entry { entry, next } => {
+            *out = [THERE, next.next as u64, entry.address, entry.metadata_va];
+            ANSWERED
+        }
+        NextPrespecialization::Unreadable { next } => {
+            *out = [UNREADABLE, next.next as u64, 0, 0];
+            ANSWERED
+        }
+        NextPrespecialization::End => {
+            *out = [0; 4];
+            ANSWERED
+        }
+        NextPrespecialization::Refused(refusal) => refusal::number(refusal),
+    }
+}

@@ -1,0 +1,73 @@
+// The singleton records at an address.
+ghost use mathlib.Core.Path.{_≡_};
+ghost use Rattle.refusal.specs.Refusal.{answered, mapped};
+ghost use Rattle.runtime.specs.Reads.{run};
+ghost use Rattle.typedescriptor.specs.Singleton.{singletonInit, singletonPointer};
+ghost use Rattle.listing.specs.Calls.{guarded};
+ghost use Rattle.exports.specs.Numbers.{Tells, valueNumbers};
+ghost use Rattle.exports_full.specs.Singletons.{initNumbers};
+use crate::bodies::ANSWERED;
+use crate::bodies::THERE;
+use listing::InitAnswer;
+use listing::PointerAnswer;
+use typedescriptor::SingletonMetadataInit;
+use typedescriptor::SingletonMetadataPointer;
+
+// 1, and the addresses of the initialization cache, the incomplete metadata and the completion function, each 0 where there is none.
+#[no_mangle]
+pub extern "C" fn hodrupec_singleton_init(
+    image: &[u8],
+    segments: &[u64],
+    address: u64,
+    out: &mut [u64; 4],
+) -> u64
+    ensures { λ r. ⌜ Tells (mapped initNumbers (guarded (now (segments .entry)) (answered (run (now (image .entry)) (now (segments .entry)) (singletonInit address))))) (now (out .entry)) r (now (out .exit)) ⌝ }
+{
+    match listing::singleton_init(image, segments, address) {
+        InitAnswer::Init(init) => match init {
+            SingletonMetadataInit::At {
+                initialization_cache_va,
+                incomplete_metadata_va,
+                completion_function_va,
+            } => {
+                *out = [
+                    THERE,
+                    initialization_cache_va,
+                    incomplete_metadata_va,
+                    completion_function_va,
+                ];
+                ANSWERED
+            }
+            SingletonMetadataInit::Nothing => {
+                *out = [0; 4];
+                ANSWERED
+            }
+        },
+        InitAnswer::Refused(refusal) => refusal::number(refusal),
+    }
+}
+
+// 1 and the metadata's address.
+#[no_mangle]
+pub extern "C" fn hodrupec_singleton_pointer(
+    image: &[u8],
+    segments: &[u64],
+    address: u64,
+    out: &mut [u64; 2],
+) -> u64
+    ensures { λ r. ⌜ Tells (mapped valueNumbers (guarded (now (segments .entry)) (answered (run (now (image .entry)) (now (segments .entry)) (singletonPointer address))))) (now (out .entry)) r (now (out .exit)) ⌝ }
+{
+    match listing::singleton_pointer(image, segments, address) {
+        PointerAnswer::Pointer(pointer) => match pointer {
+            SingletonMetadataPointer::At(metadata_va) => {
+                *out = [THERE, metadata_va];
+                ANSWERED
+            }
+            SingletonMetadataPointer::Nothing => {
+                *out = [0; 2];
+                ANSWERED
+            }
+        },
+        PointerAnswer::Refused(refusal) => refusal::number(refusal),
+    }
+}
