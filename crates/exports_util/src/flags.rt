@@ -70,7 +70,7 @@ fn reference_number(kind: TypeReferenceKind) -> u64
     }
 }
 
-fn field_kind_number(kind: FieldDescriptorKind) -> u64
+pub fn field_kind_number(kind: FieldDescriptorKind) -> u64
     ensures { λ r. ⌜ r ≡ fieldKindNumber kind ⌝ }
 {
     match kind {

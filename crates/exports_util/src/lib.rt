@@ -2,3 +2,5 @@
 // Rust, and no listing needs them.
 mod flags;
 mod readers;
+
+pub use flags::field_kind_number;

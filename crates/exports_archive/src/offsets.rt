@@ -1,0 +1,97 @@
+// The byte offsets of a struct's fields.
+ghost use mathlib.Core.Path.{_≡_};
+ghost use Rattle.refusal.specs.Refusal.{answered, mapped};
+ghost use Rattle.runtime.specs.Reads.{run};
+ghost use Rattle.typedescriptor.specs.Body.{body};
+ghost use Rattle.typedescriptor.specs.Offsets.{offsets, offsetsPlace, staticPlace, offsetIn, offsetsOf};
+ghost use Rattle.listing.specs.Calls.{guarded};
+ghost use Rattle.exports.specs.Numbers.{Tells, valueNumbers};
+ghost use Rattle.exports_archive.specs.Offsets.{offsetsNumbers};
+use crate::fields::ANSWERED;
+use crate::fields::THERE;
+use listing::OffsetsAnswer;
+use typedescriptor::FieldOffset;
+use typedescriptor::FieldOffsets;
+use typedescriptor::Row;
+
+fn offsets_numbers(offsets: FieldOffsets) -> [u64; 3]
+    ensures { λ r. ⌜ r ≡ offsetsNumbers (offsetsOf offsets) ⌝ }
+{
+    match offsets {
+        FieldOffsets::At { place, count } => [THERE, place as u64, count as u64],
+        FieldOffsets::Nothing => [0; 3],
+    }
+}
+
+// Where the offsets lie of the fields of the struct whose descriptor is at an address and has these flags, by the metadata at another: 1, their
+// place in the image, and how many there are.
+#[no_mangle]
+pub extern "C" fn hodrupec_field_offsets(
+    image: &[u8],
+    segments: &[u64],
+    address: u64,
+    flags: u32,
+    metadata_va: u64,
+    out: &mut [u64; 3],
+) -> u64
+    ensures { λ r. ⌜ Tells (mapped offsetsNumbers (guarded (now (segments .entry)) (answered (offsetsPlace (now (image .entry)) (now (segments .entry)) (run (now (image .entry)) (now (segments .entry)) (body address flags)) «metadata_va»)))) (now (out .entry)) r (now (out .exit)) ⌝ }
+{
+    let body = typedescriptor::decode_body(image, segments, address, flags);
+    match listing::field_offsets(image, segments, body, metadata_va) {
+        OffsetsAnswer::Offsets(offsets) => {
+            *out = offsets_numbers(offsets);
+            ANSWERED
+        }
+        OffsetsAnswer::Refused(refusal) => refusal::number(refusal),
+    }
+}
+
+// The same by the metadata that the descriptor's singleton pointer refers to.
+#[no_mangle]
+pub extern "C" fn hodrupec_static_field_offsets(
+    image: &[u8],
+    segments: &[u64],
+    address: u64,
+    flags: u32,
+    out: &mut [u64; 3],
+) -> u64
+    ensures { λ r. ⌜ Tells (mapped offsetsNumbers (guarded (now (segments .entry)) (answered (staticPlace (now (image .entry)) (now (segments .entry)) address flags)))) (now (out .entry)) r (now (out .exit)) ⌝ }
+{
+    let row = Row {
+        address,
+        flags,
+        parent: 0,
+        name_place: 0,
+        name_length: 0,
+    };
+    match listing::static_field_offsets(image, segments, row) {
+        OffsetsAnswer::Offsets(offsets) => {
+            *out = offsets_numbers(offsets);
+            ANSWERED
+        }
+        OffsetsAnswer::Refused(refusal) => refusal::number(refusal),
+    }
+}
+
+// 1 and the offset of the field with this number, of so many offsets from a place of the image on. It takes no segments, and refuses nothing.
+#[no_mangle]
+pub extern "C" fn hodrupec_field_offset(
+    image: &[u8],
+    place: usize,
+    count: u32,
+    number: u32,
+    out: &mut [u64; 2],
+) -> u64
+    ensures { λ r. ⌜ Tells (answered (valueNumbers (offsetIn (now (image .entry)) (offsets place count) number))) (now (out .entry)) r (now (out .exit)) ⌝ }
+{
+    match typedescriptor::field_offset(image, FieldOffsets::At { place, count }, number) {
+        FieldOffset::At(offset) => {
+            *out = [THERE, offset as u64];
+            ANSWERED
+        }
+        FieldOffset::Nothing => {
+            *out = [0; 2];
+            ANSWERED
+        }
+    }
+}

@@ -1,0 +1,46 @@
+// The byte offsets of a struct's fields. One of them, by its number, is `typedescriptor::field_offset`: it takes no segments.
+ghost use mathlib.Core.Path.{_≡_};
+ghost use Rattle.refusal.specs.Refusal.{answered};
+ghost use Rattle.typedescriptor.specs.Body.{bodyOf};
+ghost use Rattle.typedescriptor.specs.Offsets.{offsetsPlace, staticPlace};
+ghost use Rattle.listing.specs.Calls.{guarded};
+ghost use Rattle.listing.specs.Offsets.{offsetsAnswer};
+use refusal::Refusal;
+use typedescriptor::FieldOffsets;
+use typedescriptor::Row;
+use typedescriptor::TypeBody;
+
+pub enum OffsetsAnswer {
+    Offsets(FieldOffsets),
+    Refused(Refusal),
+}
+
+// Where the offsets of a body's fields lie, by the metadata at an address.
+pub fn field_offsets(
+    image: &[u8],
+    segments: &[u64],
+    body: TypeBody,
+    metadata_va: u64,
+) -> OffsetsAnswer
+    ensures { λ r. ⌜ offsetsAnswer r ≡ guarded (now (segments .entry)) (answered (offsetsPlace (now (image .entry)) (now (segments .entry)) (bodyOf body) «metadata_va»)) ⌝ }
+{
+    if segments.len() % 4 != 0 {
+        return OffsetsAnswer::Refused(Refusal::RaggedSegments);
+    }
+    OffsetsAnswer::Offsets(typedescriptor::field_offsets(image, segments, body, metadata_va))
+}
+
+// The same of a row, by the metadata that its singleton pointer refers to.
+pub fn static_field_offsets(image: &[u8], segments: &[u64], row: Row) -> OffsetsAnswer
+    ensures { λ r. ⌜ offsetsAnswer r ≡ guarded (now (segments .entry)) (answered (staticPlace (now (image .entry)) (now (segments .entry)) (row .address) (row .flags))) ⌝ }
+{
+    if segments.len() % 4 != 0 {
+        return OffsetsAnswer::Refused(Refusal::RaggedSegments);
+    }
+    OffsetsAnswer::Offsets(typedescriptor::static_field_offsets(
+        image,
+        segments,
+        row.address,
+        row.flags,
+    ))
+}
