@@ -1,0 +1,178 @@
+-- The paths of the items are those of docs/SPECIFICATION.md, "Items, paths and the cut": an equation for each kind of item, each with the path of the item that
+-- it hangs on.
+use Prim.Native.Nat.{ℕ, suc, _+_, _<_}
+use native.Mathlib.Decide.{decLt}
+use native.Mathlib.Omega.{arith}
+use mathlib.Core.Path.{_≡_, refl, sym, ap, _∙_}
+use mathlib.Core.List.{List, [], _∷_, _++_}
+use mathlib.Core.Bool.{Bool, true, false, cond}
+use mathlib.Core.Option.{Option, some, none, Option·map, Option·getD}
+use lib.Dec.{ltb}
+use borrow.Author.Tests.{lt-ltb, le-ltb}
+use Rattle.util.specs.LittleEndian.{signedIn}
+use Rattle.util.specs.Pointer.{relativeAddress}
+use Rattle.util.specs.Segments.{segmentsOf, fileOffset}
+use Rattle.runtime.specs.Reads.{Reads, done, nothing, run, Range, bytesRange, withNul, path, bind}
+use Rattle.runtime.specs.ReadsLaws.{run-bind, path-bind}
+use Rattle.runtime.specs.PathLaws.{bytes-read}
+use Rattle.classtrailers.specs.Blocks.{rowNumber}
+use Rattle.classtrailers.specs.PathLaws.{headers, block-path as own-headers}
+use Rattle.classtrailers.specs.declared.block.Block.{Block}
+use Rattle.classtrailers.specs.declared.block.BlockKind.{BlockKind}
+use Rattle.typedescriptor.specs.Row.{TypeRow, rowName, descriptor}
+use Rattle.typedescriptor.specs.Slots.{slotAddress, slotRow}
+use Rattle.typedescriptor.specs.Body.{Body, bodySize, slotBody, trailing, trailingStart}
+use Rattle.typedescriptor.specs.Singleton.{Initialization, needing, targets, singletonInit, singletonPointer}
+use Rattle.typedescriptor.specs.Items.{slotBlock, slotInit, slotPointer}
+use Rattle.typedescriptor.specs.PathLaws as Slot
+use Rattle.vtable.specs.Entries.{Entry, entry}
+use Rattle.vtable.specs.PathLaws.{offsetIn, ranges, entry-path as own-entries}
+use Rattle.parent.specs.Context.{Header}
+use Rattle.parent.specs.Chain.{contextsMost, headerAt, chain}
+use Rattle.parent.specs.PathLaws.{headerRanges, context-path as own-headers-of}
+use Rattle.items.specs.Keys.{Sections, EntryKind, Key, Answer}
+use Rattle.items.specs.Items.{mapReads, tableKind, entryWords, Table, tableOf, entryOfSlot, contextOfSlot, item, rowOfSlot, bodyOfSlot, blockOfSlot, initOfSlot, pointerOfSlot}
+use Rattle.items.specs.ProgramLaws.{path-map, un-map}
+
+-- `n` bytes at an address
+abbrev pub bytesAt : List ℕ → ℕ → ℕ → Range
+bytesAt segments a n = bytesRange (offsetIn segments a) n
+
+-- an address that has an offset has the one that ranges are counted from
+placed : (segments : List ℕ) (a o : ℕ) → fileOffset (segmentsOf segments) a ≡ some o → fileOffset (segmentsOf segments) a ≡ some (offsetIn segments a)
+placed segments a o e = e ∙ ap some (sym (ap (λ (x : Option ℕ). Option·getD x 0) e))
+
+module _ (image segments : List ℕ) where
+  module _ (s : Sections) (i : ℕ) where
+    -- the address that the slot refers to
+    abbrev address : ℕ
+    address = slotAddress (s .types) (s .typesStart) i
+
+    -- ---- rows
+
+    module _ (r : TypeRow) (is-row : run image segments (item s (Key.row i)) ≡ some (Answer.row r)) where
+      the-row : run image segments (rowOfSlot s i) ≡ some r
+      unfolding item
+      the-row = un-map image segments Answer.row (rowOfSlot s i) r (λ a e. cc) is-row
+
+      row-placed : fileOffset (segmentsOf segments) address ≡ some (offsetIn segments address)
+      unfolding descriptor
+      row-placed =
+          let p = Slot.slot-program image segments (s .types) (s .typesStart) i r the-row in
+          let w = bytes-read image segments address r 20 (rowName address) (rw p at the-row) in
+          placed segments address (w .offset) (w .at)
+
+      -- 20 bytes, and the name with its NUL
+      pub row-path : path image segments (item s (Key.row i)) ≡ bytesAt segments address 20 ∷ (withNul image (r .name) ∷ [])
+      unfolding item
+      row-path =
+          path-map image segments Answer.row (rowOfSlot s i)
+          ∙ Slot.slot-path image segments (s .types) (s .typesStart) i r (offsetIn segments address) the-row row-placed
+
+      -- ---- bodies
+
+      module _ (b : Body) (is-body : run image segments (item s (Key.body i)) ≡ some (Answer.body b)) where
+        the-body : run image segments (bodyOfSlot s i) ≡ some b
+        unfolding item
+        the-body = un-map image segments Answer.body (bodyOfSlot s i) b (λ a e. cc) is-body
+
+        body-placed : fileOffset (segmentsOf segments) (address + 20) ≡ some (offsetIn segments (address + 20))
+        body-placed =
+            let q = Slot.slot-row-address image segments (s .types) (s .typesStart) i r the-row in
+            let w = Slot.body-read image segments (r .address) b (r .flags) (sym (Slot.slot-body image segments (s .types) (s .typesStart) i r the-row) ∙ the-body) in
+            placed segments (address + 20) (w .offset) (sym (ap (λ (a : ℕ). fileOffset (segmentsOf segments) (a + 20)) q) ∙ w .at)
+
+        -- the row's path, and the body's 24 or 8 bytes
+        pub body-path : path image segments (item s (Key.body i)) ≡ path image segments (item s (Key.row i)) ++ (bytesAt segments (address + 20) (bodySize b) ∷ [])
+        unfolding item
+        body-path =
+            path-map image segments Answer.body (bodyOfSlot s i)
+            ∙ Slot.body-path image segments (s .types) (s .typesStart) i r the-row b the-body (offsetIn segments address) (offsetIn segments (address + 20)) row-placed body-placed
+            ∙ ap (λ (l : List Range). l ++ (bytesAt segments (address + 20) (bodySize b) ∷ [])) (sym row-path)
+
+        -- ---- blocks
+
+        -- the body's path, the headers of the earlier blocks that are there, and its own if it has one
+        pub block-path : (k : BlockKind) (x : Block) → run image segments (item s (Key.block i k)) ≡ some (Answer.block x)
+            → path image segments (item s (Key.block i k))
+            ≡ path image segments (item s (Key.body i)) ++ headers image segments (trailing (r .flags) b) (trailingStart (r .address) b) (suc (rowNumber k))
+        unfolding item
+        block-path k x is-block =
+            let there : run image segments (blockOfSlot s i k) ≡ some x = un-map image segments Answer.block (blockOfSlot s i k) x (λ a e. cc) is-block in
+            let its = Slot.slot-block image segments (s .types) (s .typesStart) i r the-row b the-body k in
+            path-map image segments Answer.block (blockOfSlot s i k)
+            ∙ Slot.block-path image segments (s .types) (s .typesStart) i r the-row b the-body k
+            ∙ rw (path-map image segments Answer.body (bodyOfSlot s i), own-headers image segments (trailing (r .flags) b) (trailingStart (r .address) b) k x (sym there ∙ its))
+
+      -- ---- contexts
+
+      -- the row's path, and 8 bytes of each context up to it
+      pub context-path : (k : ℕ) (h : Header) → run image segments (item s (Key.context i k)) ≡ some (Answer.context h)
+          → path image segments (item s (Key.context i k)) ≡ path image segments (item s (Key.row i)) ++ headerRanges segments (chain image segments (suc k) (r .parent))
+      unfolding item contextOfSlot run
+      context-path k h is-context =
+          path-map image segments Answer.context (contextOfSlot s i k) ∙ go (decLt k contextsMost) (un-map image segments Answer.context (contextOfSlot s i k) h (λ a e. cc) is-context)
+        where
+          go : Dec (k < contextsMost) → run image segments (contextOfSlot s i k) ≡ some h
+              → path image segments (contextOfSlot s i k) ≡ path image segments (mapReads Answer.row (rowOfSlot s i)) ++ headerRanges segments (chain image segments (suc k) (r .parent))
+          go (yes l) e =
+              let f : run image segments (bind (rowOfSlot s i) (λ r. headerAt k (r .parent))) ≡ some h = simp (lt-ltb k contextsMost l) at e in
+              let g : run image segments (headerAt k (r .parent)) ≡ some h = rw the-row at (sym (run-bind image segments (λ r. headerAt k (r .parent)) (rowOfSlot s i)) ∙ f) in
+              simp (lt-ltb k contextsMost l)
+              (path-bind image segments (λ r. headerAt k (r .parent)) (rowOfSlot s i)
+              ∙ rw (the-row, path-map image segments Answer.row (rowOfSlot s i), own-headers-of image segments k (r .parent) h g))
+          go (no l) e =
+              let f : _≡_ {A = Option Header} none (some h) = simp (le-ltb k contextsMost (omega arith)) at e in
+              let z : _≡_ {A = ℕ} 0 1 = cc in
+              absurd (omega arith)
+
+    -- ---- what hangs on a block
+
+    module _ (k : BlockKind) (x : Block) (is-block : run image segments (item s (Key.block i k)) ≡ some (Answer.block x)) where
+      the-block : run image segments (blockOfSlot s i k) ≡ some x
+      unfolding item
+      the-block = un-map image segments Answer.block (blockOfSlot s i k) x (λ a e. cc) is-block
+
+      block-reads : path image segments (item s (Key.block i k)) ≡ path image segments (blockOfSlot s i k)
+      unfolding item
+      block-reads = path-map image segments Answer.block (blockOfSlot s i k)
+
+    -- an entry: its block's path, and all entries up to it
+    pub entry-path : (e : EntryKind) (k : ℕ) (x : Block) (t : Table) (y : Entry) → run image segments (item s (Key.block i (tableKind e))) ≡ some (Answer.block x)
+        → tableOf x ≡ some t → run image segments (item s (Key.entry i e k)) ≡ some (Answer.entry y)
+        → path image segments (item s (Key.entry i e k)) ≡ path image segments (item s (Key.block i (tableKind e))) ++ ranges segments (entryWords e) (t .base) k
+    unfolding item entryOfSlot
+    entry-path e k x t y is-block is-table is-entry =
+        let p : Block → Reads Entry = λ b. needing (tableOf b) (λ t. entry (entryWords e) (t .base) (t .count) k) in
+        let there : run image segments (entryOfSlot s i e k) ≡ some y = un-map image segments Answer.entry (entryOfSlot s i e k) y (λ a e. cc) is-entry in
+        let its : run image segments (entryOfSlot s i e k) ≡ run image segments (entry (entryWords e) (t .base) (t .count) k)
+        = run-bind image segments p (blockOfSlot s i (tableKind e)) ∙ rw (the-block (tableKind e) x is-block, is-table) in
+        path-map image segments Answer.entry (entryOfSlot s i e k)
+        ∙ path-bind image segments p (blockOfSlot s i (tableKind e))
+        ∙ rw (the-block (tableKind e) x is-block, is-table, own-entries image segments (entryWords e) (t .base) (t .count) k y (sym its ∙ there))
+        (ap (λ (l : List Range). l ++ ranges segments (entryWords e) (t .base) k) (sym (block-reads (tableKind e) x is-block)))
+
+    -- the records of a singleton: their block's path, and the 12 or 4 bytes that they read
+    pub init-path : (v : ℕ) (y : Initialization) → run image segments (item s (Key.block i BlockKind.SingletonMetadataInit)) ≡ some (Answer.block (Block.SingletonMetadataInit v))
+        → run image segments (item s (Key.initialization i)) ≡ some (Answer.initialization y)
+        → path image segments (item s (Key.initialization i)) ≡ path image segments (item s (Key.block i BlockKind.SingletonMetadataInit)) ++ (bytesAt segments v 12 ∷ [])
+    unfolding item singletonInit
+    init-path v y is-block is-init =
+        let b = the-block BlockKind.SingletonMetadataInit (Block.SingletonMetadataInit v) is-block in
+        let there : run image segments (initOfSlot s i) ≡ some y = un-map image segments Answer.initialization (initOfSlot s i) y (λ a e. cc) is-init in
+        let w = bytes-read image segments v y 12 (targets v) (sym (Slot.slot-init image segments (s .types) (s .typesStart) i v b) ∙ there) in
+        path-map image segments Answer.initialization (initOfSlot s i)
+        ∙ Slot.init-path image segments (s .types) (s .typesStart) i v b y (offsetIn segments v) there (placed segments v (w .offset) (w .at))
+        ∙ ap (λ (l : List Range). l ++ (bytesAt segments v 12 ∷ [])) (sym (block-reads BlockKind.SingletonMetadataInit (Block.SingletonMetadataInit v) is-block))
+
+    pub pointer-path : (v y : ℕ) → run image segments (item s (Key.block i BlockKind.SingletonMetadataPointer)) ≡ some (Answer.block (Block.SingletonMetadataPointer v))
+        → run image segments (item s (Key.pointer i)) ≡ some (Answer.pointer y)
+        → path image segments (item s (Key.pointer i)) ≡ path image segments (item s (Key.block i BlockKind.SingletonMetadataPointer)) ++ (bytesAt segments v 4 ∷ [])
+    unfolding item singletonPointer
+    pointer-path v y is-block is-pointer =
+        let b = the-block BlockKind.SingletonMetadataPointer (Block.SingletonMetadataPointer v) is-block in
+        let there : run image segments (pointerOfSlot s i) ≡ some y = un-map image segments Answer.pointer (pointerOfSlot s i) y (λ a e. cc) is-pointer in
+        let w = bytes-read image segments v y 4 (λ h. done (relativeAddress v (signedIn 4 h 0))) (sym (Slot.slot-pointer image segments (s .types) (s .typesStart) i v b) ∙ there) in
+        path-map image segments Answer.pointer (pointerOfSlot s i)
+        ∙ Slot.pointer-path image segments (s .types) (s .typesStart) i v b y (offsetIn segments v) there (placed segments v (w .offset) (w .at))
+        ∙ ap (λ (l : List Range). l ++ (bytesAt segments v 4 ∷ [])) (sym (block-reads BlockKind.SingletonMetadataPointer (Block.SingletonMetadataPointer v) is-block))
