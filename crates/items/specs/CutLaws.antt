@@ -18,10 +18,10 @@ use Rattle.runtime.specs.ReadsLaws.{cut, local, rangeBytes}
 use Rattle.runtime.specs.PathLaws.{bytes-clear}
 use Rattle.typedescriptor.specs.Row.{TypeRow, nameAddress, typeRow, rowName, descriptor}
 use Rattle.typedescriptor.specs.Slots.{slots, slotAddress, slotRow, Found, found, rowsFrom, rows}
-use Rattle.items.specs.Keys.{Sections, Key, Answer}
+use Rattle.items.specs.Keys.{Sections, Key, Answer, slotOf}
 use Rattle.items.specs.Items.{item, rowOfSlot}
 use Rattle.items.specs.Texts.{NameKey, descriptorName, slotName, nameOf, ClearAt, ClearOf}
-use Rattle.items.specs.ProgramLaws.{Each, on-item, slotOf}
+use Rattle.items.specs.ProgramLaws.{Each, on-item}
 
 -- the claim: the image's first `c` bytes give the whole image's answer if every range of the item's path ends at or before `c`, else none
 abbrev pub Claim : List ℕ → List ℕ → Sections → ℕ → Key → Type 0
@@ -81,16 +81,20 @@ module _ (image segments : List ℕ) (s : Sections) (c : ℕ) where
   pub cut-item : (k : Key) → All (Clear c) (path image segments (item s k)) → Claim image segments s c k
   cut-item k clear = cut image segments c (item s k) clear
 
-  -- of which its row's name is the only one
-  pub own-clear : (k : Key) → ClearOf image segments s c (NameKey.descriptor (slotOf k)) → All (Clear c) (path image segments (item s k))
-  own-clear k clear = on-item image segments (Clear c) (λ o n. bytes-clear c (bytesRange o n) refl) s k (record { all = row-clear image segments c s (slotOf k) clear })
+  -- of which its row's name is the only one: the premise for that text alone
+  abbrev pub OwnClear : Key → Type 0
+  OwnClear k = (i : ℕ) → slotOf k ≡ some i → ClearOf image segments s c (NameKey.descriptor i)
 
-  pub cut-named : (k : Key) → ClearOf image segments s c (NameKey.descriptor (slotOf k)) → Claim image segments s c k
+  pub own-clear : (k : Key) → OwnClear k → All (Clear c) (path image segments (item s k))
+  own-clear k clear =
+      on-item image segments (Clear c) (λ o n. bytes-clear c (bytesRange o n) refl) s k (λ i e. record { all = row-clear image segments c s i (clear i e) })
+
+  pub cut-named : (k : Key) → OwnClear k → Claim image segments s c k
   cut-named k clear = cut-item k (own-clear k clear)
 
   -- for all items, where the cut falls into no text that the listing of the whole image looks up
   pub cut-listing : ((n : NameKey) → ClearOf image segments s c n) → (k : Key) → Claim image segments s c k
-  cut-listing clear k = cut-named k (clear (NameKey.descriptor (slotOf k)))
+  cut-listing clear k = cut-named k (λ i e. clear (NameKey.descriptor i))
 
   -- ---- what follows
 

@@ -13,7 +13,9 @@ use Rattle.typedescriptor.specs.Slots.{slotRow}
 use Rattle.typedescriptor.specs.Body.{Body, slotBody}
 use Rattle.typedescriptor.specs.Singleton.{Initialization, needing}
 use Rattle.typedescriptor.specs.Items.{slotBlock, slotInit, slotPointer}
-use Rattle.vtable.specs.Entries.{Word, method, override, defaultOverride, prespecialization, Entry, entry}
+use Rattle.vtable.specs.Entries.{Layout, method, override, defaultOverride, prespecialization, Entry, entry}
+use Rattle.field.specs.Fields.{descriptorAt}
+use Rattle.field.specs.Records.{recordAt}
 use Rattle.parent.specs.Context.{Header}
 use Rattle.parent.specs.Chain.{contextsMost, headerAt}
 use Rattle.items.specs.Keys.{Sections, EntryKind, Key, Answer}
@@ -49,11 +51,11 @@ tableKind EntryKind.defaultOverrides = BlockKind.DefaultOverrideTable
 tableKind EntryKind.prespecializations = BlockKind.Prespecializations
 
 -- and what an entry is
-abbrev pub entryWords : EntryKind → List Word
-entryWords EntryKind.methods = method
-entryWords EntryKind.overrides = override
-entryWords EntryKind.defaultOverrides = defaultOverride
-entryWords EntryKind.prespecializations = prespecialization
+abbrev pub entryLayout : EntryKind → Layout
+entryLayout EntryKind.methods = method
+entryLayout EntryKind.overrides = override
+entryLayout EntryKind.defaultOverrides = defaultOverride
+entryLayout EntryKind.prespecializations = prespecialization
 
 -- how many entries a block has, and where they start
 pub record Table : Type 0 where
@@ -77,7 +79,7 @@ tableOf (Block.SingletonMetadataPointer a) = none
 unfoldable pub entryOfSlot : Sections → ℕ → EntryKind → ℕ → Reads Entry
 entryOfSlot s i e k =
     bind (blockOfSlot s i (tableKind e))
-    (λ b. needing (tableOf b) (λ t. entry (entryWords e) (t .base) (t .count) k))
+    (λ b. needing (tableOf b) (λ t. entry (entryLayout e) (t .base) (t .count) k))
 
 -- ---- contexts
 
@@ -96,3 +98,5 @@ item s (Key.entry i e k) = mapReads Answer.entry (entryOfSlot s i e k)
 item s (Key.initialization i) = mapReads Answer.initialization (initOfSlot s i)
 item s (Key.pointer i) = mapReads Answer.pointer (pointerOfSlot s i)
 item s (Key.context i k) = mapReads Answer.context (contextOfSlot s i k)
+item s (Key.fieldDescriptor j) = mapReads Answer.fieldDescriptor (descriptorAt (s .fields) (s .fieldsStart) j)
+item s (Key.fieldRecord j k) = mapReads Answer.fieldRecord (recordAt (s .fields) (s .fieldsStart) j k)

@@ -1,7 +1,7 @@
 -- The calls give the items. Stepping from a walk's start to its end gives the items of a kind, in order and with their keys, and nothing else: the rows of a types
 -- section (`rows-listed`), the blocks behind a body (`blocks-listed`), the entries of a block (`entries-listed`), the contexts around a row (`contexts-listed`). What is
 -- read by one call is its item (`body-listed`, `block-listed`, `init-listed`, `pointer-listed`). An item of a slot without a row is none (`no-row`).
-use Prim.Native.Nat.{ℕ, zero, suc, _+_, _^_, _≤_, _<_}
+use Prim.Native.Nat.{ℕ, zero, suc, _+_, _*_, _^_, _≤_, _<_}
 use native.Mathlib.Decide.{decLt}
 use native.Mathlib.Omega.{arith}
 use mathlib.Core.Path.{_≡_, refl, sym, ap, _∙_}
@@ -28,13 +28,18 @@ use Rattle.typedescriptor.specs.Items.{slotBlock}
 use Rattle.typedescriptor.specs.PathLaws as Slot
 use Rattle.vtable.specs.Entries.{Entry, entry, start}
 use Rattle.vtable.specs.ListLaws.{listed as listedEntries, listed-all}
+use Rattle.field.specs.declared.iter.FieldDescriptor.{FieldDescriptor}
+use Rattle.field.specs.Fields.{descriptorAt}
+use Rattle.field.specs.FieldsLaws.{listed as listedDescriptors, listed-all as descriptors-all}
+use Rattle.field.specs.Records.{recordsOf, recordAt as fieldRecordAt}
+use Rattle.field.specs.RecordsLaws.{listed as steppedRecords, listed-records}
 use Rattle.parent.specs.Context.{Header, Context, withName}
 use Rattle.parent.specs.Chain.{contextsMost, headerAt, contextAt, chain}
 use Rattle.parent.specs.ChainLaws.{chain-at, stepped as steppedContexts, stepped-all}
 use Rattle.parent.specs.PathLaws.{chain-length}
-use Rattle.items.specs.Keys.{Sections, EntryKind, Key, Answer}
-use Rattle.items.specs.Items.{mapReads, rowOfSlot, bodyOfSlot, blockOfSlot, initOfSlot, pointerOfSlot, tableKind, entryWords, Table, tableOf, entryOfSlot, contextOfSlot, item}
-use Rattle.items.specs.ProgramLaws.{run-map, un-map, un-map-none, map-none, bind-none, slotOf}
+use Rattle.items.specs.Keys.{Sections, EntryKind, Key, Answer, slotOf}
+use Rattle.items.specs.Items.{mapReads, rowOfSlot, bodyOfSlot, blockOfSlot, initOfSlot, pointerOfSlot, tableKind, entryLayout, Table, tableOf, entryOfSlot, contextOfSlot, item}
+use Rattle.items.specs.ProgramLaws.{run-map, un-map, un-map-none, map-none, bind-none}
 
 -- a key with its answer
 pub record Item : Type 0 where
@@ -85,24 +90,26 @@ module _ (image segments : List ℕ) (s : Sections) where
 
   -- ---- what hangs on a row
 
-  no-row-no-item : (k : Key) → run image segments (rowOfSlot s (slotOf k)) ≡ none → run image segments (item s k) ≡ none
+  no-row-no-item : (k : Key) (i : ℕ) → slotOf k ≡ some i → ((j : ℕ) → slotOf k ≡ some j → run image segments (rowOfSlot s j) ≡ none) → run image segments (item s k) ≡ none
   unfolding item entryOfSlot contextOfSlot run
-  no-row-no-item (Key.row i) e = map-none image segments _ e _
-  no-row-no-item (Key.body i) e = map-none image segments _ (Slot.no-row-no-body image segments _ _ i e) _
-  no-row-no-item (Key.block i k) e = map-none image segments _ (Slot.no-row-no-block image segments _ _ i e k) _
-  no-row-no-item (Key.entry i t k) e = map-none image segments _ (bind-none image segments _ (Slot.no-row-no-block image segments _ _ i e (tableKind t)) _) _
-  no-row-no-item (Key.initialization i) e = map-none image segments _ (Slot.no-block-no-init image segments _ _ i (Slot.no-row-no-block image segments _ _ i e _)) _
-  no-row-no-item (Key.pointer i) e = map-none image segments _ (Slot.no-block-no-pointer image segments _ _ i (Slot.no-row-no-block image segments _ _ i e _)) _
-  no-row-no-item (Key.context i k) e = map-none image segments _ (go (ltb k contextsMost)) _
+  no-row-no-item (Key.row i) _ _ e = map-none image segments _ (e i refl) _
+  no-row-no-item (Key.body i) _ _ e = map-none image segments _ (Slot.no-row-no-body image segments _ _ i (e i refl)) _
+  no-row-no-item (Key.block i k) _ _ e = map-none image segments _ (Slot.no-row-no-block image segments _ _ i (e i refl) k) _
+  no-row-no-item (Key.entry i t k) _ _ e = map-none image segments _ (bind-none image segments _ (Slot.no-row-no-block image segments _ _ i (e i refl) (tableKind t)) _) _
+  no-row-no-item (Key.initialization i) _ _ e = map-none image segments _ (Slot.no-block-no-init image segments _ _ i (Slot.no-row-no-block image segments _ _ i (e i refl) _)) _
+  no-row-no-item (Key.pointer i) _ _ e = map-none image segments _ (Slot.no-block-no-pointer image segments _ _ i (Slot.no-row-no-block image segments _ _ i (e i refl) _)) _
+  no-row-no-item (Key.context i k) _ _ e = map-none image segments _ (go (ltb k contextsMost)) _
     where
       go : (b : Bool) → run image segments (cond b (bind (rowOfSlot s i) (λ r. headerAt k (r .parent))) nothing) ≡ none
-      go true = bind-none image segments (rowOfSlot s i) e _
+      go true = bind-none image segments (rowOfSlot s i) (e i refl) _
       go false = refl
+  no-row-no-item (Key.fieldDescriptor j) i t e = let z : _≡_ {A = ℕ} 0 1 = cc in absurd (omega arith)
+  no-row-no-item (Key.fieldRecord j k) i t e = let z : _≡_ {A = ℕ} 0 1 = cc in absurd (omega arith)
 
   -- a slot without a row has nothing
-  pub no-row : (k : Key) → run image segments (item s (Key.row (slotOf k))) ≡ none → run image segments (item s k) ≡ none
+  pub no-row : (k : Key) (i : ℕ) → slotOf k ≡ some i → run image segments (item s (Key.row i)) ≡ none → run image segments (item s k) ≡ none
   unfolding item
-  no-row k e = no-row-no-item k (un-map-none image segments Answer.row (rowOfSlot s (slotOf k)) e)
+  no-row k i t e = no-row-no-item k i t (λ j u. let q : i ≡ j = cc in rw q at (un-map-none image segments Answer.row (rowOfSlot s i) e))
 
 -- the kind of a block
 abbrev pub kindOf : Block → BlockKind
@@ -326,13 +333,13 @@ module _ (image segments : List ℕ) (s : Sections) (i : ℕ) where
 
       -- a walk that starts at them: as many steps as there are entries, or more, give a list whose entry `k` is item `k`, for every `k`
       pub entries-listed : (t : Table) → tableOf x ≡ some t → (n k : ℕ) → t .count ≤ n
-          → Option·map Answer.entry (getElem? (listedEntries image segments (entryWords e) n (start (t .base) (t .count))) k) ≡ run image segments (item s (Key.entry i e k))
+          → Option·map Answer.entry (getElem? (listedEntries image segments (entryLayout e) n (start (t .base) (t .count))) k) ≡ run image segments (item s (Key.entry i e k))
       unfolding item entryOfSlot
       entries-listed t is-table n k h =
-          let p : Block → Reads Entry = λ b. needing (tableOf b) (λ t. entry (entryWords e) (t .base) (t .count) k) in
-          let its : run image segments (entryOfSlot s i e k) ≡ run image segments (entry (entryWords e) (t .base) (t .count) k)
+          let p : Block → Reads Entry = λ b. needing (tableOf b) (λ t. entry (entryLayout e) (t .base) (t .count) k) in
+          let its : run image segments (entryOfSlot s i e k) ≡ run image segments (entry (entryLayout e) (t .base) (t .count) k)
           = run-bind image segments p (blockOfSlot s i (tableKind e)) ∙ rw (entries-block, is-table) in
-          ap (Option·map Answer.entry) (listed-all image segments (entryWords e) (t .base) (t .count) n k h ∙ sym its)
+          ap (Option·map Answer.entry) (listed-all image segments (entryLayout e) (t .base) (t .count) n k h ∙ sym its)
           ∙ sym (run-map image segments Answer.entry (entryOfSlot s i e k))
 
   -- the records of a singleton, each by its block's address
@@ -359,3 +366,34 @@ module _ (image segments : List ℕ) (s : Sections) (i : ℕ) where
       run-map image segments Answer.pointer (pointerOfSlot s i)
       ∙ ap (Option·map Answer.pointer)
       (Slot.slot-pointer image segments (s .types) (s .typesStart) i v (un-map image segments Answer.block (blockOfSlot s i BlockKind.SingletonMetadataPointer) (Block.SingletonMetadataPointer v) (λ a e. cc) f))
+
+-- ---- fields
+
+module _ (image segments : List ℕ) (s : Sections) where
+  -- a walk over the fields section: as many steps as it has room for headers give a list whose descriptor `k` is item `k`, for every `k`
+  pub descriptors-listed : (n k : ℕ) → length (s .fields) < 16 * (n + 1)
+      → Option·map Answer.fieldDescriptor (getElem? (listedDescriptors (s .fields) (s .fieldsStart) n 0) k) ≡ run image segments (item s (Key.fieldDescriptor k))
+  unfolding item
+  descriptors-listed n k h =
+      ap (Option·map Answer.fieldDescriptor) (descriptors-all (s .fields) (s .fieldsStart) image segments n k h)
+      ∙ sym (run-map image segments Answer.fieldDescriptor (descriptorAt (s .fields) (s .fieldsStart) k))
+
+  module _ (j : ℕ) where
+    -- no records without their descriptor
+    pub no-record : (k : ℕ) → run image segments (item s (Key.fieldDescriptor j)) ≡ none → run image segments (item s (Key.fieldRecord j k)) ≡ none
+    unfolding item fieldRecordAt
+    no-record k e =
+        map-none image segments _
+        (bind-none image segments (descriptorAt (s .fields) (s .fieldsStart) j)
+        (un-map-none image segments Answer.fieldDescriptor (descriptorAt (s .fields) (s .fieldsStart) j) e) _) _
+
+    -- a walk over a descriptor's records: as many steps as it has records, or more, give a list whose record `k` is item `k`, for every `k`
+    pub records-listed : (d : FieldDescriptor) → run image segments (item s (Key.fieldDescriptor j)) ≡ some (Answer.fieldDescriptor d)
+        → (n k : ℕ) → d .«num_fields» ≤ n
+        → Option·map Answer.fieldRecord (getElem? (steppedRecords image segments n (recordsOf d)) k) ≡ run image segments (item s (Key.fieldRecord j k))
+    unfolding item
+    records-listed d is-descriptor n k h =
+        ap (Option·map Answer.fieldRecord)
+        (listed-records image segments d (s .fields) (s .fieldsStart) j
+        (un-map image segments Answer.fieldDescriptor (descriptorAt (s .fields) (s .fieldsStart) j) d (λ a f. cc) is-descriptor) n k h)
+        ∙ sym (run-map image segments Answer.fieldRecord (fieldRecordAt (s .fields) (s .fieldsStart) j k))

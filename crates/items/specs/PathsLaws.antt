@@ -27,11 +27,15 @@ use Rattle.typedescriptor.specs.Items.{slotBlock, slotInit, slotPointer}
 use Rattle.typedescriptor.specs.PathLaws as Slot
 use Rattle.vtable.specs.Entries.{Entry, entry}
 use Rattle.vtable.specs.PathLaws.{offsetIn, ranges, entry-path as own-entries}
+use Rattle.field.specs.declared.iter.FieldDescriptor.{FieldDescriptor}
+use Rattle.field.specs.Fields.{descriptorAt}
+use Rattle.field.specs.Records.{recordLayout, recordsBase, recordAt}
+use Rattle.field.specs.PathLaws.{descriptor-path as no-bytes, record-path as own-records}
 use Rattle.parent.specs.Context.{Header}
 use Rattle.parent.specs.Chain.{contextsMost, headerAt, chain}
 use Rattle.parent.specs.PathLaws.{headerRanges, context-path as own-headers-of}
 use Rattle.items.specs.Keys.{Sections, EntryKind, Key, Answer}
-use Rattle.items.specs.Items.{mapReads, tableKind, entryWords, Table, tableOf, entryOfSlot, contextOfSlot, item, rowOfSlot, bodyOfSlot, blockOfSlot, initOfSlot, pointerOfSlot}
+use Rattle.items.specs.Items.{mapReads, tableKind, entryLayout, Table, tableOf, entryOfSlot, contextOfSlot, item, rowOfSlot, bodyOfSlot, blockOfSlot, initOfSlot, pointerOfSlot}
 use Rattle.items.specs.ProgramLaws.{path-map, un-map}
 
 -- `n` bytes at an address
@@ -140,17 +144,17 @@ module _ (image segments : List ℕ) where
     -- an entry: its block's path, and all entries up to it
     pub entry-path : (e : EntryKind) (k : ℕ) (x : Block) (t : Table) (y : Entry) → run image segments (item s (Key.block i (tableKind e))) ≡ some (Answer.block x)
         → tableOf x ≡ some t → run image segments (item s (Key.entry i e k)) ≡ some (Answer.entry y)
-        → path image segments (item s (Key.entry i e k)) ≡ path image segments (item s (Key.block i (tableKind e))) ++ ranges segments (entryWords e) (t .base) k
+        → path image segments (item s (Key.entry i e k)) ≡ path image segments (item s (Key.block i (tableKind e))) ++ ranges segments (entryLayout e) (t .base) k
     unfolding item entryOfSlot
     entry-path e k x t y is-block is-table is-entry =
-        let p : Block → Reads Entry = λ b. needing (tableOf b) (λ t. entry (entryWords e) (t .base) (t .count) k) in
+        let p : Block → Reads Entry = λ b. needing (tableOf b) (λ t. entry (entryLayout e) (t .base) (t .count) k) in
         let there : run image segments (entryOfSlot s i e k) ≡ some y = un-map image segments Answer.entry (entryOfSlot s i e k) y (λ a e. cc) is-entry in
-        let its : run image segments (entryOfSlot s i e k) ≡ run image segments (entry (entryWords e) (t .base) (t .count) k)
+        let its : run image segments (entryOfSlot s i e k) ≡ run image segments (entry (entryLayout e) (t .base) (t .count) k)
         = run-bind image segments p (blockOfSlot s i (tableKind e)) ∙ rw (the-block (tableKind e) x is-block, is-table) in
         path-map image segments Answer.entry (entryOfSlot s i e k)
         ∙ path-bind image segments p (blockOfSlot s i (tableKind e))
-        ∙ rw (the-block (tableKind e) x is-block, is-table, own-entries image segments (entryWords e) (t .base) (t .count) k y (sym its ∙ there))
-        (ap (λ (l : List Range). l ++ ranges segments (entryWords e) (t .base) k) (sym (block-reads (tableKind e) x is-block)))
+        ∙ rw (the-block (tableKind e) x is-block, is-table, own-entries image segments (entryLayout e) (t .base) (t .count) k y (sym its ∙ there))
+        (ap (λ (l : List Range). l ++ ranges segments (entryLayout e) (t .base) k) (sym (block-reads (tableKind e) x is-block)))
 
     -- the records of a singleton: their block's path, and the 12 or 4 bytes that they read
     pub init-path : (v : ℕ) (y : Initialization) → run image segments (item s (Key.block i BlockKind.SingletonMetadataInit)) ≡ some (Answer.block (Block.SingletonMetadataInit v))
@@ -176,3 +180,24 @@ module _ (image segments : List ℕ) where
         path-map image segments Answer.pointer (pointerOfSlot s i)
         ∙ Slot.pointer-path image segments (s .types) (s .typesStart) i v b y (offsetIn segments v) there (placed segments v (w .offset) (w .at))
         ∙ ap (λ (l : List Range). l ++ (bytesAt segments v 4 ∷ [])) (sym (block-reads BlockKind.SingletonMetadataPointer (Block.SingletonMetadataPointer v) is-block))
+
+  -- ---- fields
+
+  module _ (s : Sections) (j : ℕ) where
+    -- a field descriptor reads no byte of the image
+    pub descriptor-path : path image segments (item s (Key.fieldDescriptor j)) ≡ []
+    unfolding item
+    descriptor-path =
+        path-map image segments Answer.fieldDescriptor (descriptorAt (s .fields) (s .fieldsStart) j)
+        ∙ no-bytes image segments (s .fields) (s .fieldsStart) j
+
+    -- a field record: the 12 bytes of each record up to it
+    pub record-path : (k : ℕ) (d : FieldDescriptor) (e : Entry) → run image segments (item s (Key.fieldDescriptor j)) ≡ some (Answer.fieldDescriptor d)
+        → run image segments (item s (Key.fieldRecord j k)) ≡ some (Answer.fieldRecord e)
+        → path image segments (item s (Key.fieldRecord j k)) ≡ ranges segments (recordLayout (d .«field_record_size»)) (recordsBase (d .address)) k
+    unfolding item
+    record-path k d e is-descriptor is-record =
+        path-map image segments Answer.fieldRecord (recordAt (s .fields) (s .fieldsStart) j k)
+        ∙ own-records image segments (s .fields) (s .fieldsStart) j k d e
+        (un-map image segments Answer.fieldDescriptor (descriptorAt (s .fields) (s .fieldsStart) j) d (λ a f. cc) is-descriptor)
+        (un-map image segments Answer.fieldRecord (recordAt (s .fields) (s .fieldsStart) j k) e (λ a f. cc) is-record)

@@ -19,21 +19,13 @@ use Rattle.typedescriptor.specs.Slots.{slotRow}
 use Rattle.typedescriptor.specs.Body.{Body, bodyBytes, bodyOfKind, body, slotBody, trailing, trailingStart}
 use Rattle.typedescriptor.specs.Singleton.{Initialization, initialization, slotTarget, needing, targets, singletonInit, singletonPointer}
 use Rattle.typedescriptor.specs.Items.{slotBlock, slotInit, slotPointer, initOfBlock, pointerOfBlock}
-use Rattle.vtable.specs.Entries.{Word, entrySize, entryOf, entryAddress, entryAt, upTo, entry}
+use Rattle.vtable.specs.Entries.{Layout, entrySize, entryOf, entryAddress, entryAt, upTo, entry}
+use Rattle.field.specs.Fields.{descriptorFrom, given, descriptorAt}
+use Rattle.field.specs.Records.{recordLayout, recordsBase, recordAt as fieldRecordAt}
 use Rattle.parent.specs.Context.{Header, headed, header}
 use Rattle.parent.specs.Chain.{contextsMost, headerAt}
-use Rattle.items.specs.Keys.{Sections, EntryKind, Key, Answer}
-use Rattle.items.specs.Items.{mapReads, tableKind, entryWords, Table, tableOf, entryOfSlot, contextOfSlot, item, rowOfSlot, bodyOfSlot, blockOfSlot, initOfSlot, pointerOfSlot}
-
--- the slot that an item is of
-abbrev pub slotOf : Key → ℕ
-slotOf (Key.row i) = i
-slotOf (Key.body i) = i
-slotOf (Key.block i k) = i
-slotOf (Key.entry i e k) = i
-slotOf (Key.initialization i) = i
-slotOf (Key.pointer i) = i
-slotOf (Key.context i k) = i
+use Rattle.items.specs.Keys.{Sections, EntryKind, Key, Answer, slotOf}
+use Rattle.items.specs.Items.{mapReads, tableKind, entryLayout, Table, tableOf, entryOfSlot, contextOfSlot, item, rowOfSlot, bodyOfSlot, blockOfSlot, initOfSlot, pointerOfSlot}
 
 -- ---- an answer under another name
 
@@ -166,20 +158,20 @@ module _ (image segments : List ℕ) (P : Range → Type 0) (onBytes : (o n : �
       (on-header a (r .header) (λ h. on-cond (r .bounded && leb (2 ^ 64) (a + r .size h)) on-nothing (on-done (r .recorded a h)))) on-nothing)
 
   -- entries
-  on-entry-at : (ws : List Word) (base n : ℕ) → On (entryAt ws base n)
+  on-entry-at : (layout : Layout) (base n : ℕ) → On (entryAt layout base n)
   unfolding entryAt
-  on-entry-at ws base n =
-      on-cond (leb (2 ^ 64) (entryAddress ws base n + (entrySize ws - 4))) on-nothing
-      (on-bytes (entryAddress ws base n) (entrySize ws) (λ h. on-done (entryOf ws (entryAddress ws base n) h)))
+  on-entry-at layout base n =
+      on-cond (leb (2 ^ 64) (entryAddress layout base n + (entrySize layout - 4))) on-nothing
+      (on-bytes (entryAddress layout base n) (entrySize layout) (λ h. on-done (entryOf layout (entryAddress layout base n) h)))
 
-  on-up-to : (ws : List Word) (base n : ℕ) → On (upTo ws base n)
+  on-up-to : (layout : Layout) (base n : ℕ) → On (upTo layout base n)
   unfolding upTo
-  on-up-to ws base zero = on-entry-at ws base 0
-  on-up-to ws base (suc n) = on-bind (on-up-to ws base n) (λ _. on-entry-at ws base (suc n))
+  on-up-to layout base zero = on-entry-at layout base 0
+  on-up-to layout base (suc n) = on-bind (on-up-to layout base n) (λ _. on-entry-at layout base (suc n))
 
-  pub on-entry : (ws : List Word) (base count k : ℕ) → On (entry ws base count k)
+  pub on-entry : (layout : Layout) (base count k : ℕ) → On (entry layout base count k)
   unfolding entry
-  on-entry ws base count k = on-cond (ltb k count) (on-up-to ws base k) on-nothing
+  on-entry layout base count k = on-cond (ltb k count) (on-up-to layout base k) on-nothing
 
   -- singleton records
   pub on-init : (b : Block) → On (initOfBlock b)
@@ -239,7 +231,7 @@ module _ (image segments : List ℕ) (P : Range → Type 0) (onBytes : (o n : �
     unfolding entryOfSlot
     on-slot-entry e k =
         on-bind (on-slot-block (tableKind e))
-        (λ b. on-needing (tableOf b) (λ t. on-entry (entryWords e) (t .base) (t .count) k))
+        (λ b. on-needing (tableOf b) (λ t. on-entry (entryLayout e) (t .base) (t .count) k))
 
     pub on-slot-init : On (initOfSlot s i)
     unfolding slotInit
@@ -255,13 +247,30 @@ module _ (image segments : List ℕ) (P : Range → Type 0) (onBytes : (o n : �
     on-slot-context k =
         on-cond (ltb k contextsMost) (on-bind row (λ r. on-context k (r .parent))) on-nothing
 
+  -- field descriptors and records
+  on-given : {A : Type 0} (x : Option A) → On (given x)
+  on-given none = on-nothing
+  on-given (some a) = on-done a
+
+  pub on-descriptor : (fields : List ℕ) (start j : ℕ) → On (descriptorAt fields start j)
+  unfolding descriptorAt
+  on-descriptor fields start j = on-given (descriptorFrom fields start 0 j)
+
+  pub on-record : (fields : List ℕ) (start j k : ℕ) → On (fieldRecordAt fields start j k)
+  unfolding fieldRecordAt
+  on-record fields start j k =
+      on-bind (on-descriptor fields start j)
+      (λ d. on-entry (recordLayout (d .«field_record_size»)) (recordsBase (d .address)) (d .«num_fields») k)
+
   -- what an item reads beside the row of its slot are bytes
-  pub on-item : (s : Sections) (k : Key) → On (rowOfSlot s (slotOf k)) → All P (path image segments (item s k))
+  pub on-item : (s : Sections) (k : Key) → ((i : ℕ) → slotOf k ≡ some i → On (rowOfSlot s i)) → All P (path image segments (item s k))
   unfolding item
-  on-item s (Key.row i) row = rw (path-map image segments Answer.row (rowOfSlot s i)) (row .all)
-  on-item s (Key.body i) row = rw path-map (on-slot-body s i row .all)
-  on-item s (Key.block i k) row = rw path-map (on-slot-block s i row k .all)
-  on-item s (Key.entry i e k) row = rw path-map (on-slot-entry s i row e k .all)
-  on-item s (Key.initialization i) row = rw path-map (on-slot-init s i row .all)
-  on-item s (Key.pointer i) row = rw path-map (on-slot-pointer s i row .all)
-  on-item s (Key.context i k) row = rw path-map (on-slot-context s i row k .all)
+  on-item s (Key.row i) row = rw path-map (row i refl .all)
+  on-item s (Key.body i) row = rw path-map (on-slot-body s i (row i refl) .all)
+  on-item s (Key.block i k) row = rw path-map (on-slot-block s i (row i refl) k .all)
+  on-item s (Key.entry i e k) row = rw path-map (on-slot-entry s i (row i refl) e k .all)
+  on-item s (Key.initialization i) row = rw path-map (on-slot-init s i (row i refl) .all)
+  on-item s (Key.pointer i) row = rw path-map (on-slot-pointer s i (row i refl) .all)
+  on-item s (Key.context i k) row = rw path-map (on-slot-context s i (row i refl) k .all)
+  on-item s (Key.fieldDescriptor j) row = rw path-map (on-descriptor (s .fields) (s .fieldsStart) j .all)
+  on-item s (Key.fieldRecord j k) row = rw path-map (on-record (s .fields) (s .fieldsStart) j k .all)

@@ -4,6 +4,7 @@ use mathlib.Core.List.{List}
 use mathlib.Core.Path.{_≡_}
 use mathlib.Core.Bool.{cond}
 use mathlib.Core.Option.{some}
+use lib.ListN.{getD}
 use lib.Dec.{leb, ltb, eqb}
 use Rattle.util.specs.LittleEndian.{unsignedIn, signedIn}
 use Rattle.util.specs.Pointer.{relativePointer}
@@ -11,14 +12,17 @@ use Rattle.runtime.specs.Reads.{Reads, done, nothing, bytes, text, bind, textOf
 use Rattle.context.specs.Context.{contextKind, hasName}
 use Rattle.typedescriptor.specs.Row.{nameAddress}
 use Rattle.typedescriptor.specs.Slots.{slots, slotAddress}
+use Rattle.vtable.specs.Entries.{Entry}
+use Rattle.field.specs.Records.{recordAt}
 use Rattle.parent.specs.Context.{Name, Header}
 use Rattle.items.specs.Keys.{Sections}
-use Rattle.items.specs.Items.{contextOfSlot}
+use Rattle.items.specs.Items.{mapReads, contextOfSlot}
 
--- a name is looked up for a slot's descriptor and for a context of a slot
+-- a name is looked up for a slot's descriptor, for a context of a slot, and for a field record by its descriptor and its own number
 pub data NameKey : Type 0 where
   descriptor : ℕ → NameKey
   context : ℕ → ℕ → NameKey
+  field : ℕ → ℕ → NameKey
 
 -- a descriptor's name address, where its bytes can be read and it has a slot for the name below 2^64: whether the name can be read or not
 unfoldable pub descriptorName : ℕ → Reads ℕ
@@ -36,10 +40,15 @@ contextNameAt h =
     (cond (leb (2 ^ 64) (h .address + 8)) nothing
     (bytes (h .address + 8) 4 (λ b. cond (eqb (unsignedIn 4 b 0) 0) nothing (done (relativePointer (h .address + 8) (signedIn 4 b 0)))))) nothing
 
+-- a field record's is its third word (no text is looked up at address 0)
+abbrev pub recordName : Entry → ℕ
+recordName e = getD (e .words) 2 0
+
 -- the address at which the name of a key is looked up
 unfoldable pub nameOf : Sections → NameKey → Reads ℕ
 nameOf s (NameKey.descriptor i) = slotName s i
 nameOf s (NameKey.context i k) = bind (contextOfSlot s i k) contextNameAt
+nameOf s (NameKey.field j k) = mapReads recordName (recordAt (s .fields) (s .fieldsStart) j k)
 
 -- a text at an address: its place in the image, and its bytes
 unfoldable pub lookup : ℕ → Reads Name

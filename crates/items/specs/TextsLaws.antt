@@ -20,10 +20,13 @@ use Rattle.runtime.specs.ReadsLaws.{run-bind, cut}
 use Rattle.runtime.specs.PathLaws.{bytes-clear, path-text-zero}
 use Rattle.runtime.specs.FieldName.{NamePlace, inImage, inStrings, sectionText, orElse, fieldName}
 use Rattle.context.specs.Context.{contextKind, hasName}
+use Rattle.vtable.specs.Entries.{Entry}
+use Rattle.field.specs.Records.{recordAt}
 use Rattle.parent.specs.Context.{Name, Header, slotName, nameAt, name}
 use Rattle.items.specs.Keys.{Sections}
 use Rattle.items.specs.Items.{contextOfSlot}
-use Rattle.items.specs.Texts.{NameKey, contextNameAt, nameOf, lookup, ClearAt, ClearOf}
+use Rattle.items.specs.Texts.{NameKey, contextNameAt, recordName, nameOf, lookup, ClearAt, ClearOf}
+use Rattle.items.specs.ProgramLaws.{run-map}
 use Rattle.items.specs.CutLaws.{text-on-path, ClearBy}
 
 -- a name by its place and bytes
@@ -120,3 +123,11 @@ module _ (image segments : List ℕ) (c : ℕ) where
       → ClearOf image segments s c (NameKey.context i k) → ClearBy image segments c (contextNameAt h)
   unfolding nameOf
   context-clear s i k h e clear v f = clear v (run-bind image segments contextNameAt (contextOfSlot s i k) ∙ rw e f)
+
+-- ---- fields' names
+
+-- the premise on the listing's texts has each field record's name
+pub field-clear : (image segments : List ℕ) (c : ℕ) (s : Sections) (j k : ℕ) (e : Entry) → run image segments (recordAt (s .fields) (s .fieldsStart) j k) ≡ some e
+    → ClearOf image segments s c (NameKey.field j k) → ClearAt image segments c (recordName e)
+unfolding nameOf
+field-clear image segments c s j k e f clear = clear (recordName e) (run-map image segments recordName (recordAt (s .fields) (s .fieldsStart) j k) ∙ rw f)
