@@ -1,3 +1,4 @@
+pub mod Clue
 pub mod CutLaws
 pub mod Items
 pub mod Keys
