@@ -13,6 +13,7 @@ use Rattle.typedescriptor.specs.Slots.{slotRow}
 use Rattle.typedescriptor.specs.Body.{Body, slotBody}
 use Rattle.typedescriptor.specs.Singleton.{Initialization, needing}
 use Rattle.typedescriptor.specs.Items.{slotBlock, slotInit, slotPointer}
+use Rattle.typedescriptor.specs.Offsets.{slotOffsets}
 use Rattle.vtable.specs.Entries.{Layout, method, override, defaultOverride, prespecialization, Entry, entry}
 use Rattle.field.specs.Fields.{descriptorAt}
 use Rattle.field.specs.Records.{recordAt}
@@ -24,7 +25,7 @@ use Rattle.items.specs.Keys.{Sections, EntryKind, Key, Answer}
 unfoldable pub mapReads : {A B : Type 0} → (A → B) → Reads A → Reads B
 mapReads f p = bind p (λ a. done (f a))
 
--- ---- a slot's row, body, blocks and singleton records (crate `typedescriptor`)
+-- ---- a slot's row, body, blocks, singleton records and offsets (crate `typedescriptor`)
 
 abbrev pub rowOfSlot : Sections → ℕ → Reads TypeRow
 rowOfSlot s i = slotRow (s .types) (s .typesStart) i
@@ -40,6 +41,9 @@ initOfSlot s i = slotInit (s .types) (s .typesStart) i
 
 abbrev pub pointerOfSlot : Sections → ℕ → Reads ℕ
 pointerOfSlot s i = slotPointer (s .types) (s .typesStart) i
+
+abbrev pub offsetsOfSlot : Sections → ℕ → ℕ → Reads (List ℕ)
+offsetsOfSlot s i m = slotOffsets (s .types) (s .typesStart) i m
 
 -- ---- entries
 
@@ -97,6 +101,7 @@ item s (Key.block i k) = mapReads Answer.block (blockOfSlot s i k)
 item s (Key.entry i e k) = mapReads Answer.entry (entryOfSlot s i e k)
 item s (Key.initialization i) = mapReads Answer.initialization (initOfSlot s i)
 item s (Key.pointer i) = mapReads Answer.pointer (pointerOfSlot s i)
+item s (Key.offsets i m) = mapReads Answer.offsets (offsetsOfSlot s i m)
 item s (Key.context i k) = mapReads Answer.context (contextOfSlot s i k)
 item s (Key.fieldDescriptor j) = mapReads Answer.fieldDescriptor (descriptorAt (s .fields) (s .fieldsStart) j)
 item s (Key.fieldRecord j k) = mapReads Answer.fieldRecord (recordAt (s .fields) (s .fieldsStart) j k)

@@ -36,6 +36,8 @@ pub data Key : Type 0 where
   -- a slot's singleton records
   initialization : ℕ → Key
   pointer : ℕ → Key
+  -- the offsets of a slot's fields, for a metadata address
+  offsets : ℕ → ℕ → Key
   -- of the contexts around a slot's type the one with a number, the innermost being 0
   context : ℕ → ℕ → Key
   -- of the fields section the descriptor with a number, and of its records the one with a number
@@ -51,6 +53,7 @@ pub data Answer : Type 0 where
   entry : Entry → Answer
   initialization : Initialization → Answer
   pointer : ℕ → Answer
+  offsets : List ℕ → Answer
   context : Header → Answer
   fieldDescriptor : FieldDescriptor → Answer
   fieldRecord : Entry → Answer
@@ -63,6 +66,7 @@ slotOf (Key.block i k) = some i
 slotOf (Key.entry i e k) = some i
 slotOf (Key.initialization i) = some i
 slotOf (Key.pointer i) = some i
+slotOf (Key.offsets i m) = some i
 slotOf (Key.context i k) = some i
 slotOf (Key.fieldDescriptor j) = none
 slotOf (Key.fieldRecord j k) = none

@@ -24,8 +24,11 @@ use Rattle.typedescriptor.specs.RowLaws.{past-slots}
 use Rattle.typedescriptor.specs.SlotsLaws.{stepped as steppedRows, stepped-rows}
 use Rattle.typedescriptor.specs.Body.{Body, body, slotBody, trailing, trailingStart}
 use Rattle.typedescriptor.specs.Singleton.{Initialization, needing, singletonInit, singletonPointer}
-use Rattle.typedescriptor.specs.Items.{slotBlock}
+use Rattle.typedescriptor.specs.Items.{slotBlock, slotPointer, pointerOfBlock}
 use Rattle.typedescriptor.specs.PathLaws as Slot
+use Rattle.typedescriptor.specs.Offsets.{fieldOffsets, Offsets, offsetsPlace, staticPlace, metadataAt, startOf}
+use Rattle.typedescriptor.specs.OffsetsLaws as Vector
+use Rattle.typedescriptor.specs.OffsetsLaws.{offsetList}
 use Rattle.vtable.specs.Entries.{Entry, entry, start}
 use Rattle.vtable.specs.ListLaws.{listed as listedEntries, listed-all}
 use Rattle.field.specs.declared.iter.FieldDescriptor.{FieldDescriptor}
@@ -38,7 +41,7 @@ use Rattle.parent.specs.Chain.{contextsMost, headerAt, contextAt, chain}
 use Rattle.parent.specs.ChainLaws.{chain-at, stepped as steppedContexts, stepped-all}
 use Rattle.parent.specs.PathLaws.{chain-length}
 use Rattle.items.specs.Keys.{Sections, EntryKind, Key, Answer, slotOf}
-use Rattle.items.specs.Items.{mapReads, rowOfSlot, bodyOfSlot, blockOfSlot, initOfSlot, pointerOfSlot, tableKind, entryLayout, Table, tableOf, entryOfSlot, contextOfSlot, item}
+use Rattle.items.specs.Items.{mapReads, rowOfSlot, bodyOfSlot, blockOfSlot, initOfSlot, pointerOfSlot, offsetsOfSlot, tableKind, entryLayout, Table, tableOf, entryOfSlot, contextOfSlot, item}
 use Rattle.items.specs.ProgramLaws.{run-map, un-map, un-map-none, map-none, bind-none}
 
 -- a key with its answer
@@ -98,6 +101,7 @@ module _ (image segments : List ℕ) (s : Sections) where
   no-row-no-item (Key.entry i t k) _ _ e = map-none image segments _ (bind-none image segments _ (Slot.no-row-no-block image segments _ _ i (e i refl) (tableKind t)) _) _
   no-row-no-item (Key.initialization i) _ _ e = map-none image segments _ (Slot.no-block-no-init image segments _ _ i (Slot.no-row-no-block image segments _ _ i (e i refl) _)) _
   no-row-no-item (Key.pointer i) _ _ e = map-none image segments _ (Slot.no-block-no-pointer image segments _ _ i (Slot.no-row-no-block image segments _ _ i (e i refl) _)) _
+  no-row-no-item (Key.offsets i m) _ _ e = map-none image segments _ (Vector.no-body-no-offsets image segments _ _ i m (Slot.no-row-no-body image segments _ _ i (e i refl))) _
   no-row-no-item (Key.context i k) _ _ e = map-none image segments _ (go (ltb k contextsMost)) _
     where
       go : (b : Bool) → run image segments (cond b (bind (rowOfSlot s i) (λ r. headerAt k (r .parent))) nothing) ≡ none
@@ -239,6 +243,19 @@ module _ (image segments : List ℕ) (s : Sections) (i : ℕ) (r : TypeRow) (is-
     unfolding blocks
     blocks-listed n h = rw (stepped-blocks image segments (trailing (r .flags) b) (trailingStart (r .address) b) n h) (blocks-items kinds)
 
+    -- the metadata address that the descriptor's own singleton pointer gives: its offsets are those for that address
+    pub static-listed : (m : ℕ) → run image segments (item s (Key.pointer i)) ≡ some (Answer.pointer m)
+        → staticPlace image segments (r .address) (r .flags) ≡ offsetsPlace image segments (some b) m
+    unfolding staticPlace metadataAt item slotPointer
+    static-listed m is-pointer =
+        let its : run image segments (body (r .address) (r .flags)) ≡ some b = sym (Slot.slot-body image segments (s .types) (s .typesStart) i r the-row) ∙ the-body in
+        let there : run image segments (pointerOfSlot s i) ≡ some m = un-map image segments Answer.pointer (pointerOfSlot s i) m (λ a e. cc) is-pointer in
+        let metadata : run image segments (metadataAt (startOf (r .address) (r .flags) b)) ≡ some m
+        = run-bind image segments pointerOfBlock (block (trailing (r .flags) b) (trailingStart (r .address) b) BlockKind.SingletonMetadataPointer)
+        ∙ rw (sym (Slot.slot-block image segments (s .types) (s .typesStart) i r the-row b the-body BlockKind.SingletonMetadataPointer))
+        (sym (run-bind image segments pointerOfBlock (blockOfSlot s i BlockKind.SingletonMetadataPointer)) ∙ there) in
+        rw (its, metadata)
+
   -- ---- contexts
 
   past-end : (l : List Context) (k : ℕ) → length l ≤ k → getElem? l k ≡ none
@@ -267,6 +284,28 @@ module _ (image segments : List ℕ) (s : Sections) (i : ℕ) (r : TypeRow) (is-
       go (no l) =
           rw (past-end (chain image segments contextsMost (r .parent)) k (omega (arith, chain-length image segments contextsMost (r .parent))))
           (simp (le-ltb k contextsMost (omega arith)))
+
+-- ---- what hangs on a body
+
+module _ (image segments : List ℕ) (s : Sections) (i m : ℕ) where
+  pub no-offsets : run image segments (item s (Key.body i)) ≡ none → run image segments (item s (Key.offsets i m)) ≡ none
+  unfolding item
+  no-offsets e = map-none image segments _ (Vector.no-body-no-offsets image segments _ _ i m (un-map-none image segments Answer.body (bodyOfSlot s i) e)) _
+
+  module _ (b : Body) (is-body : run image segments (item s (Key.body i)) ≡ some (Answer.body b)) where
+    its-offsets : run image segments (item s (Key.offsets i m)) ≡ Option·map Answer.offsets (run image segments (fieldOffsets b m))
+    unfolding item
+    its-offsets =
+        run-map image segments Answer.offsets (offsetsOfSlot s i m)
+        ∙ ap (Option·map Answer.offsets) (Vector.slot-offsets image segments (s .types) (s .typesStart) i m b (un-map image segments Answer.body (bodyOfSlot s i) b (λ a e. cc) is-body))
+
+    -- the offsets for a metadata address: the numbers of the vector whose place and length are told (`offset-nth` has them by their number)
+    pub offsets-listed : run image segments (item s (Key.offsets i m)) ≡ Option·map (λ v. Answer.offsets (offsetList image v)) (offsetsPlace image segments (some b) m)
+    offsets-listed = its-offsets ∙ rw (Vector.offsets-run image segments b m) (go (offsetsPlace image segments (some b) m))
+      where
+        go : (x : Option Offsets) → Option·map Answer.offsets (Option·map (offsetList image) x) ≡ Option·map (λ v. Answer.offsets (offsetList image v)) x
+        go none = refl
+        go (some v) = refl
 
 -- ---- what hangs on a block
 

@@ -1,6 +1,6 @@
 -- The paths of the items are those of docs/SPECIFICATION.md, "Items, paths and the cut": an equation for each kind of item, each with the path of the item that
 -- it hangs on.
-use Prim.Native.Nat.{ℕ, suc, _+_, _<_}
+use Prim.Native.Nat.{ℕ, suc, _+_, _*_, _<_}
 use native.Mathlib.Decide.{decLt}
 use native.Mathlib.Omega.{arith}
 use mathlib.Core.Path.{_≡_, refl, sym, ap, _∙_}
@@ -12,7 +12,7 @@ use borrow.Author.Tests.{lt-ltb, le-ltb}
 use Rattle.util.specs.LittleEndian.{signedIn}
 use Rattle.util.specs.Pointer.{relativeAddress}
 use Rattle.util.specs.Segments.{segmentsOf, fileOffset}
-use Rattle.runtime.specs.Reads.{Reads, done, nothing, run, Range, bytesRange, withNul, path, bind}
+use Rattle.runtime.specs.Reads.{Reads, done, nothing, bytes, run, Range, bytesRange, withNul, path, bind}
 use Rattle.runtime.specs.ReadsLaws.{run-bind, path-bind}
 use Rattle.runtime.specs.PathLaws.{bytes-read}
 use Rattle.classtrailers.specs.Blocks.{rowNumber}
@@ -21,10 +21,12 @@ use Rattle.classtrailers.specs.declared.block.Block.{Block}
 use Rattle.classtrailers.specs.declared.block.BlockKind.{BlockKind}
 use Rattle.typedescriptor.specs.Row.{TypeRow, rowName, descriptor}
 use Rattle.typedescriptor.specs.Slots.{slotAddress, slotRow}
-use Rattle.typedescriptor.specs.Body.{Body, bodySize, slotBody, trailing, trailingStart}
+use Rattle.typedescriptor.specs.Body.{Body, ofStruct, bodySize, slotBody, trailing, trailingStart}
 use Rattle.typedescriptor.specs.Singleton.{Initialization, needing, targets, singletonInit, singletonPointer}
 use Rattle.typedescriptor.specs.Items.{slotBlock, slotInit, slotPointer}
 use Rattle.typedescriptor.specs.PathLaws as Slot
+use Rattle.typedescriptor.specs.Offsets.{u32s, fieldOffsets}
+use Rattle.typedescriptor.specs.OffsetsLaws as Vector
 use Rattle.vtable.specs.Entries.{Entry, entry}
 use Rattle.vtable.specs.PathLaws.{offsetIn, ranges, entry-path as own-entries}
 use Rattle.field.specs.declared.iter.FieldDescriptor.{FieldDescriptor}
@@ -35,7 +37,7 @@ use Rattle.parent.specs.Context.{Header}
 use Rattle.parent.specs.Chain.{contextsMost, headerAt, chain}
 use Rattle.parent.specs.PathLaws.{headerRanges, context-path as own-headers-of}
 use Rattle.items.specs.Keys.{Sections, EntryKind, Key, Answer}
-use Rattle.items.specs.Items.{mapReads, tableKind, entryLayout, Table, tableOf, entryOfSlot, contextOfSlot, item, rowOfSlot, bodyOfSlot, blockOfSlot, initOfSlot, pointerOfSlot}
+use Rattle.items.specs.Items.{mapReads, tableKind, entryLayout, Table, tableOf, entryOfSlot, contextOfSlot, item, rowOfSlot, bodyOfSlot, blockOfSlot, initOfSlot, pointerOfSlot, offsetsOfSlot}
 use Rattle.items.specs.ProgramLaws.{path-map, un-map}
 
 -- `n` bytes at an address
@@ -129,6 +131,34 @@ module _ (image segments : List ℕ) where
               let f : _≡_ {A = Option Header} none (some h) = simp (le-ltb k contextsMost (omega arith)) at e in
               let z : _≡_ {A = ℕ} 0 1 = cc in
               absurd (omega arith)
+
+    -- ---- what hangs on a body
+
+    -- an offset list for a metadata address: the body's path, and the vector's bytes
+    pub offsets-path : (f v m : ℕ) (l : List ℕ) → run image segments (item s (Key.body i)) ≡ some (Answer.body (ofStruct f v))
+        → run image segments (item s (Key.offsets i m)) ≡ some (Answer.offsets l)
+        → path image segments (item s (Key.offsets i m)) ≡ path image segments (item s (Key.body i)) ++ (bytesAt segments (m + 8 * v) (4 * f) ∷ [])
+    unfolding item fieldOffsets
+    offsets-path f v m l is-body is-offsets =
+        let b : run image segments (bodyOfSlot s i) ≡ some (ofStruct f v) = un-map image segments Answer.body (bodyOfSlot s i) (ofStruct f v) (λ a e. cc) is-body in
+        let there : run image segments (offsetsOfSlot s i m) ≡ some l = un-map image segments Answer.offsets (offsetsOfSlot s i m) l (λ a e. cc) is-offsets in
+        let o = Vector.offsets-body image segments (s .types) (s .typesStart) i m l there in
+        let t : some (ofStruct (o .fields) (o .word)) ≡ some (ofStruct f v) = sym (o .there) ∙ b in
+        let ef : o .fields ≡ f = cc in
+        let ev : o .word ≡ v = cc in
+        let wants : Vector.Wants f v m
+        = record {
+          count = omega (arith, o .wants .count);
+          word = omega (arith, o .wants .word);
+          metadata = o .wants .metadata;
+          below = omega (arith, o .wants .below);
+        } in
+        let its : run image segments (bytes (m + 8 * v) (4 * f) (λ h. done (u32s f h))) ≡ some l
+        = rw (Vector.vector-at f v m wants) at (sym (Vector.slot-offsets image segments (s .types) (s .typesStart) i m (ofStruct f v) b) ∙ there) in
+        let w = bytes-read image segments (m + 8 * v) l (4 * f) (λ h. done (u32s f h)) its in
+        path-map image segments Answer.offsets (offsetsOfSlot s i m)
+        ∙ Vector.offsets-path image segments (s .types) (s .typesStart) i m l f v (offsetIn segments (m + 8 * v)) b there (placed segments (m + 8 * v) (w .offset) (w .at))
+        ∙ ap (λ (p : List Range). p ++ (bytesAt segments (m + 8 * v) (4 * f) ∷ [])) (sym (path-map image segments Answer.body (bodyOfSlot s i)))
 
     -- ---- what hangs on a block
 

@@ -19,13 +19,14 @@ use Rattle.typedescriptor.specs.Slots.{slotRow}
 use Rattle.typedescriptor.specs.Body.{Body, bodyBytes, bodyOfKind, body, slotBody, trailing, trailingStart}
 use Rattle.typedescriptor.specs.Singleton.{Initialization, initialization, slotTarget, needing, targets, singletonInit, singletonPointer}
 use Rattle.typedescriptor.specs.Items.{slotBlock, slotInit, slotPointer, initOfBlock, pointerOfBlock}
+use Rattle.typedescriptor.specs.Offsets.{vector, u32s, fieldOffsets, slotOffsets}
 use Rattle.vtable.specs.Entries.{Layout, entrySize, entryOf, entryAddress, entryAt, upTo, entry}
 use Rattle.field.specs.Fields.{descriptorFrom, given, descriptorAt}
 use Rattle.field.specs.Records.{recordLayout, recordsBase, recordAt as fieldRecordAt}
 use Rattle.parent.specs.Context.{Header, headed, header}
 use Rattle.parent.specs.Chain.{contextsMost, headerAt}
 use Rattle.items.specs.Keys.{Sections, EntryKind, Key, Answer, slotOf}
-use Rattle.items.specs.Items.{mapReads, tableKind, entryLayout, Table, tableOf, entryOfSlot, contextOfSlot, item, rowOfSlot, bodyOfSlot, blockOfSlot, initOfSlot, pointerOfSlot}
+use Rattle.items.specs.Items.{mapReads, tableKind, entryLayout, Table, tableOf, entryOfSlot, contextOfSlot, item, rowOfSlot, bodyOfSlot, blockOfSlot, initOfSlot, pointerOfSlot, offsetsOfSlot}
 
 -- ---- an answer under another name
 
@@ -242,6 +243,10 @@ module _ (image segments : List ℕ) (P : Range → Type 0) (onBytes : (o n : �
     on-slot-pointer =
         on-bind (on-slot-block BlockKind.SingletonMetadataPointer) on-pointer
 
+    pub on-slot-offsets : (m : ℕ) → On (offsetsOfSlot s i m)
+    unfolding slotOffsets fieldOffsets
+    on-slot-offsets m = on-bind on-slot-body (λ b. on-needing (vector b m) (λ v. on-bytes (v .address) (4 * v .count) (λ h. on-done (u32s (v .count) h))))
+
     pub on-slot-context : (k : ℕ) → On (contextOfSlot s i k)
     unfolding contextOfSlot
     on-slot-context k =
@@ -271,6 +276,7 @@ module _ (image segments : List ℕ) (P : Range → Type 0) (onBytes : (o n : �
   on-item s (Key.entry i e k) row = rw path-map (on-slot-entry s i (row i refl) e k .all)
   on-item s (Key.initialization i) row = rw path-map (on-slot-init s i (row i refl) .all)
   on-item s (Key.pointer i) row = rw path-map (on-slot-pointer s i (row i refl) .all)
+  on-item s (Key.offsets i m) row = rw path-map (on-slot-offsets s i (row i refl) m .all)
   on-item s (Key.context i k) row = rw path-map (on-slot-context s i (row i refl) k .all)
   on-item s (Key.fieldDescriptor j) row = rw path-map (on-descriptor (s .fields) (s .fieldsStart) j .all)
   on-item s (Key.fieldRecord j k) row = rw path-map (on-record (s .fields) (s .fieldsStart) j k .all)
