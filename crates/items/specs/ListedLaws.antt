@@ -29,7 +29,7 @@ use Rattle.typedescriptor.specs.PathLaws as Slot
 use Rattle.typedescriptor.specs.Offsets.{fieldOffsets, Offsets, offsetsPlace, staticPlace, metadataAt, startOf}
 use Rattle.typedescriptor.specs.OffsetsLaws as Vector
 use Rattle.typedescriptor.specs.OffsetsLaws.{offsetList}
-use Rattle.vtable.specs.Entries.{Entry, entry, start}
+use Rattle.vtable.specs.Entries.{Layout, method, override, defaultOverride, prespecialization, Entry, entry, start}
 use Rattle.vtable.specs.ListLaws.{listed as listedEntries, listed-all}
 use Rattle.field.specs.declared.iter.FieldDescriptor.{FieldDescriptor}
 use Rattle.field.specs.Fields.{descriptorAt}
@@ -380,6 +380,28 @@ module _ (image segments : List ℕ) (s : Sections) (i : ℕ) where
           = run-bind image segments p (blockOfSlot s i (tableKind e)) ∙ rw (entries-block, is-table) in
           ap (Option·map Answer.entry) (listed-all image segments (entryLayout e) (t .base) (t .count) n k h ∙ sym its)
           ∙ sym (run-map image segments Answer.entry (entryOfSlot s i e k))
+
+  -- by the four kinds: the calls that step, and what they are given
+  module _ (count base n k : ℕ) (h : count ≤ n) where
+    -- the entries that a walk from a table's start gives
+    abbrev steps : Layout → Option Answer
+    steps layout = Option·map Answer.entry (getElem? (listedEntries image segments layout n (start base count)) k)
+
+    pub methods-listed : (offset : ℕ) → run image segments (item s (Key.block i BlockKind.VTable)) ≡ some (Answer.block (Block.VTable offset count base))
+        → steps method ≡ run image segments (item s (Key.entry i EntryKind.methods k))
+    methods-listed offset e = entries-listed EntryKind.methods (Block.VTable offset count base) e (record { count = count; base = base }) refl n k h
+
+    pub overrides-listed : run image segments (item s (Key.block i BlockKind.OverrideTable)) ≡ some (Answer.block (Block.OverrideTable count base))
+        → steps override ≡ run image segments (item s (Key.entry i EntryKind.overrides k))
+    overrides-listed e = entries-listed EntryKind.overrides (Block.OverrideTable count base) e (record { count = count; base = base }) refl n k h
+
+    pub default-overrides-listed : run image segments (item s (Key.block i BlockKind.DefaultOverrideTable)) ≡ some (Answer.block (Block.DefaultOverrideTable count base))
+        → steps defaultOverride ≡ run image segments (item s (Key.entry i EntryKind.defaultOverrides k))
+    default-overrides-listed e = entries-listed EntryKind.defaultOverrides (Block.DefaultOverrideTable count base) e (record { count = count; base = base }) refl n k h
+
+    pub prespecializations-listed : run image segments (item s (Key.block i BlockKind.Prespecializations)) ≡ some (Answer.block (Block.Prespecializations count base))
+        → steps prespecialization ≡ run image segments (item s (Key.entry i EntryKind.prespecializations k))
+    prespecializations-listed e = entries-listed EntryKind.prespecializations (Block.Prespecializations count base) e (record { count = count; base = base }) refl n k h
 
   -- the records of a singleton, each by its block's address
   pub no-init : run image segments (item s (Key.block i BlockKind.SingletonMetadataInit)) ≡ none → run image segments (item s (Key.initialization i)) ≡ none

@@ -48,6 +48,30 @@ bytesAt segments a n = bytesRange (offsetIn segments a) n
 placed : (segments : List ℕ) (a o : ℕ) → fileOffset (segmentsOf segments) a ≡ some o → fileOffset (segmentsOf segments) a ≡ some (offsetIn segments a)
 placed segments a o e = e ∙ ap some (sym (ap (λ (x : Option ℕ). Option·getD x 0) e))
 
+-- a context's number is below 256
+context-numbered : (image segments : List ℕ) (s : Sections) (i k : ℕ) (h : Header) → run image segments (contextOfSlot s i k) ≡ some h
+    → contextOfSlot s i k ≡ bind (rowOfSlot s i) (λ r. headerAt k (r .parent))
+unfolding contextOfSlot run
+context-numbered image segments s i k h e = go (decLt k contextsMost)
+  where
+    go : Dec (k < contextsMost) → contextOfSlot s i k ≡ bind (rowOfSlot s i) (λ r. headerAt k (r .parent))
+    go (yes l) = simp (lt-ltb k contextsMost l)
+    go (no l) =
+        let f : _≡_ {A = Option Header} none (some h) = simp (le-ltb k contextsMost (omega arith)) at e in
+        let z : _≡_ {A = ℕ} 0 1 = cc in
+        absurd (omega arith)
+
+module _ (image segments : List ℕ) (s : Sections) (i : ℕ) (r : TypeRow) (er : run image segments (rowOfSlot s i) ≡ some r) (k : ℕ) (h : Header) where
+  context-run : run image segments (bind (rowOfSlot s i) (λ r. headerAt k (r .parent))) ≡ some h → run image segments (headerAt k (r .parent)) ≡ some h
+  context-run e = rw er at (sym (run-bind image segments (λ r. headerAt k (r .parent)) (rowOfSlot s i)) ∙ e)
+
+  context-reads : run image segments (contextOfSlot s i k) ≡ some h
+      → path image segments (contextOfSlot s i k) ≡ path image segments (rowOfSlot s i) ++ headerRanges segments (chain image segments (suc k) (r .parent))
+  context-reads e =
+      ap (path image segments) (context-numbered image segments s i k h e)
+      ∙ path-bind image segments (λ r. headerAt k (r .parent)) (rowOfSlot s i)
+      ∙ rw (er, own-headers-of image segments k (r .parent) h (context-run (rw (context-numbered image segments s i k h e) at e)))
+
 module _ (image segments : List ℕ) where
   module _ (s : Sections) (i : ℕ) where
     -- the address that the slot refers to
@@ -115,22 +139,11 @@ module _ (image segments : List ℕ) where
       -- the row's path, and 8 bytes of each context up to it
       pub context-path : (k : ℕ) (h : Header) → run image segments (item s (Key.context i k)) ≡ some (Answer.context h)
           → path image segments (item s (Key.context i k)) ≡ path image segments (item s (Key.row i)) ++ headerRanges segments (chain image segments (suc k) (r .parent))
-      unfolding item contextOfSlot run
+      unfolding item
       context-path k h is-context =
-          path-map image segments Answer.context (contextOfSlot s i k) ∙ go (decLt k contextsMost) (un-map image segments Answer.context (contextOfSlot s i k) h (λ a e. cc) is-context)
-        where
-          go : Dec (k < contextsMost) → run image segments (contextOfSlot s i k) ≡ some h
-              → path image segments (contextOfSlot s i k) ≡ path image segments (mapReads Answer.row (rowOfSlot s i)) ++ headerRanges segments (chain image segments (suc k) (r .parent))
-          go (yes l) e =
-              let f : run image segments (bind (rowOfSlot s i) (λ r. headerAt k (r .parent))) ≡ some h = simp (lt-ltb k contextsMost l) at e in
-              let g : run image segments (headerAt k (r .parent)) ≡ some h = rw the-row at (sym (run-bind image segments (λ r. headerAt k (r .parent)) (rowOfSlot s i)) ∙ f) in
-              simp (lt-ltb k contextsMost l)
-              (path-bind image segments (λ r. headerAt k (r .parent)) (rowOfSlot s i)
-              ∙ rw (the-row, path-map image segments Answer.row (rowOfSlot s i), own-headers-of image segments k (r .parent) h g))
-          go (no l) e =
-              let f : _≡_ {A = Option Header} none (some h) = simp (le-ltb k contextsMost (omega arith)) at e in
-              let z : _≡_ {A = ℕ} 0 1 = cc in
-              absurd (omega arith)
+          path-map image segments Answer.context (contextOfSlot s i k)
+          ∙ context-reads image segments s i r the-row k h (un-map image segments Answer.context (contextOfSlot s i k) h (λ a e. cc) is-context)
+          ∙ ap (λ (l : List Range). l ++ headerRanges segments (chain image segments (suc k) (r .parent))) (sym (path-map image segments Answer.row (rowOfSlot s i)))
 
     -- ---- what hangs on a body
 
