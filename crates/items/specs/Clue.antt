@@ -3,7 +3,7 @@ use Prim.Native.Nat.{ℕ, zero, suc, _+_, _^_, _≤_, _<_}
 use native.Mathlib.Omega.{arith}
 use mathlib.Core.Path.{_≡_, refl}
 use mathlib.Core.Logic.{_⊎_, inl, inr, ⊎-elim}
-use mathlib.Core.List.{List, [], _∷_}
+use mathlib.Core.List.{List, [], _∷_, _++_}
 use mathlib.Core.Bool.{true, false}
 use mathlib.Core.Option.{Option, some, none}
 use lib.ListN.{take}
@@ -19,11 +19,17 @@ use Rattle.typedescriptor.specs.Slots.{slotRow}
 use Rattle.items.specs.Keys.{Sections, Key, Answer}
 use Rattle.items.specs.Items.{mapReads, item}
 
--- the u32 17, 0, 20, 0, 0, 0, 0, then `Clue` and a NUL
+-- the u32 17, 0, 20, 0, 0, 0, 0
+abbrev head : List ℕ
+head = 17 ∷ 0 ∷ 0 ∷ 0 ∷ 0 ∷ 0 ∷ 0 ∷ 0 ∷ 20 ∷ 0 ∷ 0 ∷ 0 ∷ 0 ∷ 0 ∷ 0 ∷ 0 ∷ 0 ∷ 0 ∷ 0 ∷ 0 ∷ 0 ∷ 0 ∷ 0 ∷ 0 ∷ 0 ∷ 0 ∷ 0 ∷ 0 ∷ []
+
+-- then `Clue` and a NUL
 abbrev pub image : List ℕ
-image =
-    17 ∷ 0 ∷ 0 ∷ 0 ∷ 0 ∷ 0 ∷ 0 ∷ 0 ∷ 20 ∷ 0 ∷ 0 ∷ 0 ∷ 0 ∷ 0 ∷ 0 ∷ 0 ∷ 0 ∷ 0 ∷ 0 ∷ 0 ∷ 0 ∷ 0 ∷ 0 ∷ 0 ∷ 0 ∷ 0 ∷ 0 ∷ 0 ∷
-    67 ∷ 108 ∷ 117 ∷ 101 ∷ 0 ∷ []
+image = head ++ (67 ∷ 108 ∷ 117 ∷ 101 ∷ 0 ∷ [])
+
+-- a name that starts well: 43 C0 80 is no text
+abbrev pub broken : List ℕ
+broken = head ++ (67 ∷ 0xc0 ∷ 0x80 ∷ 0 ∷ [])
 
 abbrev pub segments : List ℕ
 segments = 0x1000 ∷ 33 ∷ 0 ∷ 33 ∷ []
@@ -50,6 +56,9 @@ pub record Worked : Type 0 where
   pub cut-28 : told (take 28 image) ≡ named [] 0
   pub cut-30 : told (take 30 image) ≡ named (67 ∷ 108 ∷ []) 2
   pub cut-32 : told (take 32 image) ≡ named (67 ∷ 108 ∷ 117 ∷ 101 ∷ []) 4
+  -- a name that is not well-formed makes no row, and a piece of it may: texts that are looked up and not found count too
+  pub ill-formed : told broken ≡ none
+  pub ill-formed-cut : told (take 29 broken) ≡ named (67 ∷ []) 1
   -- the premise leaves out exactly the cuts from 28 to 32
   pub clear-below : (c : ℕ) → c < 28 → All (Clear c) (path image segments (item sections (Key.row 0)))
   pub clear-above : (c : ℕ) → 33 ≤ c → All (Clear c) (path image segments (item sections (Key.row 0)))
@@ -65,6 +74,8 @@ worked =
       cut-28 = refl;
       cut-30 = refl;
       cut-32 = refl;
+      ill-formed = refl;
+      ill-formed-cut = refl;
       clear-below = λ c h. ((λ t. absurd (let z : _≡_ {A = ℕ} 0 1 = cc in omega arith)), ((λ t. inl (omega arith)), tt));
       clear-above = λ c h. ((λ t. absurd (let z : _≡_ {A = ℕ} 0 1 = cc in omega arith)), ((λ t. inr (omega arith)), tt));
       not-clear = λ c h g w. ⊎-elim (λ l. omega arith) (λ l. omega arith) (w .1 .0 refl);

@@ -21,7 +21,8 @@ use Rattle.runtime.specs.PathLaws.{bytes-clear, path-text-zero}
 use Rattle.runtime.specs.FieldName.{NamePlace, inImage, inStrings, sectionText, orElse, fieldName}
 use Rattle.context.specs.Context.{contextKind, hasName}
 use Rattle.vtable.specs.Entries.{Entry}
-use Rattle.field.specs.Records.{recordAt}
+use Rattle.field.specs.declared.record.FieldRecord.{FieldRecord}
+use Rattle.field.specs.Records.{recordAt, ofRecord}
 use Rattle.parent.specs.Context.{Name, Header, slotName, nameAt, name}
 use Rattle.items.specs.Keys.{Sections}
 use Rattle.items.specs.Items.{contextOfSlot}
@@ -125,6 +126,10 @@ module _ (image segments : List ℕ) (c : ℕ) where
   context-clear s i k h e clear v f = clear v (run-bind image segments contextNameAt (contextOfSlot s i k) ∙ rw e f)
 
 -- ---- fields' names
+
+-- the address that a record's call tells
+pub record-name : (r : FieldRecord) → recordName (ofRecord r) ≡ r .«field_name_va»
+record-name r = refl
 
 -- the premise on the listing's texts has each field record's name
 pub field-clear : (image segments : List ℕ) (c : ℕ) (s : Sections) (j k : ℕ) (e : Entry) → run image segments (recordAt (s .fields) (s .fieldsStart) j k) ≡ some e
