@@ -1,20 +1,20 @@
 -- The image of docs/SPECIFICATION.md, "Items, paths and the cut", worked through: 33 bytes, one struct, its name at offset 28.
-use Prim.Native.Nat.{ℕ, zero, suc, _+_, _^_, _≤_, _<_}
+use Prim.Native.Nat.{ℕ, _≤_, _<_}
 use native.Mathlib.Omega.{arith}
 use mathlib.Core.Path.{_≡_, refl}
-use mathlib.Core.Logic.{_⊎_, inl, inr, ⊎-elim}
+use mathlib.Core.Logic.{inl, inr, ⊎-elim}
 use mathlib.Core.List.{List, [], _∷_, _++_}
 use mathlib.Core.Bool.{true, false}
 use mathlib.Core.Option.{Option, some, none}
 use lib.ListN.{take}
 use Rattle.utf8.specs.Table.{table}
-use Rattle.utf8.specs.Text.{following, goesOn, wellFormed, untilNul, textLength}
+use Rattle.utf8.specs.Text.{following, goesOn, untilNul, textLength}
 use Rattle.util.specs.LittleEndian.{littleEndian, bytesAt, littleAt, twosComplement, signedAt, unsignedIn, signedIn}
 use Rattle.util.specs.Pointer.{relativePointer, relativeAddress}
 use Rattle.util.specs.Segments.{segmentsOf, fileOffset, decides, inFile}
 use Rattle.util.specs.Cstr.{place, textAt}
-use Rattle.runtime.specs.Reads.{within, bytesPlace, textOffset, run, Range, extent, path, bind, All, Clear}
-use Rattle.typedescriptor.specs.Row.{TypeRow, rowName, descriptor}
+use Rattle.runtime.specs.Reads.{within, bytesPlace, textOffset, run, extent, path, bind, All, Clear}
+use Rattle.typedescriptor.specs.Row.{rowName, descriptor}
 use Rattle.typedescriptor.specs.Slots.{slotRow}
 use Rattle.items.specs.Keys.{Sections, Key, Answer}
 use Rattle.items.specs.Items.{mapReads, item}

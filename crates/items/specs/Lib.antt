@@ -4,6 +4,7 @@ pub mod Items
 pub mod Keys
 pub mod ListedLaws
 pub mod PathsLaws
+pub mod PremiseLaws
 pub mod ProgramLaws
 pub mod Texts
 pub mod TextsLaws

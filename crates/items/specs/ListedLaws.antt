@@ -11,7 +11,7 @@ use mathlib.Core.Option.{Option, some, none, Option·map}
 use lib.ListN.{length, take, drop, getElem?}
 use lib.Dec.{leb, ltb}
 use borrow.Author.Tests.{lt-ltb, le-ltb}
-use Rattle.runtime.specs.Reads.{Reads, done, nothing, andThen, bytesPlace, run, bind}
+use Rattle.runtime.specs.Reads.{Reads, done, nothing, run, bind}
 use Rattle.runtime.specs.ReadsLaws.{run-bind}
 use Rattle.runtime.specs.PathLaws.{bytes-read}
 use Rattle.classtrailers.specs.Blocks.{Trailing, Row, table, rowAt, readHeader, recordAt, reached, blockIn, rowNumber, block, withBlock, blocksOf, blocks}
@@ -19,11 +19,11 @@ use Rattle.classtrailers.specs.BlocksLaws.{stepped as steppedBlocks, stepped-bl
 use Rattle.classtrailers.specs.declared.block.Block.{Block}
 use Rattle.classtrailers.specs.declared.block.BlockKind.{BlockKind}
 use Rattle.typedescriptor.specs.Row.{TypeRow}
-use Rattle.typedescriptor.specs.Slots.{slots, slotRow, Found, found, rowsFrom, rows}
+use Rattle.typedescriptor.specs.Slots.{slots, Found, found, rowsFrom, rows}
 use Rattle.typedescriptor.specs.RowLaws.{past-slots}
 use Rattle.typedescriptor.specs.SlotsLaws.{stepped as steppedRows, stepped-rows}
-use Rattle.typedescriptor.specs.Body.{Body, body, slotBody, trailing, trailingStart}
-use Rattle.typedescriptor.specs.Singleton.{Initialization, needing, singletonInit, singletonPointer}
+use Rattle.typedescriptor.specs.Body.{Body, body, trailing, trailingStart}
+use Rattle.typedescriptor.specs.Singleton.{needing, singletonInit, singletonPointer}
 use Rattle.typedescriptor.specs.Items.{slotBlock, slotPointer, pointerOfBlock}
 use Rattle.typedescriptor.specs.PathLaws as Slot
 use Rattle.typedescriptor.specs.Offsets.{fieldOffsets, Offsets, offsetsPlace, staticPlace, metadataAt, startOf}
@@ -41,7 +41,7 @@ use Rattle.parent.specs.Chain.{contextsMost, headerAt, contextAt, chain}
 use Rattle.parent.specs.ChainLaws.{chain-at, stepped as steppedContexts, stepped-all}
 use Rattle.parent.specs.PathLaws.{chain-length}
 use Rattle.items.specs.Keys.{Sections, EntryKind, Key, Answer, slotOf}
-use Rattle.items.specs.Items.{mapReads, rowOfSlot, bodyOfSlot, blockOfSlot, initOfSlot, pointerOfSlot, offsetsOfSlot, tableKind, entryLayout, Table, tableOf, entryOfSlot, contextOfSlot, item}
+use Rattle.items.specs.Items.{rowOfSlot, bodyOfSlot, blockOfSlot, initOfSlot, pointerOfSlot, offsetsOfSlot, tableKind, entryLayout, Table, tableOf, entryOfSlot, contextOfSlot, item}
 use Rattle.items.specs.ProgramLaws.{run-map, un-map, un-map-none, map-none, bind-none}
 
 -- a key with its answer

@@ -3,16 +3,14 @@
 use Prim.Native.Nat.{ℕ, suc, _+_, _*_, _<_}
 use native.Mathlib.Decide.{decLt}
 use native.Mathlib.Omega.{arith}
-use mathlib.Core.Path.{_≡_, refl, sym, ap, _∙_}
+use mathlib.Core.Path.{_≡_, sym, ap, _∙_}
 use mathlib.Core.List.{List, [], _∷_, _++_}
-use mathlib.Core.Bool.{Bool, true, false, cond}
-use mathlib.Core.Option.{Option, some, none, Option·map, Option·getD}
-use lib.Dec.{ltb}
+use mathlib.Core.Option.{Option, some, none, Option·getD}
 use borrow.Author.Tests.{lt-ltb, le-ltb}
 use Rattle.util.specs.LittleEndian.{signedIn}
 use Rattle.util.specs.Pointer.{relativeAddress}
 use Rattle.util.specs.Segments.{segmentsOf, fileOffset}
-use Rattle.runtime.specs.Reads.{Reads, done, nothing, bytes, run, Range, bytesRange, withNul, path, bind}
+use Rattle.runtime.specs.Reads.{Reads, done, bytes, run, Range, bytesRange, withNul, path, bind}
 use Rattle.runtime.specs.ReadsLaws.{run-bind, path-bind}
 use Rattle.runtime.specs.PathLaws.{bytes-read}
 use Rattle.classtrailers.specs.Blocks.{rowNumber}
@@ -20,10 +18,9 @@ use Rattle.classtrailers.specs.PathLaws.{headers, block-path as own-headers}
 use Rattle.classtrailers.specs.declared.block.Block.{Block}
 use Rattle.classtrailers.specs.declared.block.BlockKind.{BlockKind}
 use Rattle.typedescriptor.specs.Row.{TypeRow, rowName, descriptor}
-use Rattle.typedescriptor.specs.Slots.{slotAddress, slotRow}
-use Rattle.typedescriptor.specs.Body.{Body, ofStruct, bodySize, slotBody, trailing, trailingStart}
+use Rattle.typedescriptor.specs.Slots.{slotAddress}
+use Rattle.typedescriptor.specs.Body.{Body, ofStruct, bodySize, trailing, trailingStart}
 use Rattle.typedescriptor.specs.Singleton.{Initialization, needing, targets, singletonInit, singletonPointer}
-use Rattle.typedescriptor.specs.Items.{slotBlock, slotInit, slotPointer}
 use Rattle.typedescriptor.specs.PathLaws as Slot
 use Rattle.typedescriptor.specs.Offsets.{u32s, fieldOffsets}
 use Rattle.typedescriptor.specs.OffsetsLaws as Vector
@@ -37,7 +34,7 @@ use Rattle.parent.specs.Context.{Header}
 use Rattle.parent.specs.Chain.{contextsMost, headerAt, chain}
 use Rattle.parent.specs.PathLaws.{headerRanges, context-path as own-headers-of}
 use Rattle.items.specs.Keys.{Sections, EntryKind, Key, Answer}
-use Rattle.items.specs.Items.{mapReads, tableKind, entryLayout, Table, tableOf, entryOfSlot, contextOfSlot, item, rowOfSlot, bodyOfSlot, blockOfSlot, initOfSlot, pointerOfSlot, offsetsOfSlot}
+use Rattle.items.specs.Items.{tableKind, entryLayout, Table, tableOf, entryOfSlot, contextOfSlot, item, rowOfSlot, bodyOfSlot, blockOfSlot, initOfSlot, pointerOfSlot, offsetsOfSlot}
 use Rattle.items.specs.ProgramLaws.{path-map, un-map}
 
 -- `n` bytes at an address

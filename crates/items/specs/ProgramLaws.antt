@@ -1,32 +1,31 @@
 -- What the laws of items stand on: an answer under another name (`run-map`, `path-map`), and that of all that an item reads only its row's name is a text:
 -- what holds of every range of bytes and of the row's path holds of the item's path (`on-item`).
-use Prim.Native.Nat.{ℕ, zero, suc, _+_, _-_, _*_, _^_, _≤_}
+use Prim.Native.Nat.{ℕ, zero, suc, _+_, _-_, _*_, _^_}
 use native.Mathlib.Omega.{arith}
 use mathlib.Core.Path.{_≡_, refl, sym, ap, _∙_}
 use mathlib.Core.List.{List, [], _∷_, _++_, append-nil}
 use mathlib.Core.Bool.{Bool, true, false, cond, _&&_}
 use mathlib.Core.Option.{Option, some, none, Option·map}
-use lib.ListN.{length, take, drop}
+use lib.ListN.{take, drop}
 use lib.Dec.{leb, ltb, eqb}
-use Rattle.runtime.specs.Reads.{Reads, done, nothing, bytes, text, andThen, bytesPlace, run, Range, bytesRange, also, path, bind, All}
+use Rattle.runtime.specs.Reads.{Reads, done, nothing, bytes, andThen, bytesPlace, run, Range, bytesRange, also, path, bind, All}
 use Rattle.runtime.specs.ReadsLaws.{run-bind, path-bind}
 use Rattle.context.specs.Context.{contextKind}
 use Rattle.context.specs.declared.descriptor.ContextDescriptorKind.{ContextDescriptorKind}
 use Rattle.classtrailers.specs.Blocks.{Trailing, Row, rowAt, readHeader, recordAt, endAt, passed, reached, blockIn, rowNumber, block}
 use Rattle.classtrailers.specs.declared.block.Block.{Block}
 use Rattle.classtrailers.specs.declared.block.BlockKind.{BlockKind}
-use Rattle.typedescriptor.specs.Slots.{slotRow}
 use Rattle.typedescriptor.specs.Body.{Body, bodyBytes, bodyOfKind, body, slotBody, trailing, trailingStart}
-use Rattle.typedescriptor.specs.Singleton.{Initialization, initialization, slotTarget, needing, targets, singletonInit, singletonPointer}
+use Rattle.typedescriptor.specs.Singleton.{initialization, slotTarget, needing, targets, singletonInit, singletonPointer}
 use Rattle.typedescriptor.specs.Items.{slotBlock, slotInit, slotPointer, initOfBlock, pointerOfBlock}
 use Rattle.typedescriptor.specs.Offsets.{vector, u32s, fieldOffsets, slotOffsets}
 use Rattle.vtable.specs.Entries.{Layout, entrySize, entryOf, entryAddress, entryAt, upTo, entry}
 use Rattle.field.specs.Fields.{descriptorFrom, given, descriptorAt}
 use Rattle.field.specs.Records.{recordLayout, recordsBase, recordAt as fieldRecordAt}
-use Rattle.parent.specs.Context.{Header, headed, header}
+use Rattle.parent.specs.Context.{headed, header}
 use Rattle.parent.specs.Chain.{contextsMost, headerAt}
-use Rattle.items.specs.Keys.{Sections, EntryKind, Key, Answer, slotOf}
-use Rattle.items.specs.Items.{mapReads, tableKind, entryLayout, Table, tableOf, entryOfSlot, contextOfSlot, item, rowOfSlot, bodyOfSlot, blockOfSlot, initOfSlot, pointerOfSlot, offsetsOfSlot}
+use Rattle.items.specs.Keys.{Sections, EntryKind, Key, slotOf}
+use Rattle.items.specs.Items.{mapReads, tableKind, entryLayout, tableOf, entryOfSlot, contextOfSlot, item, rowOfSlot, bodyOfSlot, blockOfSlot, initOfSlot, pointerOfSlot, offsetsOfSlot}
 
 -- ---- an answer under another name
 

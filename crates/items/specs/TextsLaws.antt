@@ -4,8 +4,7 @@ use Prim.Native.Nat.{ℕ, _+_, _^_, _<_}
 use native.Mathlib.Decide.{decLt}
 use native.Mathlib.Omega.{arith}
 use mathlib.Core.Path.{_≡_, refl, sym, ap, _∙_}
-use mathlib.Core.List.{List, [], _∷_}
-use mathlib.Core.Logic.{_⊎_, inl, inr}
+use mathlib.Core.List.{List, _∷_}
 use mathlib.Core.Bool.{Bool, true, false, cond}
 use mathlib.Core.Option.{Option, some, none, Option·map}
 use lib.ListN.{take, drop}
@@ -15,20 +14,20 @@ use Rattle.utf8.specs.Text.{untilNul}
 use Rattle.util.specs.LittleEndian.{unsignedIn, signedIn}
 use Rattle.util.specs.Pointer.{relativePointer}
 use Rattle.util.specs.Cstr.{Place, textAt}
-use Rattle.runtime.specs.Reads.{Reads, done, nothing, bytes, text, andThen, bytesPlace, textOffset, textPlace, run, Range, bytesRange, also, path, All, every, Clear, endsBy}
+use Rattle.runtime.specs.Reads.{done, nothing, bytes, text, andThen, bytesPlace, textOffset, textPlace, run, bytesRange, also, path, All, every, Clear, endsBy}
 use Rattle.runtime.specs.ReadsLaws.{run-bind, cut}
 use Rattle.runtime.specs.PathLaws.{bytes-clear, path-text-zero}
-use Rattle.runtime.specs.FieldName.{NamePlace, inImage, inStrings, sectionText, orElse, fieldName}
+use Rattle.runtime.specs.FieldName.{inImage, inStrings, sectionText, orElse, fieldName}
 use Rattle.context.specs.Context.{contextKind, hasName}
 use Rattle.vtable.specs.Entries.{Entry}
 use Rattle.field.specs.declared.record.FieldRecord.{FieldRecord}
 use Rattle.field.specs.Records.{recordAt, ofRecord}
-use Rattle.parent.specs.Context.{Name, Header, slotName, nameAt, name}
+use Rattle.parent.specs.Context.{Name, Header, slotName, nameAt, name, contextName, withName}
 use Rattle.items.specs.Keys.{Sections}
 use Rattle.items.specs.Items.{contextOfSlot}
 use Rattle.items.specs.Texts.{NameKey, contextNameAt, recordName, nameOf, lookup, ClearAt, ClearOf}
 use Rattle.items.specs.ProgramLaws.{run-map}
-use Rattle.items.specs.CutLaws.{text-on-path, ClearBy}
+use Rattle.items.specs.PremiseLaws.{text-on-path, ClearBy}
 
 -- a name by its place and bytes
 abbrev nameIn : Place → List ℕ → Name
@@ -118,6 +117,16 @@ module _ (image segments : List ℕ) (c : ℕ) where
       → run (take c image) segments (name (h .address) (h .flags))
       ≡ cond (every (endsBy c) (path image segments (name (h .address) (h .flags)))) (run image segments (name (h .address) (h .flags))) none
   cut-name h clear = cut image segments c (name (h .address) (h .flags)) (name-clear h clear)
+
+  -- so a context, as the calls give it, has the same header, and the whole image's name or none
+  pub cut-context : (h : Header) → ClearBy image segments c (contextNameAt h)
+      → withName (take c image) segments h
+      ≡ record {
+        header = h;
+        name = cond (every (endsBy c) (path image segments (name (h .address) (h .flags)))) (contextName image segments (h .address) (h .flags)) none;
+      }
+  unfolding withName contextName
+  cut-context h clear = rw (cut-name h clear)
 
   -- which the premise on the listing's texts has for each context of a slot
   pub context-clear : (s : Sections) (i k : ℕ) (h : Header) → run image segments (contextOfSlot s i k) ≡ some h
