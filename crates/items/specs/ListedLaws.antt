@@ -11,7 +11,7 @@ use mathlib.Core.Option.{Option, some, none, Option·map}
 use lib.ListN.{length, take, drop, getElem?}
 use lib.Dec.{leb, ltb}
 use borrow.Author.Tests.{lt-ltb, le-ltb}
-use Rattle.runtime.specs.Reads.{Reads, done, nothing, run, bind}
+use Rattle.runtime.specs.Reads.{Reads, done, nothing, andThen, run, bind}
 use Rattle.runtime.specs.ReadsLaws.{run-bind}
 use Rattle.runtime.specs.PathLaws.{bytes-read}
 use Rattle.classtrailers.specs.Blocks.{Trailing, Row, table, rowAt, readHeader, recordAt, reached, blockIn, rowNumber, block, withBlock, blocksOf, blocks}
@@ -206,6 +206,13 @@ module _ (image segments : List ℕ) (s : Sections) (i : ℕ) (r : TypeRow) (is-
   unfolding item
   body-listed = run-map image segments Answer.body (bodyOfSlot s i) ∙ ap (Option·map Answer.body) (Slot.slot-body image segments (s .types) (s .typesStart) i r the-row)
 
+  -- and without one there are no blocks
+  pub no-body : (k : BlockKind) → run image segments (item s (Key.body i)) ≡ none → run image segments (item s (Key.block i k)) ≡ none
+  unfolding item
+  no-body k e =
+      map-none image segments _
+      (Slot.no-body-no-block image segments (s .types) (s .typesStart) i r the-row k (un-map-none image segments Answer.body (bodyOfSlot s i) e)) _
+
   module _ (b : Body) (is-body : run image segments (item s (Key.body i)) ≡ some (Answer.body b)) where
     the-body : run image segments (bodyOfSlot s i) ≡ some b
     unfolding item
@@ -243,18 +250,25 @@ module _ (image segments : List ℕ) (s : Sections) (i : ℕ) (r : TypeRow) (is-
     unfolding blocks
     blocks-listed n h = rw (stepped-blocks image segments (trailing (r .flags) b) (trailingStart (r .address) b) n h) (blocks-items kinds)
 
-    -- the metadata address that the descriptor's own singleton pointer gives: its offsets are those for that address
-    pub static-listed : (m : ℕ) → run image segments (item s (Key.pointer i)) ≡ some (Answer.pointer m)
-        → staticPlace image segments (r .address) (r .flags) ≡ offsetsPlace image segments (some b) m
-    unfolding staticPlace metadataAt item slotPointer
-    static-listed m is-pointer =
+    -- the offsets by the descriptor's own singleton pointer are those for the metadata address that it gives, and without one there are none
+    static-by : staticPlace image segments (r .address) (r .flags) ≡ andThen (run image segments (pointerOfSlot s i)) (offsetsPlace image segments (some b))
+    unfolding staticPlace metadataAt slotPointer
+    static-by =
         let its : run image segments (body (r .address) (r .flags)) ≡ some b = sym (Slot.slot-body image segments (s .types) (s .typesStart) i r the-row) ∙ the-body in
-        let there : run image segments (pointerOfSlot s i) ≡ some m = un-map image segments Answer.pointer (pointerOfSlot s i) m (λ a e. cc) is-pointer in
-        let metadata : run image segments (metadataAt (startOf (r .address) (r .flags) b)) ≡ some m
+        let metadata : run image segments (metadataAt (startOf (r .address) (r .flags) b)) ≡ run image segments (pointerOfSlot s i)
         = run-bind image segments pointerOfBlock (block (trailing (r .flags) b) (trailingStart (r .address) b) BlockKind.SingletonMetadataPointer)
         ∙ rw (sym (Slot.slot-block image segments (s .types) (s .typesStart) i r the-row b the-body BlockKind.SingletonMetadataPointer))
-        (sym (run-bind image segments pointerOfBlock (blockOfSlot s i BlockKind.SingletonMetadataPointer)) ∙ there) in
+        (sym (run-bind image segments pointerOfBlock (blockOfSlot s i BlockKind.SingletonMetadataPointer))) in
         rw (its, metadata)
+
+    pub static-listed : (m : ℕ) → run image segments (item s (Key.pointer i)) ≡ some (Answer.pointer m)
+        → staticPlace image segments (r .address) (r .flags) ≡ offsetsPlace image segments (some b) m
+    unfolding item
+    static-listed m is-pointer = static-by ∙ rw (un-map image segments Answer.pointer (pointerOfSlot s i) m (λ a e. cc) is-pointer)
+
+    pub no-static : run image segments (item s (Key.pointer i)) ≡ none → staticPlace image segments (r .address) (r .flags) ≡ none
+    unfolding item
+    no-static e = static-by ∙ rw (un-map-none image segments Answer.pointer (pointerOfSlot s i) e)
 
   -- ---- contexts
 
