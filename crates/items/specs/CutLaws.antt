@@ -1,0 +1,124 @@
+-- The cut theorem over all items, and what follows from it. docs/CUT.md leads through it.
+use Prim.Native.Nat.{ℕ, zero, suc, _≤_, min}
+use native.Mathlib.Decide.{decLe}
+use native.Mathlib.Omega.{arith}
+use mathlib.Core.Path.{_≡_, refl, sym, ap, _∙_}
+use mathlib.Core.List.{List, [], _∷_}
+use mathlib.Core.Bool.{Bool, true, false, cond}
+use mathlib.Core.Option.{Option, some, none}
+use lib.ListN.{length, take, length-take}
+use lib.Seq.{take-all, take-take}
+use Rattle.runtime.specs.Reads.{run, bytesRange, path, All, every, Clear, endsBy}
+use Rattle.runtime.specs.ReadsLaws.{cut, local, rangeBytes}
+use Rattle.runtime.specs.PathLaws.{bytes-clear}
+use Rattle.typedescriptor.specs.Row.{TypeRow, descriptor}
+use Rattle.typedescriptor.specs.Slots.{slots, Found, found, rowsFrom, rows}
+use Rattle.items.specs.Keys.{Sections, Key, Answer, slotOf}
+use Rattle.items.specs.Items.{item, rowOfSlot}
+use Rattle.items.specs.Texts.{NameKey, ClearOf}
+use Rattle.items.specs.ProgramLaws.{on-item}
+use Rattle.items.specs.PremiseLaws.{row-clear}
+
+-- the claim: the image's first `c` bytes give the whole image's answer if every range of the item's path ends at or before `c`, else none
+abbrev pub Claim : List ℕ → List ℕ → Sections → ℕ → Key → Type 0
+Claim image segments s c k =
+    run (take c image) segments (item s k) ≡ cond (every (endsBy c) (path image segments (item s k))) (run image segments (item s k)) none
+
+-- ---- the theorem
+
+module _ (image segments : List ℕ) (s : Sections) (c : ℕ) where
+  -- for every item, under the premise for the texts on its own path
+  pub cut-item : (k : Key) → All (Clear c) (path image segments (item s k)) → Claim image segments s c k
+  cut-item k clear = cut image segments c (item s k) clear
+
+  -- of which its row's name is the only one: the premise for that text alone
+  abbrev pub OwnClear : Key → Type 0
+  OwnClear k = (i : ℕ) → slotOf k ≡ some i → ClearOf image segments s c (NameKey.descriptor i)
+
+  pub own-clear : (k : Key) → OwnClear k → All (Clear c) (path image segments (item s k))
+  own-clear k clear =
+      on-item image segments (Clear c) (λ o n. bytes-clear c (bytesRange o n) refl) s k (λ i e. record { all = row-clear image segments c s i (clear i e) })
+
+  pub cut-named : (k : Key) → OwnClear k → Claim image segments s c k
+  cut-named k clear = cut-item k (own-clear k clear)
+
+  -- for all items, where the cut falls into no text that the listing of the whole image looks up
+  pub cut-listing : ((n : NameKey) → ClearOf image segments s c n) → (k : Key) → Claim image segments s c k
+  cut-listing clear k = cut-named k (λ i e. clear (NameKey.descriptor i))
+
+  -- ---- what follows
+
+  -- what the cut image still tells, the whole one tells, word for word, and of bytes before the cut
+  pub survives : (k : Key) (x : Answer) → All (Clear c) (path image segments (item s k)) → run (take c image) segments (item s k) ≡ some x
+      → (run image segments (item s k) ≡ some x) × (every (endsBy c) (path image segments (item s k)) ≡ true)
+  survives k x clear e = go (every (endsBy c) (path image segments (item s k))) refl (sym (cut-item k clear) ∙ e)
+    where
+      go : (b : Bool) → every (endsBy c) (path image segments (item s k)) ≡ b → cond b (run image segments (item s k)) none ≡ some x
+          → (run image segments (item s k) ≡ some x) × (every (endsBy c) (path image segments (item s k)) ≡ true)
+      go true t f = (f, t)
+      go false t f = let z : _≡_ {A = ℕ} 0 1 = cc in absurd (omega arith)
+
+  -- and what the whole one tells of bytes before the cut is not lost
+  pub kept : (k : Key) → All (Clear c) (path image segments (item s k)) → every (endsBy c) (path image segments (item s k)) ≡ true
+      → run (take c image) segments (item s k) ≡ run image segments (item s k)
+  kept k clear t = cut-item k clear ∙ rw t
+
+  -- a cut at the image's end, or past it, changes nothing: no premise is needed
+  pub cut-whole : (k : Key) → length image ≤ c → run (take c image) segments (item s k) ≡ run image segments (item s k)
+  cut-whole k h = rw (take-all c image h)
+
+  -- cutting twice is cutting once, at the smaller length
+  pub cut-twice : (k : Key) (d : ℕ) → run (take d (take c image)) segments (item s k) ≡ run (take (min d c) image) segments (item s k)
+  cut-twice k d = ap (λ (l : List ℕ). run l segments (item s k)) (take-twice d c image)
+    where
+      take-twice : (d c : ℕ) (l : List ℕ) → take d (take c l) ≡ take (min d c) l
+      take-twice d c l =
+          elim (decLe d c) [
+            | yes h ↦ let e : min d c ≡ d = omega arith in rw e (take-take d c l h)
+            | no h ↦
+                let e : min d c ≡ c = omega arith in
+                rw e (take-all d (take c l) (simp length-take (omega arith)))
+          ]
+
+-- two images of one length that agree on the bytes of an item's path give the same item
+pub local-item : (image image′ segments : List ℕ) (s : Sections) (k : Key) → length image′ ≡ length image
+    → All (λ r. rangeBytes image′ r ≡ rangeBytes image r) (path image segments (item s k)) → run image′ segments (item s k) ≡ run image segments (item s k)
+local-item image image′ segments s k e h = local image image′ segments (item s k) e h
+
+-- ---- the rows in their order
+
+-- those that pass a test
+abbrev pub keep : {A : Type 0} → (A → Bool) → List A → List A
+keep t [] = []
+keep t (a ∷ l) = cond (t a) (a ∷ keep t l) (keep t l)
+
+module _ (image segments : List ℕ) (s : Sections) (c : ℕ) (clear : (i : ℕ) → ClearOf image segments s c (NameKey.descriptor i)) where
+  -- a row whose path lies before the cut
+  abbrev pub rowEndsBy : Found → Bool
+  rowEndsBy f = every (endsBy c) (path image segments (rowOfSlot s (f .slot)))
+
+  rows-from : (n i : ℕ)
+      → rowsFrom (take c image) segments (s .types) (s .typesStart) n i ≡ keep rowEndsBy (rowsFrom image segments (s .types) (s .typesStart) n i)
+  unfolding rowsFrom
+  rows-from zero i = refl
+  rows-from (suc n) i = go (rows-from n (suc i)) (run image segments (rowOfSlot s i)) refl (every (endsBy c) (path image segments (rowOfSlot s i))) refl
+    where
+      in-cut : run (take c image) segments (rowOfSlot s i)
+          ≡ cond (every (endsBy c) (path image segments (rowOfSlot s i))) (run image segments (rowOfSlot s i)) none
+      in-cut = cut image segments c (rowOfSlot s i) (row-clear image segments c s i (clear i))
+
+      go : rowsFrom (take c image) segments (s .types) (s .typesStart) n (suc i) ≡ keep rowEndsBy (rowsFrom image segments (s .types) (s .typesStart) n (suc i))
+          → (x : Option TypeRow) → run image segments (rowOfSlot s i) ≡ x
+          → (b : Bool) → every (endsBy c) (path image segments (rowOfSlot s i)) ≡ b
+          → rowsFrom (take c image) segments (s .types) (s .typesStart) (suc n) i ≡ keep rowEndsBy (rowsFrom image segments (s .types) (s .typesStart) (suc n) i)
+      go further none e true t = let f : run (take c image) segments (rowOfSlot s i) ≡ none = in-cut ∙ rw (t, e) in rw (rowsFrom, f, e) further
+      go further none e false t = let f : run (take c image) segments (rowOfSlot s i) ≡ none = in-cut ∙ rw t in rw (rowsFrom, f, e) further
+      go further (some r) e true t =
+          let f : run (take c image) segments (rowOfSlot s i) ≡ some r = in-cut ∙ rw (t, e) in
+          rw (rowsFrom, f, e, t) (ap (λ (l : List Found). found i r ∷ l) further)
+      go further (some r) e false t = let f : run (take c image) segments (rowOfSlot s i) ≡ none = in-cut ∙ rw t in rw (rowsFrom, f, e, t) further
+
+  -- the cut image's rows are, in order, those of the whole one whose paths lie before the cut: the same slots, addresses, flags and names
+  pub cut-rows : rows (take c image) segments (s .types) (s .typesStart) ≡ keep rowEndsBy (rows image segments (s .types) (s .typesStart))
+  unfolding rows
+  cut-rows = rows-from (slots (s .types)) 0

@@ -1,0 +1,107 @@
+-- The items of a listing: docs/SPECIFICATION.md, "Items, paths and the cut". An item is a program of reads by its key. It depends on the sections,
+-- and never on the image: the listing of an image is what `run` gives of it, over all keys.
+use Prim.Native.Nat.{ℕ}
+use mathlib.Core.List.{List}
+use mathlib.Core.Bool.{cond}
+use mathlib.Core.Option.{Option, some, none}
+use lib.Dec.{ltb}
+use Rattle.runtime.specs.Reads.{Reads, done, nothing, bind}
+use Rattle.classtrailers.specs.declared.block.Block.{Block}
+use Rattle.classtrailers.specs.declared.block.BlockKind.{BlockKind}
+use Rattle.typedescriptor.specs.Row.{TypeRow}
+use Rattle.typedescriptor.specs.Slots.{slotRow}
+use Rattle.typedescriptor.specs.Body.{Body, slotBody}
+use Rattle.typedescriptor.specs.Singleton.{Initialization, needing}
+use Rattle.typedescriptor.specs.Items.{slotBlock, slotInit, slotPointer}
+use Rattle.typedescriptor.specs.Offsets.{slotOffsets}
+use Rattle.vtable.specs.Entries.{Layout, method, override, defaultOverride, prespecialization, Entry, entry}
+use Rattle.field.specs.Fields.{descriptorAt}
+use Rattle.field.specs.Records.{recordAt}
+use Rattle.parent.specs.Context.{Header}
+use Rattle.parent.specs.Chain.{contextsMost, headerAt}
+use Rattle.items.specs.Keys.{Sections, EntryKind, Key, Answer}
+
+-- a program's answer under another name
+unfoldable pub mapReads : {A B : Type 0} → (A → B) → Reads A → Reads B
+mapReads f p = bind p (λ a. done (f a))
+
+-- ---- a slot's row, body, blocks, singleton records and offsets (crate `typedescriptor`)
+
+abbrev pub rowOfSlot : Sections → ℕ → Reads TypeRow
+rowOfSlot s i = slotRow (s .types) (s .typesStart) i
+
+abbrev pub bodyOfSlot : Sections → ℕ → Reads Body
+bodyOfSlot s i = slotBody (s .types) (s .typesStart) i
+
+abbrev pub blockOfSlot : Sections → ℕ → BlockKind → Reads Block
+blockOfSlot s i k = slotBlock (s .types) (s .typesStart) i k
+
+abbrev pub initOfSlot : Sections → ℕ → Reads Initialization
+initOfSlot s i = slotInit (s .types) (s .typesStart) i
+
+abbrev pub pointerOfSlot : Sections → ℕ → Reads ℕ
+pointerOfSlot s i = slotPointer (s .types) (s .typesStart) i
+
+abbrev pub offsetsOfSlot : Sections → ℕ → ℕ → Reads (List ℕ)
+offsetsOfSlot s i m = slotOffsets (s .types) (s .typesStart) i m
+
+-- ---- entries
+
+-- the block that has them
+abbrev pub tableKind : EntryKind → BlockKind
+tableKind EntryKind.methods = BlockKind.VTable
+tableKind EntryKind.overrides = BlockKind.OverrideTable
+tableKind EntryKind.defaultOverrides = BlockKind.DefaultOverrideTable
+tableKind EntryKind.prespecializations = BlockKind.Prespecializations
+
+-- and what an entry is
+abbrev pub entryLayout : EntryKind → Layout
+entryLayout EntryKind.methods = method
+entryLayout EntryKind.overrides = override
+entryLayout EntryKind.defaultOverrides = defaultOverride
+entryLayout EntryKind.prespecializations = prespecialization
+
+-- how many entries a block has, and where they start
+pub record Table : Type 0 where
+  pub count : ℕ
+  pub base : ℕ
+
+abbrev pub tableOf : Block → Option Table
+tableOf (Block.VTable o n a) = some (record { count = n; base = a })
+tableOf (Block.OverrideTable n a) = some (record { count = n; base = a })
+tableOf (Block.Prespecializations n a) = some (record { count = n; base = a })
+tableOf (Block.DefaultOverrideTable n a) = some (record { count = n; base = a })
+tableOf (Block.Generic a) = none
+tableOf (Block.ResilientSuperclass a) = none
+tableOf (Block.ForeignMetadataInit a) = none
+tableOf (Block.SingletonMetadataInit a) = none
+tableOf (Block.ObjcResilientClassStub a) = none
+tableOf (Block.InvertibleProtocolSet s n) = none
+tableOf (Block.SingletonMetadataPointer a) = none
+
+-- an entry of a slot's table: the block, and the entries up to it
+unfoldable pub entryOfSlot : Sections → ℕ → EntryKind → ℕ → Reads Entry
+entryOfSlot s i e k =
+    bind (blockOfSlot s i (tableKind e))
+    (λ b. needing (tableOf b) (λ t. entry (entryLayout e) (t .base) (t .count) k))
+
+-- ---- contexts
+
+-- a context around a slot's type: the row, and the contexts up to it; a walk gives 256 at most
+unfoldable pub contextOfSlot : Sections → ℕ → ℕ → Reads Header
+contextOfSlot s i k =
+    cond (ltb k contextsMost) (bind (rowOfSlot s i) (λ r. headerAt k (r .parent))) nothing
+
+-- ---- all items
+
+unfoldable pub item : Sections → Key → Reads Answer
+item s (Key.row i) = mapReads Answer.row (rowOfSlot s i)
+item s (Key.body i) = mapReads Answer.body (bodyOfSlot s i)
+item s (Key.block i k) = mapReads Answer.block (blockOfSlot s i k)
+item s (Key.entry i e k) = mapReads Answer.entry (entryOfSlot s i e k)
+item s (Key.initialization i) = mapReads Answer.initialization (initOfSlot s i)
+item s (Key.pointer i) = mapReads Answer.pointer (pointerOfSlot s i)
+item s (Key.offsets i m) = mapReads Answer.offsets (offsetsOfSlot s i m)
+item s (Key.context i k) = mapReads Answer.context (contextOfSlot s i k)
+item s (Key.fieldDescriptor j) = mapReads Answer.fieldDescriptor (descriptorAt (s .fields) (s .fieldsStart) j)
+item s (Key.fieldRecord j k) = mapReads Answer.fieldRecord (recordAt (s .fields) (s .fieldsStart) j k)

@@ -1,0 +1,72 @@
+-- What the items of a listing are known by, and what they say: docs/SPECIFICATION.md, "Items, paths and the cut".
+use Prim.Native.Nat.{ℕ}
+use mathlib.Core.List.{List}
+use mathlib.Core.Option.{Option, some, none}
+use Rattle.classtrailers.specs.declared.block.Block.{Block}
+use Rattle.classtrailers.specs.declared.block.BlockKind.{BlockKind}
+use Rattle.typedescriptor.specs.Row.{TypeRow}
+use Rattle.typedescriptor.specs.Body.{Body}
+use Rattle.typedescriptor.specs.Singleton.{Initialization}
+use Rattle.vtable.specs.Entries.{Entry}
+use Rattle.field.specs.declared.iter.FieldDescriptor.{FieldDescriptor}
+use Rattle.parent.specs.Context.{Header}
+
+-- the sections that tell of types and of fields, and where they start
+pub record Sections : Type 0 where
+  pub types : List ℕ
+  pub typesStart : ℕ
+  pub fields : List ℕ
+  pub fieldsStart : ℕ
+
+-- the four tables of entries
+pub data EntryKind : Type 0 where
+  methods : EntryKind
+  overrides : EntryKind
+  defaultOverrides : EntryKind
+  prespecializations : EntryKind
+
+-- what an item is known by
+pub data Key : Type 0 where
+  -- of a slot of the types section: its row, its body, its block of a kind
+  row : ℕ → Key
+  body : ℕ → Key
+  block : ℕ → BlockKind → Key
+  -- of a slot's table its entry with a number
+  entry : ℕ → EntryKind → ℕ → Key
+  -- a slot's singleton records
+  initialization : ℕ → Key
+  pointer : ℕ → Key
+  -- the offsets of a slot's fields, for a metadata address
+  offsets : ℕ → ℕ → Key
+  -- of the contexts around a slot's type the one with a number, the innermost being 0
+  context : ℕ → ℕ → Key
+  -- of the fields section the descriptor with a number, and of its records the one with a number
+  fieldDescriptor : ℕ → Key
+  fieldRecord : ℕ → ℕ → Key
+
+-- what it says
+pub data Answer : Type 0 where
+  -- with its name's place and bytes
+  row : TypeRow → Answer
+  body : Body → Answer
+  block : Block → Answer
+  entry : Entry → Answer
+  initialization : Initialization → Answer
+  pointer : ℕ → Answer
+  offsets : List ℕ → Answer
+  context : Header → Answer
+  fieldDescriptor : FieldDescriptor → Answer
+  fieldRecord : Entry → Answer
+
+-- the slot that an item is of; those of the fields section are of none
+abbrev pub slotOf : Key → Option ℕ
+slotOf (Key.row i) = some i
+slotOf (Key.body i) = some i
+slotOf (Key.block i k) = some i
+slotOf (Key.entry i e k) = some i
+slotOf (Key.initialization i) = some i
+slotOf (Key.pointer i) = some i
+slotOf (Key.offsets i m) = some i
+slotOf (Key.context i k) = some i
+slotOf (Key.fieldDescriptor j) = none
+slotOf (Key.fieldRecord j k) = none

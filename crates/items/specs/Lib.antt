@@ -1,0 +1,10 @@
+pub mod Clue
+pub mod CutLaws
+pub mod Items
+pub mod Keys
+pub mod ListedLaws
+pub mod PathsLaws
+pub mod PremiseLaws
+pub mod ProgramLaws
+pub mod Texts
+pub mod TextsLaws
