@@ -1,9 +1,10 @@
-//! The proved side of the archive level: field descriptors, field records, field offsets.
+//! The proved side of the archive level, the functions of crates/exports_archive: field descriptors, field records, field offsets.
 
 use crate::proved::{Answer, UNWRITTEN, refusal};
 use crate::proved_full::{Image, calls};
 
 calls! {
+    "exports_archive":
     next_field_record = hodrupec_next_field_record(base_va: u64, count: u32, size: u32, next: u32) -> 6;
     field_offsets = hodrupec_field_offsets(address: u64, flags: u32, metadata_va: u64) -> 3;
     static_field_offsets = hodrupec_static_field_offsets(address: u64, flags: u32) -> 3;

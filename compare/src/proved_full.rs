@@ -1,4 +1,5 @@
-//! The proved side of the full level: bodies, trailing blocks, entries, singleton records. Each call gives its array of numbers.
+//! The proved side of the full level, the functions of crates/exports_full: bodies, trailing blocks, entries, singleton records. Each call
+//! gives its array of numbers.
 
 use crate::input::Input;
 use crate::proved::{Answer, UNWRITTEN, refusal};
@@ -21,7 +22,8 @@ impl<'a> Image<'a> {
 
 /// Calls that take the image, the segments and some numbers, and answer in a lent array.
 macro_rules! calls {
-    ($($name:ident = $export:ident($($arg:ident: $type:ty),*) -> $n:literal;)*) => {
+    ($library:literal: $($name:ident = $export:ident($($arg:ident: $type:ty),*) -> $n:literal;)*) => {
+        #[link(name = $library, kind = "static")]
         unsafe extern "C" {
             $(fn $export(
                 image: *const u8,
@@ -55,6 +57,7 @@ macro_rules! calls {
 pub(crate) use calls;
 
 calls! {
+    "exports_full":
     text_at = hodrupec_text_at(vmaddr: u64) -> 3;
     body = hodrupec_body(address: u64, flags: u32) -> 8;
     first_block = hodrupec_first_block(address: u64, flags: u32) -> 4;
