@@ -290,6 +290,36 @@ fn field_sections(checker: &mut Checker) {
     }
 }
 
+/// Every cut of a class, a struct and an enum with all blocks that they can have at once: with a singleton initialization and pointer, and
+/// with a foreign initialization and prespecializations. A fields section lies over the descriptor.
+fn cut_blocks(checker: &mut Checker) {
+    for kind in [16, 17, 18] {
+        for initialization in [1, 2] {
+            for count in [0, 1, 2] {
+                let plan = Plan {
+                    flags: kind | 0xe048_00a0 | initialization << 16,
+                    body: [3, 1, 2, 5],
+                    extra: 1,
+                    parameters: 1 + count as u16,
+                    requirements: count as u16,
+                    methods: count,
+                    overrides: count,
+                    prespecializations: count,
+                    default_overrides: count,
+                    set: 3,
+                };
+                let mut input = planted(0x4000, &plan, 12);
+                input.fields = input.image.clone();
+                input.fields_va = input.segments[0][0];
+                input.targets.extend([0x4000, 0x4014, 0x402c]);
+                while input.image.pop().is_some() {
+                    must(checker, &input);
+                }
+            }
+        }
+    }
+}
+
 /// Every cut of small images with bodies, blocks and fields.
 fn full_cuts(checker: &mut Checker, images: u64) {
     let mut generator = FullGenerator::default();
@@ -319,6 +349,7 @@ pub fn run(few: bool) {
     blocks(&mut checker, few);
     ends(&mut checker);
     field_sections(&mut checker);
+    cut_blocks(&mut checker);
     full_cuts(&mut checker, if few { 400 } else { 50_000 });
     let time = start.elapsed().as_secs_f64();
     println!(

@@ -13,7 +13,7 @@ use darwinscope::swift::{
 use darwinscope::util::{read_i32_le_at, read_u16_le_at, relative_pointer, vm_to_file_offset_in};
 
 /// The single steps compared from a table's start on, and the entries that a list in one call is compared for.
-pub const STEPS: u32 = 20;
+pub const STEPS: u32 = 40;
 pub const LISTED: usize = 40;
 
 /// A block's kind and its three numbers.
