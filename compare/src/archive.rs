@@ -334,7 +334,7 @@ impl Checker {
 }
 
 /// 1, the vector's place in the image, and how many offsets it has.
-fn vector_numbers(
+pub fn vector_numbers(
     input: &Input,
     row: &TypeDescriptor<'_, '_>,
     metadata_va: u64,

@@ -46,7 +46,7 @@ pub fn pointer_at(image: &[u8], off: u64, slot: u64) -> u64 {
 }
 
 /// The numbers of a body.
-fn body_numbers(input: &Input, row: &TypeDescriptor<'_, '_>) -> [u64; 8] {
+pub fn body_numbers(input: &Input, row: &TypeDescriptor<'_, '_>) -> [u64; 8] {
     match row.body() {
         TypeKindBody::Class(c) => {
             let slot = row.address().wrapping_add(20);
@@ -147,7 +147,7 @@ macro_rules! value_blocks {
     }};
 }
 
-fn body_blocks(body: &TypeKindBody<'_>, list: &mut Vec<Block>) {
+pub fn body_blocks(body: &TypeKindBody<'_>, list: &mut Vec<Block>) {
     list.clear();
     match body {
         TypeKindBody::Class(c) => class_blocks(c, list),
@@ -158,7 +158,7 @@ fn body_blocks(body: &TypeKindBody<'_>, list: &mut Vec<Block>) {
 }
 
 /// Where the walk stands after a block that lies at `at`: the next row and address, or past the table where its end reaches 2^64.
-fn after(input: &Input, block: &Block, at: u64) -> [u64; 2] {
+pub fn after(input: &Input, block: &Block, at: u64) -> [u64; 2] {
     let size = match block {
         [0, ..] => {
             let number = |more: u64| {

@@ -14,6 +14,7 @@ mod proved;
 mod proved_archive;
 mod proved_full;
 mod sample;
+mod sample_full;
 mod shrink;
 mod util_calls;
 
@@ -27,6 +28,7 @@ const USAGE: &str = "usage: compare run [--seed S] [--count N] [--seconds T]   s
        compare exhaustive [--few]                     all short texts, all flags, chains around the limit, blocks around 2^64, all cuts
        compare one LINE                               the input of one printed line
        compare sample OUT [DIR]                       inputs with the Rust's answers; in DIR as stdin and stdout of a program
+       compare sample-full OUT [DIR]                  the same of bodies, blocks, entries and fields
        compare bench [rows | full]                    nanoseconds per row or entry on both sides; of rows and names, or of all else
        --unshrunk with run or exhaustive              a difference is printed without its input";
 
@@ -127,6 +129,10 @@ fn main() {
         },
         Some("sample") => match args.get(1) {
             Some(out) => sample::run(out, args.get(2).map(String::as_str)),
+            None => usage(),
+        },
+        Some("sample-full") => match args.get(1) {
+            Some(out) => sample_full::run(out, args.get(2).map(String::as_str)),
             None => usage(),
         },
         Some("bench") => bench::run(args.get(1).map(String::as_str)),
