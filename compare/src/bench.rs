@@ -3,6 +3,9 @@
 use crate::check::{HEAD, runtime};
 use crate::input::Input;
 use crate::proved;
+use crate::proved_full::Image;
+use crate::{proved_archive, proved_full};
+use darwinscope::swift::{FieldRecordIter, TypeKindBody, VTableIter};
 use std::hint::black_box;
 use std::time::Instant;
 
@@ -72,10 +75,21 @@ fn nested(flags: u32, around: u32, name: usize, depth: usize, segments: usize) -
             *b = b'a' + ((i + j) % 26) as u8;
         }
     }
+    let mut input = mapped(image, segments);
+    input.types_va = BASE + 0x4000_0000;
+    for i in 0..ROWS {
+        let slot_va = input.types_va + 4 * i as u64;
+        let rel = (BASE + (i * size) as u64).wrapping_sub(slot_va) as i32;
+        input.types.extend_from_slice(&rel.to_le_bytes());
+    }
+    input
+}
+
+/// An image at `BASE` in the last of so many segments.
+fn mapped(image: Vec<u8>, segments: usize) -> Input {
     let length = image.len() as u64;
     let mut input = Input {
         image,
-        types_va: BASE + 0x4000_0000,
         ..Input::default()
     };
     input.segments.push([0, BASE, 0, 0]);
@@ -85,16 +99,11 @@ fn nested(flags: u32, around: u32, name: usize, depth: usize, segments: usize) -
             .push([BASE + 0x1000_0000 * i, 0x10_0000, 0, 0x10_0000]);
     }
     input.segments.push([BASE, length, 0, length]);
-    for i in 0..ROWS {
-        let slot_va = input.types_va + 4 * i as u64;
-        let rel = (BASE + (i * size) as u64).wrapping_sub(slot_va) as i32;
-        input.types.extend_from_slice(&rel.to_le_bytes());
-    }
     input
 }
 
-/// The shortest of some rounds, in nanoseconds per row; each round has as many repetitions as fill some milliseconds.
-fn time(mut pass: impl FnMut() -> usize) -> impl FnMut() -> (f64, usize) {
+/// The shortest of some rounds, in nanoseconds per row or entry; each round has as many repetitions as fill some milliseconds.
+fn time(items: usize, mut pass: impl FnMut() -> usize) -> impl FnMut() -> (f64, usize) {
     let start = Instant::now();
     let mut warm = 0;
     while start.elapsed().as_millis() < 4 {
@@ -108,7 +117,7 @@ fn time(mut pass: impl FnMut() -> usize) -> impl FnMut() -> (f64, usize) {
         for _ in 0..repetitions {
             sum = black_box(pass());
         }
-        let each = start.elapsed().as_nanos() as f64 / (repetitions * ROWS) as f64;
+        let each = start.elapsed().as_nanos() as f64 / (repetitions * items) as f64;
         (each, sum)
     }
 }
@@ -121,9 +130,9 @@ struct Times {
 }
 
 /// Rounds of both sides in turn. The ratio is the middle one of the rounds' own: a processor that changes its clock changes both times of a round.
-fn both(rust: impl FnMut() -> usize, proved: impl FnMut() -> usize) -> Times {
-    let mut rust = time(rust);
-    let mut proved = time(proved);
+fn both(items: usize, rust: impl FnMut() -> usize, proved: impl FnMut() -> usize) -> Times {
+    let mut rust = time(items, rust);
+    let mut proved = time(items, proved);
     let mut best = (f64::MAX, f64::MAX);
     let mut ratios = Vec::new();
     for _ in 0..ROUNDS {
@@ -145,6 +154,7 @@ fn rows(input: &Input) -> Times {
     let rt = runtime(input);
     let (image, segments) = (&input.image[..], input.numbers());
     both(
+        ROWS,
         || rt.types().map(|row| black_box(row.name()).len()).sum(),
         || {
             let (mut slot, mut sum) = (0, 0);
@@ -166,6 +176,7 @@ fn listing(input: &Input) -> Times {
     let (image, segments) = (&input.image[..], input.numbers());
     let mut buffer = vec![0; 1 << 16];
     both(
+        ROWS,
         || {
             rt.types()
                 .map(|row| black_box(row.qualified_name()).len())
@@ -201,6 +212,7 @@ fn whole(input: &Input) -> Times {
     let (image, segments) = (&input.image[..], input.numbers());
     let mut buffer = vec![0; 16 << 20];
     both(
+        ROWS,
         || {
             rt.types()
                 .map(|row| black_box(row.qualified_name()).len())
@@ -221,6 +233,225 @@ fn whole(input: &Input) -> Times {
     )
 }
 
+/// How many blocks the Rust has recorded of a body.
+fn recorded(body: &TypeKindBody<'_>) -> usize {
+    let there: &[bool] = match body {
+        TypeKindBody::Class(c) => &[
+            c.generic_header_va.is_some(),
+            c.resilient_superclass_va.is_some(),
+            c.foreign_metadata_init_va.is_some(),
+            c.singleton_metadata_init_va.is_some(),
+            c.vtable_header.is_some(),
+            c.override_table_header.is_some(),
+            c.objc_resilient_class_stub_va.is_some(),
+            c.prespecializations_count.is_some(),
+            c.invertible_protocol_set.is_some(),
+            c.singleton_metadata_pointer_va.is_some(),
+            c.default_override_table_header.is_some(),
+        ],
+        TypeKindBody::Struct(s) => &[
+            s.generic_header_va.is_some(),
+            s.foreign_metadata_init_va.is_some(),
+            s.singleton_metadata_init_va.is_some(),
+            s.prespecializations_count.is_some(),
+            s.invertible_protocol_set.is_some(),
+            s.singleton_metadata_pointer_va.is_some(),
+        ],
+        _ => &[],
+    };
+    there.iter().filter(|&&b| b).count()
+}
+
+/// Rows with their bodies and all blocks: the Rust reads them with the row, the proved side by a call for the body and one for each block.
+fn bodies(input: &Input) -> Times {
+    let rt = runtime(input);
+    let image = Image::of(input);
+    let row_at = |slot| {
+        proved::next_row(
+            image.bytes,
+            image.segments,
+            &input.types,
+            input.types_va,
+            slot,
+        )
+        .expect("whole segments")
+    };
+    both(
+        ROWS,
+        || {
+            rt.types()
+                .map(|row| row.name().len() + recorded(black_box(row.body())))
+                .sum()
+        },
+        || {
+            let (mut slot, mut sum) = (0, 0);
+            loop {
+                let row = row_at(slot);
+                if row.there == 0 {
+                    return sum;
+                }
+                slot = row.next as usize;
+                let flags = row.flags as u32;
+                let body = proved_full::body(image, row.address, flags);
+                black_box(body.expect("whole segments"));
+                sum += row.length as usize;
+                let first = proved_full::first_block(image, row.address, flags);
+                let [_, class, extra, mut at] = first.expect("whole segments");
+                let mut next = 0;
+                loop {
+                    let step =
+                        proved_full::next_block(image, flags, class as u32, extra as u32, next, at);
+                    let step = black_box(step.expect("whole segments"));
+                    if step[0] == 0 {
+                        break;
+                    }
+                    (next, at) = (step[5] as u32, step[6]);
+                    sum += 1;
+                }
+            }
+        },
+    )
+}
+
+/// Entries in all of a pass over tables of `count`.
+const ENTRIES: usize = 1024;
+
+/// Where each table of `count` entries of so many bytes starts.
+fn tables(count: usize, size: usize) -> impl Iterator<Item = u64> + Clone {
+    (0..(ENTRIES / count).max(1)).map(move |i| BASE + (i * count * size) as u64)
+}
+
+fn method_tables(count: usize, segments: usize) -> Input {
+    let words = (2 * (ENTRIES / count).max(1) * count) as u32;
+    let image = (0..words).flat_map(|w| (w * 37 + 1).to_le_bytes());
+    mapped(image.collect(), segments)
+}
+
+fn sum(numbers: [u64; 3]) -> usize {
+    let [a, b, c] = black_box(numbers);
+    a.wrapping_add(b).wrapping_add(c) as usize
+}
+
+/// All methods of tables: in one call for each table, or step by step.
+fn methods(input: &Input, count: usize, steps: bool) -> Times {
+    let rt = runtime(input);
+    let image = Image::of(input);
+    let starts = tables(count, 8);
+    let items = starts.clone().count() * count;
+    let n = count as u32;
+    let rust = || {
+        let all = starts.clone().flat_map(|va| VTableIter::new(&rt, va, n));
+        all.fold(0usize, |s, e| {
+            s.wrapping_add(sum([e.address, e.flags.0.into(), e.impl_va]))
+        })
+    };
+    let mut buffer = vec![0; 3 * count];
+    if !steps {
+        return both(items, rust, || {
+            starts.clone().fold(0usize, |s, va| {
+                let given = proved_full::methods(image, va, n, 0, &mut buffer);
+                let [given, _] = given.expect("whole segments");
+                let (entries, _) = buffer[..3 * given as usize].as_chunks::<3>();
+                entries.iter().fold(s, |s, &e| s.wrapping_add(sum(e)))
+            })
+        });
+    }
+    both(items, rust, || {
+        starts.clone().fold(0usize, |mut s, va| {
+            let mut next = 0;
+            loop {
+                let step = proved_full::next_method(image, va, n, next);
+                let [there, number, a, b, c] = step.expect("whole segments");
+                if there != 1 {
+                    return s;
+                }
+                next = number as u32;
+                s = s.wrapping_add(sum([a, b, c]));
+            }
+        })
+    })
+}
+
+/// Tables of records whose type names and names, of 8 bytes, lie behind them.
+fn record_tables(count: usize, segments: usize) -> Input {
+    let all = (ENTRIES / count).max(1) * count;
+    let mut image = Vec::new();
+    for i in 0..all {
+        let texts = 12 * all + 18 * i;
+        image.extend_from_slice(&(i as u32).to_le_bytes());
+        image.extend_from_slice(&((texts - 12 * i - 4) as u32).to_le_bytes());
+        image.extend_from_slice(&((texts + 9 - 12 * i - 8) as u32).to_le_bytes());
+    }
+    for i in 0..all {
+        let letter = b'a' + (i % 26) as u8;
+        image.extend_from_slice(&[letter; 8]);
+        image.push(0);
+        image.extend_from_slice(&[letter; 8]);
+        image.push(0);
+    }
+    mapped(image, segments)
+}
+
+/// All records of tables with both names, which the Rust looks up with each: in one call for each table, or step by step.
+fn records(input: &Input, count: usize, steps: bool) -> Times {
+    let rt = runtime(input);
+    let image = Image::of(input);
+    let starts = tables(count, 12);
+    let items = starts.clone().count() * count;
+    let n = count as u32;
+    let length = |name: Option<&str>| name.map_or(0, |n| black_box(n).len()) as u64;
+    let rust = || {
+        let lists = starts.clone();
+        let all = lists.flat_map(|va| FieldRecordIter::for_comparison(&rt, va, n, 12, 0));
+        all.fold(0usize, |s, r| {
+            let flags = r.flags().0.into();
+            s.wrapping_add(sum([
+                flags,
+                length(r.mangled_type_name()),
+                length(r.field_name()),
+            ]))
+        })
+    };
+    let named = |flags: u64, type_va: u64, name_va: u64| {
+        let [_, _, length] = proved_full::text_at(image, type_va).expect("whole segments");
+        let name = proved::field_name(
+            image.bytes,
+            image.segments,
+            &input.strings,
+            input.strings_va,
+            name_va,
+        );
+        let [_, _, name] = name.expect("whole segments");
+        sum([flags, length, name])
+    };
+    let mut buffer = vec![0; 4 * count];
+    if !steps {
+        return both(items, rust, || {
+            starts.clone().fold(0usize, |s, va| {
+                let given = proved_archive::field_records(image, va, n, 12, 0, &mut buffer);
+                let [given, _] = given.expect("whole segments");
+                let (entries, _) = buffer[..4 * given as usize].as_chunks::<4>();
+                let each = entries.iter();
+                each.fold(s, |s, &[_, flags, a, b]| s.wrapping_add(named(flags, a, b)))
+            })
+        });
+    }
+    both(items, rust, || {
+        starts.clone().fold(0usize, |mut s, va| {
+            let mut next = 0;
+            loop {
+                let step = proved_archive::next_field_record(image, va, n, 12, next);
+                let [there, number, _, flags, a, b] = step.expect("whole segments");
+                if there != 1 {
+                    return s;
+                }
+                next = number as u32;
+                s = s.wrapping_add(named(flags, a, b));
+            }
+        })
+    })
+}
+
 fn line(what: &str, times: Times) {
     let Times {
         rust,
@@ -230,7 +461,17 @@ fn line(what: &str, times: Times) {
     println!("{what} | {rust:9.1} | {proved:9.1} | {ratio:5.2}");
 }
 
-pub fn run() {
+/// All of it, or a part.
+pub fn run(part: Option<&str>) {
+    if part != Some("full") {
+        rows_and_names();
+    }
+    if part != Some("rows") {
+        full();
+    }
+}
+
+fn rows_and_names() {
     println!(
         "{ROWS} rows; both sides in one run on the same warm inputs, the buffer for names warm too and not cleared; of {ROUNDS} rounds the shortest, and the middle ratio."
     );
@@ -286,6 +527,52 @@ pub fn run() {
         for depth in [4, 8, 12, 16, 20, 24, 32, 64, 256] {
             let input = nested(17, around, 8, depth, 2);
             line(&format!("{kind:10} | {depth:5}"), whole(&input));
+        }
+    }
+}
+
+/// The full and the archive level.
+fn full() {
+    println!();
+    println!(
+        "Rows with body and all blocks, names of 8 bytes: the Rust reads them with the row; the proved side calls for row, body, and each block."
+    );
+    println!("bodies     | segments |      Rust |    proved | ratio");
+    for (kind, flags) in [("struct", 17), ("class", 16), ("all blocks", ALL_BLOCKS)] {
+        for segments in [2, 40] {
+            let input = case(flags, 8, segments);
+            line(&format!("{kind:10} | {segments:8}"), bodies(&input));
+        }
+    }
+    println!();
+    println!(
+        "Entries of tables, nanoseconds per entry: `list` one call for each table into a lent buffer, `steps` one for each entry."
+    );
+    println!(
+        "Records with type name and name, of 8 bytes each, which both sides look up for each record."
+    );
+    println!("entries         | count | segments |      Rust |    proved | ratio");
+    for segments in [2, 40] {
+        for count in [1, 16, 1000] {
+            let case = format!("{count:5} | {segments:8}");
+            let input = method_tables(count, segments);
+            line(
+                &format!("methods, list   | {case}"),
+                methods(&input, count, false),
+            );
+            line(
+                &format!("methods, steps  | {case}"),
+                methods(&input, count, true),
+            );
+            let input = record_tables(count, segments);
+            line(
+                &format!("records, list   | {case}"),
+                records(&input, count, false),
+            );
+            line(
+                &format!("records, steps  | {case}"),
+                records(&input, count, true),
+            );
         }
     }
 }

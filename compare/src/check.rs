@@ -1,8 +1,11 @@
 //! One input given to both sides, and everything that they answer compared.
 
+use crate::full::Block;
 use crate::input::Input;
 use crate::proved;
 use crate::proved::{Answer, Listed, Refused};
+use crate::proved_full::Image;
+use crate::{proved_archive, proved_full};
 use darwinscope::swift::{SwiftRuntime, SwiftSection, lookup_field_name};
 use darwinscope::util::{read_cstr_at, vm_to_file_offset_in};
 
@@ -18,6 +21,10 @@ const PATTERN: u8 = 0xa7;
 /// Bytes kept free before and after a lent buffer, which no call may write.
 const GUARD: usize = 16;
 
+/// The same for a lent buffer of numbers.
+pub const NUMBER: u64 = 0xa7a7_0123_4567_a7a7;
+pub const NUMBER_GUARD: usize = 4;
+
 /// What was compared, for the report.
 #[derive(Default, Clone, Copy)]
 pub struct Counts {
@@ -29,12 +36,22 @@ pub struct Counts {
     pub listings: u64,
     pub leaves: u64,
     pub refusals: u64,
+    pub bodies: u64,
+    pub blocks: u64,
+    pub walks: u64,
+    pub entries: u64,
+    pub singletons: u64,
+    pub lists: u64,
+    pub fields: u64,
+    pub records: u64,
+    pub offsets: u64,
 }
 
 impl Counts {
     pub fn line(&self) -> String {
         format!(
-            "{} inputs, {} rows, {} contexts, {} names ({} chains above {LIMIT}), {} listings, {} leaf calls, {} ragged lists",
+            "{} inputs, {} rows, {} contexts, {} names ({} chains above {LIMIT}), {} listings, {} leaf calls, {} ragged lists, \
+            {} descriptors, {} blocks, {} made-up walks, {} entries, {} singleton records, {} lists, {} field steps, {} records, {} offset calls",
             self.inputs,
             self.rows,
             self.contexts,
@@ -42,7 +59,16 @@ impl Counts {
             self.too_deep,
             self.listings,
             self.leaves,
-            self.refusals
+            self.refusals,
+            self.bodies,
+            self.blocks,
+            self.walks,
+            self.entries,
+            self.singletons,
+            self.lists,
+            self.fields,
+            self.records,
+            self.offsets
         )
     }
 }
@@ -58,6 +84,10 @@ pub struct Checker {
     ends: Vec<usize>,
     /// A list of segment numbers that is no multiple of four.
     ragged: Vec<u64>,
+    /// The Rust's blocks of a descriptor, the numbers of a list of entries, and a lent buffer for them.
+    pub blocks: Vec<Block>,
+    pub list: Vec<u64>,
+    pub numbers: Vec<u64>,
 }
 
 pub fn runtime(input: &Input) -> SwiftRuntime<'_> {
@@ -72,7 +102,10 @@ pub fn runtime(input: &Input) -> SwiftRuntime<'_> {
             body: &input.types,
             vmaddr: input.types_va,
         }),
-        None,
+        Some(SwiftSection {
+            body: &input.fields,
+            vmaddr: input.fields_va,
+        }),
         Some(SwiftSection {
             body: &input.strings,
             vmaddr: input.strings_va,
@@ -96,13 +129,36 @@ macro_rules! same {
     }};
 }
 
+pub(crate) use same;
+
 impl Checker {
+    /// All that is compared.
     pub fn input(&mut self, input: &Input) -> Result<(), String> {
+        self.basic(input)?;
+        let rt = runtime(input);
+        self.fields(input, &rt)?;
+        self.made_up(input, &rt)
+    }
+
+    /// The same without the fields section, and without descriptors, walks and tables that are made up.
+    pub fn basic(&mut self, input: &Input) -> Result<(), String> {
         self.counts.inputs += 1;
         let rt = runtime(input);
         self.rows(input, &rt)?;
         self.leaves(input, &rt)?;
         self.ragged(input)
+    }
+
+    /// The bodies, blocks, entries and offset vectors of the rows alone.
+    pub fn descriptors(&mut self, input: &Input) -> Result<(), String> {
+        self.counts.inputs += 1;
+        let rt = runtime(input);
+        for row in rt.types() {
+            self.counts.rows += 1;
+            self.descriptor(input, &row)?;
+            self.field_offsets(input, &row)?;
+        }
+        Ok(())
     }
 
     fn rows(&mut self, input: &Input, rt: &SwiftRuntime<'_>) -> Result<(), String> {
@@ -142,6 +198,8 @@ impl Checker {
             self.slots.push(ours.slot);
             let depth = self.contexts(input, number, &row)?;
             self.names(input, number, &row, &ours, depth)?;
+            self.descriptor(input, &row)?;
+            self.field_offsets(input, &row)?;
             number += 1;
             self.counts.rows += 1;
         }
@@ -284,6 +342,37 @@ impl Checker {
                 ours,
                 "{more} segment numbers too many"
             );
+            self.numbers.clear();
+            self.numbers.resize(12 + 2 * NUMBER_GUARD, NUMBER);
+            let lent = &mut self.numbers[NUMBER_GUARD..NUMBER_GUARD + 12];
+            let image = Image {
+                bytes: image,
+                segments: list,
+            };
+            let ours = [
+                of(proved_full::text_at(image, target)),
+                of(proved_full::body(image, target, 16)),
+                of(proved_full::first_block(image, target, 17)),
+                of(proved_full::next_block(image, 16, 1, 1, 0, target)),
+                of(proved_full::block_of_kind(image, target, 18, 9)),
+                of(proved_full::next_method(image, target, 2, 0)),
+                of(proved_full::next_override(image, target, 0, 0)),
+                of(proved_full::next_default_override(image, target, 2, 1)),
+                of(proved_full::next_prespecialization(image, target, 2, 2)),
+                of(proved_full::methods(image, target, 2, 0, lent)),
+                of(proved_full::singleton_init(image, target)),
+                of(proved_full::singleton_pointer(image, target)),
+                of(proved_archive::next_field_record(image, target, 2, 12, 0)),
+                of(proved_archive::field_records(image, target, 2, 12, 0, lent)),
+                of(proved_archive::field_offsets(image, target, 17, target)),
+                of(proved_archive::static_field_offsets(image, target, 17)),
+            ];
+            same!(
+                [Some(Refused(1)); 16],
+                ours,
+                "{more} segment numbers too many for bodies, blocks, entries and fields"
+            );
+            same!(true, self.holds(&[]), "numbers left alone by refused calls");
             same!(
                 true,
                 self.left_alone(GUARD),

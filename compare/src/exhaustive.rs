@@ -1,8 +1,10 @@
-//! What can be tried whole: short texts, flag words, chains around the limit, cuts.
+//! What can be tried whole: short texts, flag words, chains around the limit, blocks by all flags, blocks and tables around 2^64, cuts.
 
 use crate::check::{Checker, LIMIT};
-use crate::generate::{Generator, chain};
+use crate::generate::{Generator, chain, relative};
+use crate::generate_full::FullGenerator;
 use crate::input::Input;
+use crate::plant::{Plan, Planter};
 use crate::report;
 use std::time::Instant;
 
@@ -121,6 +123,222 @@ fn cuts(checker: &mut Checker, images: u64) {
     }
 }
 
+/// Whether the sides agree on the rows' bodies, blocks and entries alone.
+fn must_rows(checker: &mut Checker, input: &Input) {
+    if let Err(what) = checker.descriptors(input) {
+        report(input, &what);
+    }
+}
+
+/// A struct's name, and the number of its bytes before the descriptor.
+const NAME: &[u8; 4] = b"Ty\0\0";
+
+/// One descriptor at an address, its name before it, all offsets the same; tables that are too long to be written have a segment for what
+/// follows them.
+fn planted(address: u64, plan: &Plan, offset: i32) -> Input {
+    let mut input = Input::default();
+    let (mut marks, mut parts) = (Vec::new(), Vec::new());
+    let before = NAME.len() as u64;
+    input.image.extend_from_slice(NAME);
+    Planter {
+        image: &mut input.image,
+        va: address,
+        marks: &mut marks,
+        parts: &mut parts,
+    }
+    .descriptor(plan, &mut |_, _| offset.to_le_bytes());
+    let name = relative(address.wrapping_add(8), address.wrapping_sub(before));
+    input.image[12..16].copy_from_slice(&name);
+    let length = input.image.len() as u64;
+    let base = address.wrapping_sub(before);
+    parts.insert(0, (base, 0));
+    for (va, off) in parts {
+        let length = (length - off as u64).min(u64::MAX - va);
+        input.segments.push([va, length, off as u64, length]);
+    }
+    input.types_va = address.wrapping_sub(0x1000);
+    input.types = relative(input.types_va, address).to_vec();
+    input
+}
+
+/// Every type flags word, generic and not, with the invertible set and without, of the three kinds, with and without bit 0 of the extra class
+/// flags; every block can be read.
+fn blocks(checker: &mut Checker, few: bool) {
+    // The bits that no block goes by: all clear, all set, and each alone.
+    let others: u32 = 0x1fb4;
+    let mut input = Input::default();
+    input.types_va = 0x3000;
+    input.types = relative(0x3000, 0x4000).to_vec();
+    input.segments.push([0x4000, 600, 0, 600]);
+    // Small numbers that differ from word to word: counts and offsets.
+    let words = [0u32, 1, 2, 1, 3, 1, 2].into_iter().cycle().take(150);
+    let mut image: Vec<u8> = words.flat_map(u32::to_le_bytes).collect();
+    for types in 0..=0xffffu32 {
+        let rest = types & others;
+        if few && rest & rest.wrapping_sub(1) != 0 && rest != others {
+            continue;
+        }
+        for case in 0..24u32 {
+            let kind = 16 + case % 3;
+            let low = kind | (case / 3 & 1) << 5 | (case / 6 & 1) << 7;
+            image[..4].copy_from_slice(&(low | types << 16).to_le_bytes());
+            // The name is the text at descriptor + 8, of no bytes.
+            image[8..12].copy_from_slice(&[0; 4]);
+            if kind == 16 {
+                image[28..32].copy_from_slice(&(2 + case / 12).to_le_bytes());
+            } else if case >= 12 {
+                continue;
+            }
+            input.image.clone_from(&image);
+            must_rows(checker, &input);
+        }
+    }
+}
+
+const COUNTS: [u32; 5] = [0, 1, 2, u32::MAX - 1, u32::MAX];
+
+/// Each block alone and before each other one, where what it takes ends around 2^64.
+fn ends(checker: &mut Checker) {
+    // Generic, resilient with the stub, foreign, singleton, methods, overrides, prespecializations, invertible, pointer, default overrides.
+    let bits: [u32; 10] = [
+        1 << 7,
+        1 << 29,
+        2 << 16,
+        1 << 16,
+        1 << 31,
+        1 << 30,
+        1 << 19,
+        1 << 5,
+        (1 << 16) | (1 << 19),
+        1 << 22,
+    ];
+    for kind in [16, 17, 18] {
+        let body = if kind == 16 { 44u64 } else { 28 };
+        for first in bits {
+            for second in bits.into_iter().chain([0]) {
+                for count in COUNTS {
+                    let n = u64::from(count);
+                    let half = count.min(65_535) as u16;
+                    let plan = Plan {
+                        flags: kind | first | second,
+                        extra: 1,
+                        parameters: half,
+                        requirements: half,
+                        methods: count,
+                        overrides: count,
+                        prespecializations: count,
+                        default_overrides: count,
+                        set: 5,
+                        ..Plan::default()
+                    };
+                    let generic = 16 + u64::from(half).next_multiple_of(4) + 12 * u64::from(half);
+                    let sizes = [
+                        0,
+                        2,
+                        4,
+                        8,
+                        12,
+                        16,
+                        generic,
+                        4 + 8 * n,
+                        8 + 8 * n,
+                        4 + 12 * n,
+                    ];
+                    for size in sizes {
+                        for more in 0..3 {
+                            let address = 0u64.wrapping_sub(body + size).wrapping_add(more);
+                            must_rows(checker, &planted(address.wrapping_sub(1), &plan, 6));
+                        }
+                    }
+                }
+            }
+        }
+    }
+}
+
+/// A field descriptor with so many records this far apart, at an address, in a section that ends around the records' end.
+fn field_sections(checker: &mut Checker) {
+    for size in [0, 1, 2, 11, 12, 13, 65_535u16] {
+        for count in [0, 1, 2, 3, 1000, u32::MAX] {
+            let mut section = Vec::new();
+            let (mut marks, mut parts) = (Vec::new(), Vec::new());
+            let mut planter = Planter {
+                image: &mut section,
+                va: 0,
+                marks: &mut marks,
+                parts: &mut parts,
+            };
+            planter.field_descriptor(1, size, count, &mut |_, _| [9, 0, 0, 0]);
+            planter.field_descriptor(7, 12, 1, &mut |_, _| [5, 0, 0, 0]);
+            for back in [0x1000, 64, 40, 24, 20, 17, 16, 15, 8, 5, 4, 3, 1, 0u64] {
+                let mut input = Input {
+                    image: section.clone(),
+                    fields: section.clone(),
+                    fields_va: 0u64.wrapping_sub(back),
+                    ..Input::default()
+                };
+                let length = (section.len() as u64).min(back.wrapping_sub(1));
+                input.segments.push([input.fields_va, length, 0, length]);
+                input.segments.push([0, 64, back.min(64), 64]);
+                input.targets.push(input.fields_va.wrapping_add(16));
+                while input.fields.len() > 12 {
+                    must(checker, &input);
+                    input.fields.pop();
+                }
+            }
+        }
+    }
+}
+
+/// Every cut of a class, a struct and an enum with all blocks that they can have at once: with a singleton initialization and pointer, and
+/// with a foreign initialization and prespecializations. A fields section lies over the descriptor.
+fn cut_blocks(checker: &mut Checker) {
+    for kind in [16, 17, 18] {
+        for initialization in [1, 2] {
+            for count in [0, 1, 2] {
+                let plan = Plan {
+                    flags: kind | 0xe048_00a0 | initialization << 16,
+                    body: [3, 1, 2, 5],
+                    extra: 1,
+                    parameters: 1 + count as u16,
+                    requirements: count as u16,
+                    methods: count,
+                    overrides: count,
+                    prespecializations: count,
+                    default_overrides: count,
+                    set: 3,
+                };
+                let mut input = planted(0x4000, &plan, 12);
+                input.fields = input.image.clone();
+                input.fields_va = input.segments[0][0];
+                input.targets.extend([0x4000, 0x4014, 0x402c]);
+                while input.image.pop().is_some() {
+                    must(checker, &input);
+                }
+            }
+        }
+    }
+}
+
+/// Every cut of small images with bodies, blocks and fields.
+fn full_cuts(checker: &mut Checker, images: u64) {
+    let mut generator = FullGenerator::default();
+    let mut input = Input::default();
+    let mut tried = 0;
+    let mut number = 0;
+    while tried < images {
+        generator.make(7, number, &mut input);
+        number += 1;
+        if input.image.len() >= 300 {
+            continue;
+        }
+        tried += 1;
+        while input.image.pop().is_some() {
+            must(checker, &input);
+        }
+    }
+}
+
 pub fn run(few: bool) {
     let start = Instant::now();
     let mut checker = Checker::default();
@@ -128,6 +346,11 @@ pub fn run(few: bool) {
     chains(&mut checker);
     flags(&mut checker, few);
     cuts(&mut checker, if few { 2_000 } else { 100_000 });
+    blocks(&mut checker, few);
+    ends(&mut checker);
+    field_sections(&mut checker);
+    cut_blocks(&mut checker);
+    full_cuts(&mut checker, if few { 400 } else { 50_000 });
     let time = start.elapsed().as_secs_f64();
     println!(
         "exhaustive: {}; no difference; {time:.1} s",

@@ -69,7 +69,7 @@ fn reference(kind: TypeReferenceKind) -> u64 {
     }
 }
 
-fn field_kind(kind: FieldDescriptorKind) -> u64 {
+pub fn field_kind(kind: FieldDescriptorKind) -> u64 {
     match kind {
         FieldDescriptorKind::Struct => 0,
         FieldDescriptorKind::Class => 1,

@@ -27,11 +27,11 @@ impl Rng {
         ((u128::from(self.next()) * n as u128) >> 64) as usize
     }
 
-    fn one_in(&mut self, n: usize) -> bool {
+    pub fn one_in(&mut self, n: usize) -> bool {
         self.below(n) == 0
     }
 
-    fn of<T: Copy>(&mut self, list: &[T]) -> T {
+    pub fn of<T: Copy>(&mut self, list: &[T]) -> T {
         list[self.below(list.len())]
     }
 }
@@ -109,7 +109,7 @@ fn put(bytes: &mut Vec<u8>, off: usize, piece: &[u8]) {
     bytes[off..end].copy_from_slice(piece);
 }
 
-fn text(rng: &mut Rng, out: &mut Vec<u8>) {
+pub fn text(rng: &mut Rng, out: &mut Vec<u8>) {
     for _ in 0..rng.below(4) {
         out.extend_from_slice(rng.of(&FORMED));
     }
@@ -122,11 +122,11 @@ fn text(rng: &mut Rng, out: &mut Vec<u8>) {
 }
 
 /// A signed offset from one address to another, as far as its 32 bits reach.
-fn relative(from: u64, to: u64) -> [u8; 4] {
+pub fn relative(from: u64, to: u64) -> [u8; 4] {
     (to.wrapping_sub(from) as i32).to_le_bytes()
 }
 
-fn garbage(rng: &mut Rng) -> [u8; 4] {
+pub fn garbage(rng: &mut Rng) -> [u8; 4] {
     let n = match rng.below(5) {
         0 => rng.below(64) as i32 - 32,
         1 => i32::MIN,
@@ -362,7 +362,7 @@ impl Generator {
 }
 
 /// The segments: most map the planted bytes at `base`, with others before, after and over them.
-fn map(rng: &mut Rng, input: &mut Input, shift: u64, base: u64, length: u64) {
+pub fn map(rng: &mut Rng, input: &mut Input, shift: u64, base: u64, length: u64) {
     let segments = &mut input.segments;
     // An address of 2^64 - 1 lies in no segment.
     let room = u64::MAX - base;
@@ -448,20 +448,25 @@ fn change(rng: &mut Rng, input: &mut Input) {
             1 => &mut input.strings,
             _ => &mut input.image,
         };
-        if bytes.is_empty() {
-            continue;
-        }
-        let i = rng.below(bytes.len());
-        let b = &mut bytes[i];
-        *b = match rng.below(6) {
-            0 => 0,
-            1 => 0xff,
-            2 => *b ^ 1 << rng.below(8),
-            3 => b.wrapping_add(1),
-            4 => b.wrapping_sub(1),
-            _ => rng.next() as u8,
-        };
+        change_bytes(rng, bytes);
     }
+}
+
+/// Changes one byte.
+pub fn change_bytes(rng: &mut Rng, bytes: &mut [u8]) {
+    if bytes.is_empty() {
+        return;
+    }
+    let i = rng.below(bytes.len());
+    let b = &mut bytes[i];
+    *b = match rng.below(6) {
+        0 => 0,
+        1 => 0xff,
+        2 => *b ^ 1 << rng.below(8),
+        3 => b.wrapping_add(1),
+        4 => b.wrapping_sub(1),
+        _ => rng.next() as u8,
+    };
 }
 
 fn cut(rng: &mut Rng, input: &mut Input) {

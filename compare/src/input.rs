@@ -10,7 +10,9 @@ pub struct Input {
     pub types_va: u64,
     pub strings: Vec<u8>,
     pub strings_va: u64,
-    /// Addresses that are translated and looked up as field names.
+    pub fields: Vec<u8>,
+    pub fields_va: u64,
+    /// Addresses that are translated and looked up as field names, and at which descriptors, tables and records are made up.
     pub targets: Vec<u64>,
 }
 
@@ -22,6 +24,8 @@ impl Input {
         self.types_va = 0;
         self.strings.clear();
         self.strings_va = 0;
+        self.fields.clear();
+        self.fields_va = 0;
         self.targets.clear();
     }
 
@@ -30,7 +34,7 @@ impl Input {
         self.segments.as_flattened()
     }
 
-    /// The line that `sample` writes and `one` reads.
+    /// The line that `sample` writes and `one` reads. An empty fields section at address 0 is left out.
     pub fn line(&self) -> String {
         let mut s = format!(
             "input {} {:x} {} {:x} {}",
@@ -45,6 +49,9 @@ impl Input {
             for n in list {
                 let _ = write!(s, " {n:x}");
             }
+        }
+        if !self.fields.is_empty() || self.fields_va != 0 {
+            let _ = write!(s, " {:x} {}", self.fields_va, hex(&self.fields));
         }
         s
     }
@@ -72,6 +79,10 @@ impl Input {
             .chunks_exact(4)
             .map(|s| [s[0], s[1], s[2], s[3]])
             .collect();
+        if let Some(va) = words.next() {
+            input.fields_va = u64::from_str_radix(va, 16).ok()?;
+            input.fields = unhex(words.next()?)?;
+        }
         Some(input)
     }
 }

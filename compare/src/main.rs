@@ -1,30 +1,43 @@
 //! The comparison of the proved calls with the Rust that they carry over. compare/build makes it; see compare/README.md.
 
+mod archive;
 mod bench;
 mod check;
 mod exhaustive;
 mod flags;
+mod full;
 mod generate;
+mod generate_full;
 mod input;
+mod plant;
 mod proved;
+mod proved_archive;
+mod proved_full;
 mod sample;
+mod sample_full;
 mod shrink;
 mod util_calls;
 
 use check::Checker;
 use generate::{Generator, Rng};
+use generate_full::FullGenerator;
 use input::Input;
 use std::time::Instant;
 
 const USAGE: &str = "usage: compare run [--seed S] [--count N] [--seconds T]   seeded inputs, N of them or as many as T seconds allow
-       compare exhaustive [--few]                     all short texts, all flags, chains around the limit, all cuts
+       compare exhaustive [--few]                     all short texts, all flags, chains around the limit, blocks around 2^64, all cuts
        compare one LINE                               the input of one printed line
        compare sample OUT [DIR]                       inputs with the Rust's answers; in DIR as stdin and stdout of a program
-       compare bench                                  nanoseconds per row on both sides";
+       compare sample-full OUT [DIR]                  the same of bodies, blocks, entries and fields
+       compare bench [rows | full]                    nanoseconds per row or entry on both sides; of rows and names, or of all else
+       --unshrunk with run or exhaustive              a difference is printed without its input";
 
-/// Prints the difference with the smallest input that shows one, and ends the run.
+/// Prints the difference with the smallest input that shows one (but for `--unshrunk`), and ends the run.
 pub fn report(input: &Input, what: &str) -> ! {
     println!("difference: {what}");
+    if std::env::args().any(|a| a == "--unshrunk") {
+        std::process::exit(1);
+    }
     let small = shrink::smallest(input);
     if let Err(what) = Checker::default().input(&small) {
         println!("smallest: {what}");
@@ -65,14 +78,23 @@ fn run(args: &[String]) {
     let start = Instant::now();
     let mut checker = Checker::default();
     let mut generator = Generator::default();
+    let mut full = FullGenerator::default();
     let mut input = Input::default();
     let mut words = 0;
     for i in 0..count {
         if i % 4096 == 0 && seconds.is_some_and(|s| start.elapsed().as_secs() >= s) {
             break;
         }
-        generator.make(seed, i, &mut input);
-        if let Err(what) = checker.input(&input) {
+        // Inputs for rows, contexts and names, of which the rows' own bodies and blocks are compared too; every fourth is one for bodies,
+        // blocks, entries and fields, of which all is.
+        let same = if i % 4 == 3 {
+            full.make(seed, i, &mut input);
+            checker.input(&input)
+        } else {
+            generator.make(seed, i, &mut input);
+            checker.basic(&input)
+        };
+        if let Err(what) = same {
             report(&input, &format!("seed {seed}, number {i}: {what}"));
         }
         let mut rng = Rng::new(!seed, i);
@@ -93,7 +115,9 @@ fn main() {
             let start = Instant::now();
             let calls = told(util_calls::exhaustive()) + told(flags::exhaustive());
             let time = start.elapsed().as_secs_f64();
-            println!("exhaustive: {calls} calls on numbers and flag words; no difference; {time:.1} s");
+            println!(
+                "exhaustive: {calls} calls on numbers and flag words; no difference; {time:.1} s"
+            );
             exhaustive::run(args.iter().any(|a| a == "--few"));
         }
         Some("one") => match args.get(1).and_then(|line| Input::of_line(line)) {
@@ -107,7 +131,11 @@ fn main() {
             Some(out) => sample::run(out, args.get(2).map(String::as_str)),
             None => usage(),
         },
-        Some("bench") => bench::run(),
+        Some("sample-full") => match args.get(1) {
+            Some(out) => sample_full::run(out, args.get(2).map(String::as_str)),
+            None => usage(),
+        },
+        Some("bench") => bench::run(args.get(1).map(String::as_str)),
         _ => usage(),
     }
 }

@@ -68,7 +68,7 @@ unsafe extern "C" {
 }
 
 /// What an array holds before a call, so that a number left unwritten shows.
-const UNWRITTEN: u64 = 0x5a5a_a5a5_0ff0_1234;
+pub const UNWRITTEN: u64 = 0x5a5a_a5a5_0ff0_1234;
 
 /// The number of a refusal; `TOUCHED` for one that has changed a number of the lent array.
 #[derive(Clone, Copy, Debug, PartialEq)]
@@ -86,7 +86,7 @@ pub type Answer<T> = Result<T, Refused>;
 
 /// The refusal of a call with this status, which must have left the lent array as it was.
 #[cold]
-fn refusal(status: u64, out: &[u64]) -> Refused {
+pub fn refusal(status: u64, out: &[u64]) -> Refused {
     if out.iter().all(|&n| n == UNWRITTEN) {
         Refused(status)
     } else {

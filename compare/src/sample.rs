@@ -109,10 +109,10 @@ fn slot_va(input: &Input, slot: usize) -> Option<u64> {
 
 /// The cases that an input reaches, by the reason for each answer.
 #[derive(Default)]
-struct Cases(Vec<String>);
+pub struct Cases(Vec<String>);
 
 impl Cases {
-    fn add(&mut self, case: String) {
+    pub fn add(&mut self, case: String) {
         self.0.push(case);
     }
 
@@ -142,7 +142,13 @@ impl Cases {
         (format!("in no segment{passed}"), None)
     }
 
-    fn bytes<'a>(&mut self, input: &'a Input, va: u64, len: usize, what: &str) -> Option<&'a [u8]> {
+    pub fn bytes<'a>(
+        &mut self,
+        input: &'a Input,
+        va: u64,
+        len: usize,
+        what: &str,
+    ) -> Option<&'a [u8]> {
         let (why, offset) = Cases::translate(input, va);
         self.add(format!("{what}: {why}"));
         let off = usize::try_from(offset?).ok()?;
@@ -354,17 +360,27 @@ impl Cases {
         for &target in &input.targets {
             cases.field(input, &rt, target);
         }
-        cases.0.sort();
-        cases.0.dedup();
-        cases.0
+        cases.sorted()
+    }
+
+    pub fn sorted(mut self) -> Vec<String> {
+        self.0.sort();
+        self.0.dedup();
+        self.0
     }
 }
 
-pub fn run(out: &str, split: Option<&str>) {
-    let mut seen: BTreeMap<String, u32> = BTreeMap::new();
-    let mut kept: Vec<Input> = Vec::new();
-    let mut consider = |input: &Input| {
-        let cases = Cases::of(input);
+/// The inputs kept, and how many of them reach each case.
+#[derive(Default)]
+pub struct Sample {
+    seen: BTreeMap<String, u32>,
+    kept: Vec<Input>,
+}
+
+impl Sample {
+    /// Keeps an input if it reaches a case that is not yet reached.
+    pub fn consider(&mut self, input: &Input, cases: Vec<String>) {
+        let seen = &mut self.seen;
         if cases
             .iter()
             .all(|case| seen.get(case).is_some_and(|&n| n >= KEPT))
@@ -374,40 +390,56 @@ pub fn run(out: &str, split: Option<&str>) {
         for case in cases {
             *seen.entry(case).or_default() += 1;
         }
-        kept.push(input.clone());
-    };
+        self.kept.push(input.clone());
+    }
+
+    /// The inputs with their answers and the cases in one file; in a folder the inputs as `stdin` and the answers as `stdout`.
+    pub fn write(
+        &self,
+        head: &str,
+        answers: impl Fn(&Input, &mut String),
+        out: &str,
+        split: Option<&str>,
+    ) {
+        let (mut all, mut stdin, mut stdout) = (head.to_owned(), String::new(), String::new());
+        for input in &self.kept {
+            let mut lines = String::new();
+            answers(input, &mut lines);
+            let _ = write!(all, "{}\n{lines}", input.line());
+            let _ = writeln!(stdin, "{}", input.line());
+            stdout.push_str(&lines);
+        }
+        for (case, count) in &self.seen {
+            let _ = writeln!(all, "# {count:3} {case}");
+        }
+        let mut files = vec![(out.to_owned(), all)];
+        if let Some(dir) = split {
+            files.push((format!("{dir}/stdin"), stdin));
+            files.push((format!("{dir}/stdout"), stdout));
+        }
+        for (path, bytes) in files {
+            if let Err(e) = std::fs::write(&path, bytes) {
+                eprintln!("compare: {path}: {e}");
+                std::process::exit(1);
+            }
+        }
+        println!("{} inputs, {} cases", self.kept.len(), self.seen.len());
+    }
+}
+
+pub fn run(out: &str, split: Option<&str>) {
+    let mut sample = Sample::default();
     for depth in [0, 1, 2, LIMIT - 1, LIMIT, LIMIT + 1] {
-        consider(&chain(depth, &[2], b"N", [0; 4]));
+        let input = chain(depth, &[2], b"N", [0; 4]);
+        sample.consider(&input, Cases::of(&input));
     }
     let mut generator = Generator::default();
     let mut input = Input::default();
     for number in 0..400_000 {
         generator.make(3, number, &mut input);
         if input.image.len() <= 200 {
-            consider(&input);
+            sample.consider(&input, Cases::of(&input));
         }
     }
-    let (mut all, mut stdin, mut stdout) = (HEAD.to_owned(), String::new(), String::new());
-    for input in &kept {
-        let mut lines = String::new();
-        answers(input, &mut lines);
-        let _ = write!(all, "{}\n{lines}", input.line());
-        let _ = writeln!(stdin, "{}", input.line());
-        stdout.push_str(&lines);
-    }
-    for (case, count) in &seen {
-        let _ = writeln!(all, "# {count:3} {case}");
-    }
-    let mut files = vec![(out.to_owned(), all)];
-    if let Some(dir) = split {
-        files.push((format!("{dir}/stdin"), stdin));
-        files.push((format!("{dir}/stdout"), stdout));
-    }
-    for (path, bytes) in files {
-        if let Err(e) = std::fs::write(&path, bytes) {
-            eprintln!("compare: {path}: {e}");
-            std::process::exit(1);
-        }
-    }
-    println!("{} inputs, {} cases", kept.len(), seen.len());
+    sample.write(HEAD, answers, out, split);
 }

@@ -37,6 +37,8 @@ fn pass(best: &mut Input) -> bool {
         });
     }
     changed |= attempt(best, |c| c.strings.clear());
+    changed |= attempt(best, |c| c.fields.clear());
+    changed |= best.fields.is_empty() && attempt(best, |c| c.fields_va = 0);
     changed |= attempt(best, |c| c.types.truncate(c.types.len() / 4 * 4));
     for i in (0..best.types.len() / 4).rev() {
         // A slot at the front is dropped with its address, so that the others keep theirs.
@@ -68,5 +70,21 @@ fn pass(best: &mut Input) -> bool {
     changed |= attempt(best, |c| {
         c.strings.pop();
     });
+    let mut step = best.fields.len();
+    while step > 0 {
+        // From the end, and from the front with the address, so that the others keep theirs.
+        changed |= attempt(best, |c| {
+            c.fields.truncate(c.fields.len().saturating_sub(step))
+        });
+        changed |= attempt(best, |c| {
+            let front = step.min(c.fields.len());
+            c.fields.drain(..front);
+            c.fields_va = c.fields_va.wrapping_add(front as u64);
+        });
+        step /= 2;
+    }
+    for i in 0..best.fields.len() {
+        changed |= best.fields[i] != 0 && attempt(best, |c| c.fields[i] = 0);
+    }
     changed
 }

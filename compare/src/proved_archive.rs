@@ -1,0 +1,97 @@
+//! The proved side of the archive level, the functions of crates/exports_archive: field descriptors, field records, field offsets.
+
+use crate::proved::{Answer, UNWRITTEN, refusal};
+use crate::proved_full::{Image, calls};
+
+calls! {
+    "exports_archive":
+    next_field_record = hodrupec_next_field_record(base_va: u64, count: u32, size: u32, next: u32) -> 6;
+    field_offsets = hodrupec_field_offsets(address: u64, flags: u32, metadata_va: u64) -> 3;
+    static_field_offsets = hodrupec_static_field_offsets(address: u64, flags: u32) -> 3;
+}
+
+unsafe extern "C" {
+    fn hodrupec_next_field(
+        fields: *const u8,
+        fields_len: usize,
+        vmaddr: u64,
+        at: usize,
+        out: &mut [u64; 8],
+    ) -> u64;
+    fn hodrupec_field_records(
+        image: *const u8,
+        image_len: usize,
+        segments: *const u64,
+        segment_numbers: usize,
+        base_va: u64,
+        count: u32,
+        size: u32,
+        next: u32,
+        buffer: *mut u64,
+        buffer_len: usize,
+        out: &mut [u64; 2],
+    ) -> u64;
+    fn hodrupec_field_offset(
+        image: *const u8,
+        image_len: usize,
+        place: usize,
+        count: u32,
+        number: u32,
+        out: &mut [u64; 2],
+    ) -> u64;
+}
+
+#[inline]
+pub fn next_field(fields: &[u8], vmaddr: u64, at: usize) -> Answer<[u64; 8]> {
+    let mut out = [UNWRITTEN; 8];
+    let status =
+        unsafe { hodrupec_next_field(fields.as_ptr(), fields.len(), vmaddr, at, &mut out) };
+    if status != 0 {
+        return Err(refusal(status, &out));
+    }
+    Ok(out)
+}
+
+/// How many records from number `next` on are in the buffer, and why there are no more.
+#[inline]
+pub fn field_records(
+    image: Image<'_>,
+    base_va: u64,
+    count: u32,
+    size: u32,
+    next: u32,
+    buffer: &mut [u64],
+) -> Answer<[u64; 2]> {
+    let mut out = [UNWRITTEN; 2];
+    let status = unsafe {
+        hodrupec_field_records(
+            image.bytes.as_ptr(),
+            image.bytes.len(),
+            image.segments.as_ptr(),
+            image.segments.len(),
+            base_va,
+            count,
+            size,
+            next,
+            buffer.as_mut_ptr(),
+            buffer.len(),
+            &mut out,
+        )
+    };
+    if status != 0 {
+        return Err(refusal(status, &out));
+    }
+    Ok(out)
+}
+
+#[inline]
+pub fn field_offset(image: &[u8], place: usize, count: u32, number: u32) -> Answer<[u64; 2]> {
+    let mut out = [UNWRITTEN; 2];
+    let status = unsafe {
+        hodrupec_field_offset(image.as_ptr(), image.len(), place, count, number, &mut out)
+    };
+    if status != 0 {
+        return Err(refusal(status, &out));
+    }
+    Ok(out)
+}
