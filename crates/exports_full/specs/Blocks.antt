@@ -13,7 +13,7 @@ use Rattle.classtrailers.specs.declared.block.BlockKind.{BlockKind}
 use Rattle.typedescriptor.specs.Body.{body}
 use Rattle.typedescriptor.specs.Items.{Start, trailers}
 use Rattle.listing.specs.Blocks.{kindFrom}
-use Rattle.exports.specs.Flags.{flagNumber}
+use Rattle.exports_util.specs.Flags.{flagNumber}
 use Rattle.exports_full.specs.declared.blocks.BlockNumbers.{BlockNumbers}
 use Rattle.exports_full.specs.declared.blocks.KindRead.{KindRead}
 

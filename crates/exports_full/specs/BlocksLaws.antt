@@ -19,7 +19,7 @@ use Rattle.typedescriptor.specs.declared.trailers.TrailingStart.{TrailingStart}
 use Rattle.listing.specs.Calls.{guarded}
 use Rattle.listing.specs.CallsLaws.{answered-is}
 use Rattle.listing.specs.Blocks.{kindFrom}
-use Rattle.exports.specs.Flags.{flagNumber}
+use Rattle.exports_util.specs.Flags.{flagNumber}
 use Rattle.exports_full.specs.Blocks.{startAt, startNumbers, blockNumbers, kindNumbered, blockNumbered}
 
 -- ---- what is made of an answer

@@ -3,6 +3,4 @@ pub mod BodiesLaws
 pub mod Blocks
 pub mod BlocksLaws
 pub mod Entries
-pub mod Methods
-pub mod MethodsLaws
 pub mod Singletons

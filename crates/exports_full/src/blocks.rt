@@ -6,7 +6,7 @@ ghost use Rattle.typedescriptor.specs.Items.{trailersOf};
 ghost use Rattle.listing.specs.Calls.{guarded};
 ghost use Rattle.listing.specs.Blocks.{blockAnswer};
 ghost use Rattle.exports.specs.Numbers.{Tells};
-ghost use Rattle.exports.specs.Flags.{flagNumber};
+ghost use Rattle.exports_util.specs.Flags.{flagNumber};
 ghost use Rattle.exports_full.specs.Blocks.{startAt, startNumbers, walkAt, blockNumbers, numbersOf, blockStepNumbers, kindBlockNumbers, kindNumbered, kindOf, blockNumbered};
 use crate::bodies::ANSWERED;
 use crate::bodies::THERE;

@@ -4,5 +4,4 @@
 mod blocks;
 mod bodies;
 mod entries;
-mod methods;
 mod singletons;
