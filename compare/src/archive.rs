@@ -74,7 +74,7 @@ impl Checker {
             self.field(input, at, rust.as_ref(), steps.cursor())?;
         }
         if let Some(&va) = input.targets.first() {
-            let mixed = mix(va);
+            let mixed = mix(va ^ input.fields_va);
             let records = Records {
                 base: va,
                 count: [0, 1, 3, u32::MAX][mixed as usize & 3],

@@ -256,6 +256,22 @@ fn ends(checker: &mut Checker) {
     }
 }
 
+/// Descriptors, walks, tables, records and singletons made up at the last addresses, in an image of small numbers and in one of 0s.
+fn last_addresses(checker: &mut Checker) {
+    for byte in [0, 3] {
+        for back in 0..64u64 {
+            let mut input = Input::default();
+            input.image.resize(80, byte);
+            input.segments.push([u64::MAX - 70, 70, 0, 70]);
+            input.targets = vec![0u64.wrapping_sub(back); 8];
+            for section in 0..8 {
+                input.fields_va = section;
+                must(checker, &input);
+            }
+        }
+    }
+}
+
 /// A field descriptor with so many records this far apart, at an address, in a section that ends around the records' end.
 fn field_sections(checker: &mut Checker) {
     for size in [0, 1, 2, 11, 12, 13, 65_535u16] {
@@ -348,6 +364,7 @@ pub fn run(few: bool) {
     cuts(&mut checker, if few { 2_000 } else { 100_000 });
     blocks(&mut checker, few);
     ends(&mut checker);
+    last_addresses(&mut checker);
     field_sections(&mut checker);
     cut_blocks(&mut checker);
     full_cuts(&mut checker, if few { 400 } else { 50_000 });

@@ -771,9 +771,10 @@ impl Checker {
             self.made_up_walk(input, rt, walk)?;
             let count = [0, 1, 3, u32::MAX][(mixed >> 50) as usize & 3];
             let table = Table { base: va, count };
-            let kind = [4, 5, 7, 10][i & 3];
-            self.made_up_table(input, rt, kind, table)?;
-            if kind == 4 {
+            for kind in [4, 5, 7, 10] {
+                self.made_up_table(input, rt, kind, table)?;
+            }
+            if i == 0 {
                 self.methods(input, rt, table)?;
             }
             let mut body = NO_STRUCT;
