@@ -9,6 +9,7 @@ use crate::input::Input;
 use crate::proved::field_name;
 use crate::proved_archive as proved;
 use crate::proved_full::{Image, text_at};
+use crate::proved_tables;
 use darwinscope::swift::{
     FieldDescriptor, FieldRecord, FieldRecordIter, SwiftRuntime, TypeDescriptor, TypeKindBody,
 };
@@ -244,7 +245,7 @@ impl Checker {
             self.numbers.clear();
             self.numbers.resize(length + 2 * NUMBER_GUARD, NUMBER);
             let lent = &mut self.numbers[NUMBER_GUARD..NUMBER_GUARD + length];
-            let ours = proved::field_records(Image::of(input), base, count, size, start, lent)?;
+            let ours = proved_tables::field_records(Image::of(input), base, count, size, start, lent)?;
             same!(
                 rust,
                 ours,

@@ -4,7 +4,7 @@ use crate::check::{HEAD, runtime};
 use crate::input::Input;
 use crate::proved;
 use crate::proved_full::Image;
-use crate::{proved_archive, proved_full};
+use crate::{proved_archive, proved_full, proved_tables};
 use darwinscope::swift::{FieldRecordIter, TypeKindBody, VTableIter};
 use std::hint::black_box;
 use std::time::Instant;
@@ -349,7 +349,7 @@ fn methods(input: &Input, count: usize, steps: bool) -> Times {
     if !steps {
         return both(items, rust, || {
             starts.clone().fold(0usize, |s, va| {
-                let given = proved_full::methods(image, va, n, 0, &mut buffer);
+                let given = proved_tables::methods(image, va, n, 0, &mut buffer);
                 let [given, _] = given.expect("whole segments");
                 let (entries, _) = buffer[..3 * given as usize].as_chunks::<3>();
                 entries.iter().fold(s, |s, &e| s.wrapping_add(sum(e)))
@@ -428,7 +428,7 @@ fn records(input: &Input, count: usize, steps: bool) -> Times {
     if !steps {
         return both(items, rust, || {
             starts.clone().fold(0usize, |s, va| {
-                let given = proved_archive::field_records(image, va, n, 12, 0, &mut buffer);
+                let given = proved_tables::field_records(image, va, n, 12, 0, &mut buffer);
                 let [given, _] = given.expect("whole segments");
                 let (entries, _) = buffer[..4 * given as usize].as_chunks::<4>();
                 let each = entries.iter();

@@ -5,7 +5,7 @@ use crate::input::Input;
 use crate::proved;
 use crate::proved::{Answer, Listed, Refused};
 use crate::proved_full::Image;
-use crate::{proved_archive, proved_full};
+use crate::{proved_archive, proved_full, proved_tables};
 use darwinscope::swift::{SwiftRuntime, SwiftSection, lookup_field_name};
 use darwinscope::util::{read_cstr_at, vm_to_file_offset_in};
 
@@ -359,16 +359,19 @@ impl Checker {
                 of(proved_full::next_override(image, target, 0, 0)),
                 of(proved_full::next_default_override(image, target, 2, 1)),
                 of(proved_full::next_prespecialization(image, target, 2, 2)),
-                of(proved_full::methods(image, target, 2, 0, lent)),
+                of(proved_tables::methods(image, target, 2, 0, lent)),
                 of(proved_full::singleton_init(image, target)),
                 of(proved_full::singleton_pointer(image, target)),
                 of(proved_archive::next_field_record(image, target, 2, 12, 0)),
-                of(proved_archive::field_records(image, target, 2, 12, 0, lent)),
+                of(proved_tables::field_records(image, target, 2, 12, 0, lent)),
+                of(proved_tables::overrides(image, target, 2, 0, lent)),
+                of(proved_tables::default_overrides(image, target, 2, 0, lent)),
+                of(proved_tables::prespecializations(image, target, 2, 0, lent)),
                 of(proved_archive::field_offsets(image, target, 17, target)),
                 of(proved_archive::static_field_offsets(image, target, 17)),
             ];
             same!(
-                [Some(Refused(1)); 16],
+                [Some(Refused(1)); 19],
                 ours,
                 "{more} segment numbers too many for bodies, blocks, entries and fields"
             );

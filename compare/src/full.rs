@@ -5,6 +5,7 @@ use crate::input::Input;
 use crate::proved::Answer;
 use crate::proved_full as proved;
 use crate::proved_full::Image;
+use crate::proved_tables;
 use darwinscope::swift::{
     ClassBody, ContextDescriptorFlags, DefaultOverrideEntryIter, EnumBody, OverrideEntryIter,
     PrespecializationIter, StructBody, SwiftRuntime, TypeDescriptor, TypeKindBody, VTableIter,
@@ -507,7 +508,6 @@ impl Checker {
                     },
                     |next| proved::next_method(image, table.base, table.count, next),
                 )?;
-                self.methods(input, row.runtime(), table)?;
             }
             if let Some(h) = c.override_table_header {
                 let mut steps = row.override_table().ok_or("no override table")?;
@@ -560,6 +560,7 @@ impl Checker {
                 _ => continue,
             };
             self.made_up_table(input, row.runtime(), self.blocks[i][0], table)?;
+            self.whole_table(input, row.runtime(), self.blocks[i][0], table)?;
         }
         Ok(())
     }
@@ -651,46 +652,54 @@ impl Checker {
         Ok(())
     }
 
-    /// The methods in one call, into buffers of all sizes around the list's length, from the first entry and from others.
-    pub fn methods(
+    /// The entries of a table of a kind in one call, into buffers of all sizes around the list's length, from the first entry and from others.
+    pub fn whole_table(
         &mut self,
         input: &Input,
         rt: &SwiftRuntime<'_>,
+        kind: u64,
         table: Table,
     ) -> Result<(), String> {
         let image = Image::of(input);
         let Table { base, count } = table;
+        let width = match kind {
+            5 => 4,
+            7 => 2,
+            _ => 3,
+        };
         for start in [0, 1, count / 2, count.wrapping_sub(1), count, u32::MAX] {
             let mut list = std::mem::take(&mut self.list);
             list.clear();
-            let steps = VTableIter::new(rt, base, count).at(start);
-            for e in steps.take(LISTED) {
-                list.extend_from_slice(&[e.address, e.flags.0.into(), e.impl_va]);
-            }
-            let readable = list.len() / 3;
+            entries_from(rt, kind, table, start, &mut list);
+            let readable = list.len() / width;
             let at_end = u64::from(start) + readable as u64 >= u64::from(count);
-            let around = sizes(list.len(), 3).filter(|_| start == 0);
+            let around = sizes(list.len(), width).filter(|_| start == 0);
             // Of the entry after the last known one it was not asked whether it can be read.
             let most = if readable == LISTED && !at_end {
-                3 * LISTED
+                width * LISTED
             } else {
                 usize::MAX
             };
             for size in around.chain([list.len()]).filter(|&n| n <= most) {
-                let rust = listed(size, 3, readable, at_end);
+                let rust = listed(size, width, readable, at_end);
                 self.numbers.clear();
                 self.numbers.resize(size + 2 * NUMBER_GUARD, NUMBER);
                 let lent = &mut self.numbers[NUMBER_GUARD..NUMBER_GUARD + size];
-                let ours = proved::methods(image, base, count, start, lent)?;
+                let ours = match kind {
+                    4 => proved_tables::methods(image, base, count, start, lent)?,
+                    5 => proved_tables::overrides(image, base, count, start, lent)?,
+                    7 => proved_tables::prespecializations(image, base, count, start, lent)?,
+                    _ => proved_tables::default_overrides(image, base, count, start, lent)?,
+                };
                 same!(
                     rust,
                     ours,
-                    "methods of {count} from {start} on in {size} numbers"
+                    "entries of kind {kind} of {count} from {start} on in {size} numbers"
                 );
                 same!(
                     true,
-                    self.holds(&list[..3 * rust[0] as usize]),
-                    "numbers of the methods of {count} from {start} on in {size} numbers"
+                    self.holds(&list[..width * rust[0] as usize]),
+                    "numbers of the entries of kind {kind} of {count} from {start} on in {size} numbers"
                 );
                 self.counts.lists += 1;
             }
@@ -774,9 +783,7 @@ impl Checker {
             for kind in [4, 5, 7, 10] {
                 self.made_up_table(input, rt, kind, table)?;
             }
-            if i == 0 {
-                self.methods(input, rt, table)?;
-            }
+            self.whole_table(input, rt, [4, 5, 7, 10][i % 4], table)?;
             let mut body = NO_STRUCT;
             body.singleton_metadata_init_va = Some(va);
             body.singleton_metadata_pointer_va = Some(va);
@@ -785,6 +792,41 @@ impl Checker {
             self.singleton_pointer(input, &row, va)?;
         }
         self.made_up_offsets(input, input.targets.last().copied().unwrap_or(0))
+    }
+}
+
+/// The numbers of the Rust's entries of a table of a kind from one on, up to the first that it cannot read or the last that is asked for.
+fn entries_from(rt: &SwiftRuntime<'_>, kind: u64, table: Table, start: u32, list: &mut Vec<u64>) {
+    let Table { base, count } = table;
+    match kind {
+        4 => {
+            for e in VTableIter::new(rt, base, count).at(start).take(LISTED) {
+                list.extend_from_slice(&[e.address, e.flags.0.into(), e.impl_va]);
+            }
+        }
+        5 => {
+            for e in OverrideEntryIter::new(rt, base, count).at(start).take(LISTED) {
+                list.extend_from_slice(&[e.address, e.class_va, e.method_va, e.impl_va]);
+            }
+        }
+        7 => {
+            let mut address = base.wrapping_add(4 * u64::from(start));
+            for metadata in PrespecializationIter::new(rt, base, count)
+                .at(start)
+                .take(LISTED)
+            {
+                list.extend_from_slice(&[address, metadata]);
+                address = address.wrapping_add(4);
+            }
+        }
+        _ => {
+            for e in DefaultOverrideEntryIter::new(rt, base, count)
+                .at(start)
+                .take(LISTED)
+            {
+                list.extend_from_slice(&[e.address, e.method_va, e.impl_va]);
+            }
+        }
     }
 }
 

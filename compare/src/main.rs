@@ -13,6 +13,7 @@ mod plant;
 mod proved;
 mod proved_archive;
 mod proved_full;
+mod proved_tables;
 mod sample;
 mod sample_full;
 mod shrink;

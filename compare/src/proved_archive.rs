@@ -18,19 +18,6 @@ unsafe extern "C" {
         at: usize,
         out: &mut [u64; 8],
     ) -> u64;
-    fn hodrupec_field_records(
-        image: *const u8,
-        image_len: usize,
-        segments: *const u64,
-        segment_numbers: usize,
-        base_va: u64,
-        count: u32,
-        size: u32,
-        next: u32,
-        buffer: *mut u64,
-        buffer_len: usize,
-        out: &mut [u64; 2],
-    ) -> u64;
     fn hodrupec_field_offset(
         image: *const u8,
         image_len: usize,
@@ -46,38 +33,6 @@ pub fn next_field(fields: &[u8], vmaddr: u64, at: usize) -> Answer<[u64; 8]> {
     let mut out = [UNWRITTEN; 8];
     let status =
         unsafe { hodrupec_next_field(fields.as_ptr(), fields.len(), vmaddr, at, &mut out) };
-    if status != 0 {
-        return Err(refusal(status, &out));
-    }
-    Ok(out)
-}
-
-/// How many records from number `next` on are in the buffer, and why there are no more.
-#[inline]
-pub fn field_records(
-    image: Image<'_>,
-    base_va: u64,
-    count: u32,
-    size: u32,
-    next: u32,
-    buffer: &mut [u64],
-) -> Answer<[u64; 2]> {
-    let mut out = [UNWRITTEN; 2];
-    let status = unsafe {
-        hodrupec_field_records(
-            image.bytes.as_ptr(),
-            image.bytes.len(),
-            image.segments.as_ptr(),
-            image.segments.len(),
-            base_va,
-            count,
-            size,
-            next,
-            buffer.as_mut_ptr(),
-            buffer.len(),
-            &mut out,
-        )
-    };
     if status != 0 {
         return Err(refusal(status, &out));
     }
