@@ -1,7 +1,7 @@
 -- What the code finds of a table is its listing: where an entry lies (`no-place`, `a-place`), its numbers in the list (`set-put`, `set-more`), and
 -- entry after entry (`Going`). A listing is the entries that stepping gives, as numbers (`listing-listed`).
 use Prim.Native.Nat.{ℕ, zero, suc, _+_, _-_, _*_, _/_, _%_, _^_, _≤_, _<_}
-use native.Mathlib.Nat.{mul-le-mul-left, mul-div-le, mul-zero, mul-suc, mod-eq-of-lt, le-antisymm, div-le-self}
+use native.Mathlib.Nat.{mul-le-mul-left, mul-div-le, mul-zero, mul-suc, mod-eq-of-lt, le-antisymm, div-le-self, zero-add}
 use native.Mathlib.Decide.{decLe, decLt}
 use native.Mathlib.Numerals.{add-one}
 use native.Mathlib.Omega.{arith}
@@ -211,6 +211,42 @@ module _ (image segments : List ℕ) (l : Layout) (base count : ℕ) where
       let e : n + suc (r .entries) ≡ n + 1 + r .entries = omega arith in
       let f : t ++ (entryNumbers x ++ r .numbers) ≡ (t ++ entryNumbers x) ++ r .numbers = sym (append-assoc t (entryNumbers x) (r .numbers)) in
       cc
+
+  before-after : (x : Entry) (t : List ℕ) (n : ℕ) (r : Listing) → before x (after t n r) ≡ after (entryNumbers x ++ t) (suc n) r
+  before-after x t n r =
+      let e : suc (n + r .entries) ≡ suc n + r .entries = omega arith in
+      let f : entryNumbers x ++ (t ++ r .numbers) ≡ (entryNumbers x ++ t) ++ r .numbers = sym (append-assoc (entryNumbers x) t (r .numbers)) in
+      cc
+
+  none-listed : (k : ℕ) → left 0 k .numbers ≡ []
+  unfolding listing
+  none-listed k = refl
+
+  -- where the list was full, a listing from the entry after its last gives the others
+  pub going-on : (n m k : ℕ) → left n k .stop ≡ 1 → left (n + m) k ≡ after (left n k .numbers) n (left m (n + k))
+  going-on zero m k e =
+      let no-numbers = none-listed k in
+      rw (no-numbers, zero-add m, zero-add k) (after-none (left m k))
+  going-on (suc n) m k e = go (going-on n m (k + 1)) (decLt k count)
+    where
+      never : (s : ℕ) → left (suc n) k ≡ ended s → (s ≡ 1 → ⊥) → left (suc n + m) k ≡ after (left (suc n) k .numbers) (suc n) (left m (suc n + k))
+      never s f z = absurd (z (sym (ap (λ (r : Listing). r .stop) f) ∙ e))
+
+      given : (left n (k + 1) .stop ≡ 1 → left (n + m) (k + 1) ≡ after (left n (k + 1) .numbers) n (left m (n + (k + 1)))) → k < count
+          → (y : Option Entry) → y ≡ run image segments (entryAt l base k) → left (suc n + m) k ≡ after (left (suc n) k .numbers) (suc n) (left m (suc n + k))
+      given ih h none f = never 2 (listing-none n k h f) (λ z. omega arith)
+      given ih h (some x) f =
+          let first : left (suc n) k ≡ before x (left n (k + 1)) = listing-some n k x h f in
+          let rest = ih (sym (ap (λ (r : Listing). r .stop) first) ∙ e) in
+          let next : n + (k + 1) ≡ suc n + k = omega arith in
+          let sum : suc n + m ≡ suc (n + m) = omega arith in
+          ap (λ (j : ℕ). left j k) sum ∙ listing-some (n + m) k x h f ∙ ap (before x) rest ∙ before-after x (left n (k + 1) .numbers) n _
+          ∙ rw (ap (λ (r : Listing). r .numbers) first, next)
+
+      go : (left n (k + 1) .stop ≡ 1 → left (n + m) (k + 1) ≡ after (left n (k + 1) .numbers) n (left m (n + (k + 1)))) → Dec (k < count)
+          → left (suc n + m) k ≡ after (left (suc n) k .numbers) (suc n) (left m (suc n + k))
+      go ih (yes h) = given ih h (run image segments (entryAt l base k)) refl
+      go ih (no h) = never 0 (listing-end (suc n) k (omega arith)) (λ z. omega arith)
 
   module _ (b₀ : List ℕ) (k₀ : ℕ) where
     abbrev most : ℕ
