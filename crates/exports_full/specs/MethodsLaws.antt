@@ -14,7 +14,7 @@ use Rattle.util.specs.BufferLaws.{put-none, put-then, put-length}
 use Rattle.util.specs.Mapping.{withMapping, Mapped}
 use Rattle.util.specs.declared.segment.Mapping.{Mapping}
 use Rattle.runtime.specs.Reads.{run}
-use Rattle.vtable.specs.Entries.{method, Entry, entryAt, Step, moved, entryStep, methodStep}
+use Rattle.vtable.specs.Entries.{method, Entry, entryAt, Step, moved, entryStep}
 use Rattle.vtable.specs.EntriesLaws.{step-gives, step-mapped}
 use Rattle.vtable.specs.ListLaws.{listed}
 use Rattle.vtable.specs.declared.cursor.EntryCursor.{EntryCursor}
