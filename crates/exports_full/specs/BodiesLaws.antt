@@ -1,5 +1,5 @@
 -- What the case of a class's two words says of its numbers.
-use mathlib.Core.Path.{_≡_, ap, sym}
+use mathlib.Core.Path.{_≡_}
 use mathlib.Core.Option.{some}
 use Rattle.typedescriptor.specs.Body.{ofClass, sizesOf, classOf}
 use Rattle.typedescriptor.specs.declared.body.ClassBody.{ClassBody}

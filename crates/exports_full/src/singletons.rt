@@ -1,5 +1,4 @@
 // The singleton records at an address.
-ghost use mathlib.Core.Path.{_≡_};
 ghost use Rattle.refusal.specs.Refusal.{answered, mapped};
 ghost use Rattle.runtime.specs.Reads.{run};
 ghost use Rattle.typedescriptor.specs.Singleton.{singletonInit, singletonPointer};
