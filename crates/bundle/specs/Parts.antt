@@ -7,7 +7,7 @@ use lib.ListN.{length, take, drop}
 use lib.Dec.{leb}
 use Rattle.util.specs.Cstr.{partOf, place}
 use Rattle.util.specs.LittleEndian.{littleEndian}
-use Rattle.util.specs.Segments.{Segment}
+use Rattle.segment.specs.Segments.{Segment}
 use Rattle.bundle.specs.declared.open.Part.{Part}
 use Rattle.bundle.specs.declared.open.Layout.{Layout}
 use Rattle.bundle.specs.declared.parts.SegmentRead.{SegmentRead}

@@ -12,7 +12,7 @@ use borrow.Author.Tests.{le-leb, lt-leb}
 use Rattle.util.specs.LittleEndian.{littleEndian}
 use Rattle.util.specs.Buffer.{atStart}
 use Rattle.util.specs.CstrLaws.{part-in}
-use Rattle.util.specs.Segments.{Segment, segmentsOf}
+use Rattle.segment.specs.Segments.{Segment, segmentsOf}
 use Rattle.bundle.specs.LayoutLaws.{Fit}
 use Rattle.bundle.specs.Parts.{segmentBytes, u64In, segmentIn, numbers, segmentNumbers, segmentNumbersMost, listedNumbers}
 use Rattle.bundle.specs.declared.open.Layout.{Layout}

@@ -6,7 +6,7 @@ use mathlib.Core.List.{List, [], _∷_, _++_}
 use mathlib.Core.Bool.{true}
 use mathlib.Core.Option.{some}
 use lib.ListN.{length}
-use Rattle.util.specs.Segments.{segmentsOf, fileOffset}
+use Rattle.segment.specs.Segments.{segmentsOf, fileOffset}
 use Rattle.util.specs.LittleEndian.{unsignedIn}
 use Rattle.runtime.specs.Reads.{run, bind, path, also, bytesRange}
 use Rattle.runtime.specs.Bytes.{bytesRead}

@@ -7,7 +7,7 @@ use mathlib.Core.Bool.{Bool, true, false, cond, _&&_}
 use mathlib.Core.Option.{Option, some, none}
 use lib.ListN.{take, drop}
 use lib.Dec.{leb}
-use Rattle.util.specs.Segments.{segmentsOf, fileOffset}
+use Rattle.segment.specs.Segments.{segmentsOf, fileOffset}
 use Rattle.runtime.specs.Reads.{Reads, done, nothing, run, Range, bytesRange, also, path}
 use Rattle.runtime.specs.ReadsLaws.{run-bind, path-bind}
 use Rattle.runtime.specs.PathLaws.{path-bytes, bytes-read}

@@ -2,7 +2,7 @@ ghost use mathlib.Core.Path.{_≡_};
 ghost use lib.ListN.{length};
 ghost use Rattle.refusal.specs.Refusal.{answered, mapped, answerOf};
 ghost use Rattle.util.specs.Buffer.{overwritten};
-ghost use Rattle.util.specs.Segments.{fileOffset, segmentsOf};
+ghost use Rattle.segment.specs.Segments.{fileOffset, segmentsOf};
 ghost use Rattle.util.specs.Cstr.{textAt};
 ghost use Rattle.runtime.specs.FieldName.{fieldName};
 ghost use Rattle.typedescriptor.specs.Slots.{nextRow};
@@ -16,9 +16,9 @@ use parent::ParentChain;
 use parent::QualifiedName;
 use refusal::Refusal;
 use runtime::FieldName;
+use segment::FileOffset;
 use typedescriptor::Row;
 use typedescriptor::TypeIter;
-use util::FileOffset;
 use util::Text;
 
 // The status of a call that answers.
@@ -37,7 +37,7 @@ pub extern "C" fn hodrupec_file_offset(segments: &[u64], vmaddr: u64, out: &mut 
     if segments.len() % 4 != 0 {
         return refusal::number(Refusal::RaggedSegments);
     }
-    match util::vm_to_file_offset_in(segments, vmaddr) {
+    match segment::vm_to_file_offset_in(segments, vmaddr) {
         FileOffset::At(offset) => {
             *out = [THERE, offset];
             ANSWERED

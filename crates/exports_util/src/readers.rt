@@ -5,8 +5,8 @@ ghost use Rattle.util.specs.Pointer.{modulo};
 ghost use Rattle.leb128.specs.Leb128.{uleb128, sleb128};
 ghost use Rattle.util.specs.BigEndian.{bigAt};
 ghost use Rattle.util.specs.Cstr.{fixedText};
-ghost use Rattle.util.specs.Segments.{segmentsOf};
-ghost use Rattle.util.specs.VmAddress.{vmAddress};
+ghost use Rattle.segment.specs.Segments.{segmentsOf};
+ghost use Rattle.segment.specs.VmAddress.{vmAddress};
 ghost use Rattle.refusal.specs.Refusal.{answered, mapped};
 ghost use Rattle.listing.specs.Calls.{guarded};
 ghost use Rattle.exports.specs.Numbers.{Tells, valueNumbers};
@@ -14,9 +14,9 @@ ghost use Rattle.exports_util.specs.Readers.{ulebNumbers, slebNumbers, l
 use leb128::Sleb128;
 use leb128::Uleb128;
 use refusal::Refusal;
+use segment::VmAddress;
 use util::ReadU32;
 use util::ReadU64;
-use util::VmAddress;
 
 fn wide(n: u32) -> u64
     ensures { λ r. ⌜ r ≡ n ⌝ }
@@ -122,7 +122,7 @@ pub extern "C" fn hodrupec_vm_address(segments: &[u64], offset: u64, out: &mut [
     if segments.len() % 4 != 0 {
         return refusal::number(Refusal::RaggedSegments);
     }
-    match util::file_offset_to_vm_in(segments, offset) {
+    match segment::file_offset_to_vm_in(segments, offset) {
         VmAddress::At(address) => {
             *out = [1, address];
             0

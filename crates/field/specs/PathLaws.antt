@@ -5,7 +5,7 @@ use mathlib.Core.List.{List, [], _∷_, _++_}
 use mathlib.Core.Option.{Option, some, none}
 use Rattle.util.specs.LittleEndian.{littleEndian, bytesAt, littleAt, twosComplement, signedAt, unsignedIn, signedIn}
 use Rattle.util.specs.Pointer.{relativePointer, relativeAddress}
-use Rattle.util.specs.Segments.{segmentsOf, decides, inFile, fileOffset}
+use Rattle.segment.specs.Segments.{segmentsOf, decides, inFile, fileOffset}
 use Rattle.context.specs.Field.{fieldKind}
 use Rattle.context.specs.declared.field.FieldDescriptorKind.{FieldDescriptorKind}
 use Rattle.runtime.specs.Reads.{bind, within, bytesPlace, run, path}

@@ -7,8 +7,8 @@ use mathlib.Core.List.{List, [], _∷_}
 use mathlib.Core.Option.{Option, some, none, Option·map}
 use lib.ListN.{getElem?}
 use borrow.Author.Tests.{le-leb, lt-leb}
-use Rattle.util.specs.Mapping.{withMapping, Mapped}
-use Rattle.util.specs.declared.segment.Mapping.{Mapping}
+use Rattle.segment.specs.Mapping.{withMapping, Mapped}
+use Rattle.segment.specs.declared.segment.Mapping.{Mapping}
 use Rattle.runtime.specs.Reads.{run}
 use Rattle.runtime.specs.ReadsLaws.{run-bind}
 use Rattle.vtable.specs.declared.cursor.EntryCursor.{EntryCursor}

@@ -2,14 +2,14 @@
 ghost use mathlib.Core.Path.{_≡_};
 ghost use Prim.Native.Nat.{_+_, _^_, _<_};
 ghost use Rattle.util.specs.Cstr.{textOf};
-ghost use Rattle.util.specs.Mapping.{withMapping, Mapped};
+ghost use Rattle.segment.specs.Mapping.{withMapping, Mapped};
 ghost use Rattle.runtime.specs.Reads.{textPlace};
 ghost use Rattle.runtime.specs.FieldName.{fieldName, fieldNameOf};
 ghost use Rattle.vtable.specs.Entries.{packed, entryOf};
 ghost use Rattle.field.specs.Records.{recordWords, recordStep, ofRecord, recordStepOf};
 use runtime::FieldName;
-use util::Around;
-use util::Mapping;
+use segment::Around;
+use segment::Mapping;
 use util::Text;
 
 // How many bytes of a record are read, whatever the record size is.
@@ -60,7 +60,7 @@ impl FieldRecordIter {
     pub fn locate(self, segments: &[u64]) -> Mapping
         ensures { λ r. ⌜ Mapped (now (segments .entry)) r ⌝ }
     {
-        match util::locate(segments, self.base_va) {
+        match segment::locate(segments, self.base_va) {
             Around::Mapping(mapping) => mapping,
             Around::Nothing => Mapping::empty(),
         }

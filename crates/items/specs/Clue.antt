@@ -11,7 +11,7 @@ use Rattle.utf8.specs.Table.{table}
 use Rattle.utf8.specs.Text.{following, goesOn, untilNul, textLength}
 use Rattle.util.specs.LittleEndian.{littleEndian, bytesAt, littleAt, twosComplement, signedAt, unsignedIn, signedIn}
 use Rattle.util.specs.Pointer.{relativePointer, relativeAddress}
-use Rattle.util.specs.Segments.{segmentsOf, fileOffset, decides, inFile}
+use Rattle.segment.specs.Segments.{segmentsOf, fileOffset, decides, inFile}
 use Rattle.util.specs.Cstr.{place, textAt}
 use Rattle.runtime.specs.Reads.{within, bytesPlace, textOffset, run, extent, path, bind, All, Clear}
 use Rattle.typedescriptor.specs.Row.{rowName, descriptor}

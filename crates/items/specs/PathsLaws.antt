@@ -9,7 +9,7 @@ use mathlib.Core.Option.{Option, some, none, Option·getD}
 use borrow.Author.Tests.{lt-ltb, le-ltb}
 use Rattle.util.specs.LittleEndian.{signedIn}
 use Rattle.util.specs.Pointer.{relativeAddress}
-use Rattle.util.specs.Segments.{segmentsOf, fileOffset}
+use Rattle.segment.specs.Segments.{segmentsOf, fileOffset}
 use Rattle.runtime.specs.Reads.{Reads, done, bytes, run, Range, bytesRange, withNul, path, bind}
 use Rattle.runtime.specs.ReadsLaws.{run-bind, path-bind}
 use Rattle.runtime.specs.PathLaws.{bytes-read}

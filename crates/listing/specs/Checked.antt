@@ -12,7 +12,7 @@ use borrow.Author.Tests.{le-leb, lt-leb}
 use Rattle.utf8.specs.Table.{table}
 use Rattle.utf8.specs.Text.{following, goesOn, wellFormed, untilNul, textLength}
 use Rattle.util.specs.Pointer.{relativePointer}
-use Rattle.util.specs.Segments.{segmentsOf, fileOffset, decides, inFile}
+use Rattle.segment.specs.Segments.{segmentsOf, fileOffset, decides, inFile}
 use Rattle.util.specs.Cstr.{place, textAt}
 use Rattle.classtrailers.specs.Checked as Blocks
 

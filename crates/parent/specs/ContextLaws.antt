@@ -13,9 +13,9 @@ use Rattle.util.specs.Cstr.{place, textOf}
 use Rattle.util.specs.declared.cstr.Text.{Text}
 use Rattle.runtime.specs.Reads.{done, bytes, run, textPlace}
 use Rattle.runtime.specs.Bytes.{bytesRead}
-use Rattle.util.specs.Segments.{segmentsOf, fileOffset}
-use Rattle.util.specs.Mapping.{withMapping, Mapped}
-use Rattle.util.specs.declared.segment.Mapping.{Mapping}
+use Rattle.segment.specs.Segments.{segmentsOf, fileOffset}
+use Rattle.segment.specs.Mapping.{withMapping, Mapped}
+use Rattle.segment.specs.declared.segment.Mapping.{Mapping}
 use Rattle.runtime.specs.CallsLaws.{text-within, bytes-nowhere, read-nothing, run-bytes, run-no-bytes, run-text, run-no-text, run-mapped}
 use Rattle.context.specs.Context.{contextKind, hasName}
 use Rattle.parent.specs.Context.{Name, Header, headed, header, slotName, nameAt, name, contextName, Context, withName, contextRead, nameRead, Inside}

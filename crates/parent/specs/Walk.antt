@@ -10,8 +10,8 @@ use lib.Dec.{leb, ltb}
 use Rattle.refusal.specs.Refusal.{Guarded, answered, refused, refusalNumber}
 use Rattle.util.specs.Buffer.{atStart}
 use Rattle.util.specs.Cstr.{place, partOf}
-use Rattle.util.specs.Mapping.{Mapped}
-use Rattle.util.specs.declared.segment.Around.{Around}
+use Rattle.segment.specs.Mapping.{Mapped}
+use Rattle.segment.specs.declared.segment.Around.{Around}
 use Rattle.parent.specs.Context.{contextRead}
 use Rattle.parent.specs.Chain.{chain}
 use Rattle.parent.specs.Name.{hops}

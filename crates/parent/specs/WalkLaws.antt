@@ -22,8 +22,8 @@ use Rattle.parent.specs.Name.{hop, hops}
 use Rattle.parent.specs.NameLaws.{onward, measured, hops-written, at-start, from-start}
 use Rattle.parent.specs.Walk.{ContextLocated, deeper, before, hopsAnswer, filled, gathered, Block, Last}
 use Rattle.parent.specs.ContextLaws.{nowhere}
-use Rattle.util.specs.Mapping.{Located}
-use Rattle.util.specs.declared.segment.Around.{Around}
+use Rattle.segment.specs.Mapping.{Located}
+use Rattle.segment.specs.declared.segment.Around.{Around}
 
 -- ---- the names
 

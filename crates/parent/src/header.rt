@@ -1,12 +1,12 @@
 ghost use mathlib.Core.Path.{_≡_};
-ghost use Rattle.util.specs.Mapping.{withMapping};
+ghost use Rattle.segment.specs.Mapping.{withMapping};
 ghost use Rattle.runtime.specs.Reads.{run};
 ghost use Rattle.parent.specs.Walk.{ContextLocated};
 ghost use Rattle.parent.specs.Context.{header, headerOf, contextRead, contextOf, nameAt, nameRead, Inside};
 ghost use Rattle.context.specs.Context.{contextKind, hasName};
 use context::ContextDescriptorFlags;
-use util::Around;
-use util::Mapping;
+use segment::Around;
+use segment::Mapping;
 use util::Text;
 
 // One context of a chain: its address, its flags, its own parent's address (0 where it has none), and its name if it has one.
@@ -35,7 +35,7 @@ pub fn locate_context(segments: &[u64], descriptor_va: u64) -> Around
     if descriptor_va == 0 {
         return Around::Nothing;
     }
-    util::locate(segments, descriptor_va)
+    segment::locate(segments, descriptor_va)
 }
 
 // The header at an address. There is none at address 0, nor at or above 2^64 - 4.

@@ -7,7 +7,7 @@ ghost use Rattle.parent.specs.Walk.{gathered, Walked, hopsAnswer, hopsOf
 ghost use Rattle.parent.specs.Name.{nameAnswer, lengthOf};
 ghost use Rattle.typedescriptor.specs.Row.{rowOf};
 ghost use Rattle.util.specs.Buffer.{Put, overwritten};
-ghost use Rattle.util.specs.Mapping.{Mapped};
+ghost use Rattle.segment.specs.Mapping.{Mapped};
 use crate::chain::CONTEXTS;
 use crate::header::HeaderRead;
 use crate::header::has_name;
@@ -15,9 +15,9 @@ use crate::header::locate_context;
 use crate::header::read_context_name;
 use crate::header::read_header;
 use refusal::Refusal;
+use segment::Around;
+use segment::Mapping;
 use typedescriptor::Row;
-use util::Around;
-use util::Mapping;
 use util::Text;
 
 pub enum Hops {

@@ -11,9 +11,9 @@ use lib.ListN.{length, take, drop, length-take, length-drop}
 use borrow.Author.Tests.{le-leb, lt-leb, lt-ltb, le-ltb, eq-eqb, ne-eqb}
 use Rattle.utf8.specs.Text.{untilNul, textLength}
 use Rattle.utf8.specs.Utf8Laws.{text-bytes, text-length-le}
-use Rattle.util.specs.Segments.{segmentsOf, fileOffset}
-use Rattle.util.specs.Mapping.{withMapping, Mapped}
-use Rattle.util.specs.declared.segment.Mapping.{Mapping}
+use Rattle.segment.specs.Segments.{segmentsOf, fileOffset}
+use Rattle.segment.specs.Mapping.{withMapping, Mapped}
+use Rattle.segment.specs.declared.segment.Mapping.{Mapping}
 use Rattle.util.specs.Cstr.{Place, place, textAt, partOf}
 use Rattle.util.specs.CstrLaws.{part-in}
 use Rattle.runtime.specs.Reads.{Reads, done, nothing, bytes, text, andThen, within, bytesPlace, textOffset, textPlace, run}

@@ -12,7 +12,7 @@ use lib.ListN.{length, take, drop, length-drop}
 use borrow.Author.Tests.{le-leb, leb-true, lt-leb, eq-eqb, ne-eqb}
 use Rattle.utf8.specs.Text.{untilNul, textLength}
 use Rattle.utf8.specs.Utf8Laws.{text-length}
-use Rattle.util.specs.Segments.{segmentsOf, fileOffset}
+use Rattle.segment.specs.Segments.{segmentsOf, fileOffset}
 use Rattle.util.specs.Cstr.{Place, place, textAt}
 use Rattle.runtime.specs.Reads.{Reads, done, nothing, bytes, text, andThen, bytesPlace, within, textOffset, run, Range, extent, textRange, withNul, path, Clear, endsBy}
 

@@ -8,7 +8,7 @@ use mathlib.Core.Bool.{Bool, true, false, cond, _&&_}
 use mathlib.Core.Option.{Option, some, none}
 use lib.ListN.{length, take, drop}
 use lib.Dec.{leb, eqb}
-use Rattle.util.specs.Segments.{segmentsOf, fileOffset}
+use Rattle.segment.specs.Segments.{segmentsOf, fileOffset}
 use Rattle.utf8.specs.Text.{untilNul}
 use Rattle.util.specs.Cstr.{Place, textAt}
 

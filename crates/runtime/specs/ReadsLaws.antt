@@ -13,7 +13,7 @@ use lib.ListN.{length, take, drop, length-take, length-drop}
 use lib.Seq.{take-take}
 use borrow.Author.Tests.{le-leb, lt-leb}
 use Rattle.utf8.specs.Text.{untilNul, wellFormed, textLength}
-use Rattle.util.specs.Segments.{segmentsOf, fileOffset}
+use Rattle.segment.specs.Segments.{segmentsOf, fileOffset}
 use Rattle.util.specs.Cstr.{Place, place, textAt}
 use Rattle.runtime.specs.Reads.{Reads, done, nothing, bytes, text, andThen, within, bytesPlace, textOffset, run, Range, extent, bytesRange, textRange, also, path, bind, All, every, Clear, endsBy}
 

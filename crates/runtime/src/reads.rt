@@ -1,11 +1,11 @@
 ghost use mathlib.Core.Path.{_≡_};
-ghost use Rattle.util.specs.Segments.{fileOffset, segmentsOf, offsetOf};
-ghost use Rattle.util.specs.Mapping.{withMapping};
+ghost use Rattle.segment.specs.Segments.{fileOffset, segmentsOf, offsetOf};
+ghost use Rattle.segment.specs.Mapping.{withMapping};
 ghost use Rattle.util.specs.Cstr.{textOf};
 ghost use Rattle.runtime.specs.Reads.{bytesPlace, textPlace};
 ghost use Rattle.runtime.specs.Bytes.{bytesPlaceOf, bytesRead};
-use util::FileOffset;
-use util::Mapping;
+use segment::FileOffset;
+use segment::Mapping;
 use util::Text;
 
 // Where bytes lie in the image.
@@ -17,7 +17,7 @@ pub enum Bytes {
 pub fn vm_to_file_offset(segments: &[u64], vmaddr: u64) -> FileOffset
     ensures { λ r. ⌜ offsetOf r ≡ fileOffset (segmentsOf (now (segments .entry))) vmaddr ⌝ }
 {
-    util::vm_to_file_offset_in(segments, vmaddr)
+    segment::vm_to_file_offset_in(segments, vmaddr)
 }
 
 // Where `len` bytes at an address lie. Only the first address is translated: the rest follows in the image, which alone bounds it.
@@ -30,7 +30,7 @@ fn find_bytes_near(
 ) -> Bytes
     ensures { λ r. ⌜ bytesPlaceOf r ≡ bytesPlace (now (image .entry)) (withMapping mapping (now (segments .entry))) vmaddr len ⌝ }
 {
-    match util::vm_to_file_offset_near(segments, mapping, vmaddr) {
+    match segment::vm_to_file_offset_near(segments, mapping, vmaddr) {
         FileOffset::At(offset) => {
             let off = offset as usize;
             if image.len() < off {
@@ -68,7 +68,7 @@ pub fn read_cstr_near(image: &[u8], segments: &[u64], mapping: Mapping, vmaddr: 
     if vmaddr == 0 {
         return Text::Nothing;
     }
-    match util::vm_to_file_offset_near(segments, mapping, vmaddr) {
+    match segment::vm_to_file_offset_near(segments, mapping, vmaddr) {
         FileOffset::At(offset) => {
             let off = offset as usize;
             // The answer's place is `off`. It is given as `off` again, since the answer's own copy takes longer: docs/DECISIONS.md, "Speed".

@@ -7,8 +7,8 @@ use mathlib.Core.Option.{Option, some, none}
 use lib.ListN.{length, take, drop}
 use lib.Dec.{leb, ltb}
 use Rattle.refusal.specs.Refusal.{Guarded, answered, refused, refusalNumber}
-use Rattle.util.specs.Mapping.{Has}
-use Rattle.util.specs.declared.segment.Mapping.{Mapping}
+use Rattle.segment.specs.Mapping.{Has}
+use Rattle.segment.specs.declared.segment.Mapping.{Mapping}
 use Rattle.runtime.specs.Reads.{bytesPlace}
 use Rattle.vtable.specs.Entries.{Word, number, pointer, Layout, Entry, Step, entryStep}
 use Rattle.vtable.specs.declared.cursor.EntryCursor.{EntryCursor}

@@ -18,10 +18,10 @@ use Rattle.util.specs.Cstr.{place, partOf}
 use Rattle.util.specs.CstrLaws.{part-in}
 use Rattle.util.specs.Buffer.{pasted, atStart, overwritten, Put}
 use Rattle.util.specs.BufferLaws.{put-then, put-length}
-use Rattle.util.specs.Segments.{segmentsOf, fileOffset}
-use Rattle.util.specs.Mapping.{Located}
-use Rattle.util.specs.declared.segment.Mapping.{Mapping}
-use Rattle.util.specs.declared.segment.Around.{Around}
+use Rattle.segment.specs.Segments.{segmentsOf, fileOffset}
+use Rattle.segment.specs.Mapping.{Located}
+use Rattle.segment.specs.declared.segment.Mapping.{Mapping}
+use Rattle.segment.specs.declared.segment.Around.{Around}
 use Rattle.refusal.specs.Refusal.{Guarded, answered, refused, mapped, answerOf}
 use Rattle.listing.specs.Calls.{guarded}
 use Rattle.listing.specs.CallsLaws.{ragged, whole}

@@ -2,8 +2,8 @@
 ghost use mathlib.Core.Path.{_≡_};
 ghost use Prim.Native.Nat.{_≤_};
 ghost use Rattle.tables.specs.Tables.{Within, Opens};
-use util::Around;
-use util::Mapping;
+use segment::Around;
+use segment::Mapping;
 
 // The entries that start at `length` addresses from `start` on; the first of these addresses is at `place` of the image.
 pub struct Window {
@@ -60,7 +60,7 @@ pub fn window_at(image: &[u8], segments: &[u64], address: u64, size: usize) -> W
     requires { ⌜ (4 ≤ size) × (size ≤ 12) ⌝ }
     ensures { λ r. ⌜ Opens (now (image .entry)) (now (segments .entry)) size r ⌝ }
 {
-    match util::locate(segments, address) {
+    match segment::locate(segments, address) {
         Around::Mapping(mapping) => window_in(image, mapping, size),
         Around::Nothing => closed(),
     }

@@ -23,11 +23,11 @@ use parent::ParentContext;
 use parent::QualifiedName;
 use refusal::Refusal;
 use runtime::FieldName;
+use segment::FileOffset;
 use test_lines::Count;
 use test_lines::Number;
 use typedescriptor::Row;
 use typedescriptor::TypeIter;
-use util::FileOffset;
 use util::Text;
 
 // The lists of numbers in a line.

@@ -5,9 +5,9 @@
 // hexadecimal; `-` stands for no bytes. tests/vectors.py writes the lines and the answers.
 use runtime::Bytes;
 use runtime::FieldName;
+use segment::FileOffset;
 use test_lines::Count;
 use test_lines::Number;
-use util::FileOffset;
 use util::ReadI32;
 use util::ReadU16;
 use util::ReadU32;
@@ -138,7 +138,7 @@ fn offset_line(offset: FileOffset) {
 }
 
 fn vm_to_file_offset_in(segments: &[u64], vmaddr: u64) {
-    offset_line(util::vm_to_file_offset_in(segments, vmaddr));
+    offset_line(segment::vm_to_file_offset_in(segments, vmaddr));
 }
 
 fn vm_to_file_offset(segments: &[u64], vmaddr: u64) {

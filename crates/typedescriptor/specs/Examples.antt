@@ -6,7 +6,7 @@ use mathlib.Core.Bool.{true, false}
 use mathlib.Core.Option.{some, none}
 use Rattle.util.specs.LittleEndian.{littleEndian, bytesAt, littleAt, twosComplement, signedAt, unsignedIn, signedIn}
 use Rattle.util.specs.Pointer.{relativePointer, relativeAddress}
-use Rattle.util.specs.Segments.{segmentsOf, fileOffset, decides, inFile}
+use Rattle.segment.specs.Segments.{segmentsOf, fileOffset, decides, inFile}
 use Rattle.context.specs.Context.{kindOf}
 use Rattle.classtrailers.specs.Blocks.{rowAt, recordAt, endAt, passed, reached, blockIn, block}
 use Rattle.runtime.specs.Reads.{within, bytesPlace, run, bind}

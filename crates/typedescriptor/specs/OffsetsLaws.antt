@@ -11,7 +11,7 @@ use lib.ListN.{length, take, drop, getElem?}
 use lib.Dec.{ltb}
 use lib.Seq.{take-take, drop-drop}
 use borrow.Author.Tests.{ltb-true, lt-ltb, le-ltb, le-leb, lt-leb}
-use Rattle.util.specs.Segments.{segmentsOf, fileOffset}
+use Rattle.segment.specs.Segments.{segmentsOf, fileOffset}
 use Rattle.util.specs.LittleEndian.{littleEndian, bytesAt, littleAt}
 use Rattle.runtime.specs.Reads.{Reads, done, nothing, bytes, bind, andThen, bytesPlace, run, Range, bytesRange, path}
 use Rattle.runtime.specs.ReadsLaws.{run-bind, path-bind}

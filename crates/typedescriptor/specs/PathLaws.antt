@@ -11,7 +11,7 @@ use lib.ListN.{length, take, drop}
 use lib.Dec.{ltb, eqb}
 use borrow.Author.Tests.{le-leb, lt-leb, le-ltb}
 use Rattle.utf8.specs.Text.{untilNul}
-use Rattle.util.specs.Segments.{segmentsOf, fileOffset}
+use Rattle.segment.specs.Segments.{segmentsOf, fileOffset}
 use Rattle.util.specs.LittleEndian.{unsignedIn, signedIn}
 use Rattle.util.specs.Pointer.{relativeAddress}
 use Rattle.util.specs.Cstr.{Place, textAt}

@@ -7,11 +7,5 @@ pub mod Cstr
 pub mod CstrLaws
 pub mod LittleEndian
 pub mod LittleEndianLaws
-pub mod Mapping
-pub mod MappingLaws
 pub mod Pointer
 pub mod PointerLaws
-pub mod Segments
-pub mod SegmentsLaws
-pub mod VmAddress
-pub mod VmAddressLaws

@@ -11,8 +11,8 @@ use lib.ListN.{length, length-take, length-drop}
 use borrow.Author.Tests.{le-leb, lt-leb, lt-ltb, le-ltb}
 use Rattle.util.specs.LittleEndian.{signedIn}
 use Rattle.util.specs.Pointer.{relativeAddress}
-use Rattle.util.specs.Mapping.{withMapping, Mapped}
-use Rattle.util.specs.declared.segment.Mapping.{Mapping}
+use Rattle.segment.specs.Mapping.{withMapping, Mapped}
+use Rattle.segment.specs.declared.segment.Mapping.{Mapping}
 use Rattle.runtime.specs.Reads.{Reads, bytesPlace, run, done}
 use Rattle.runtime.specs.Bytes.{bytesFrom, bytesRead}
 use Rattle.runtime.specs.CallsLaws.{bytes-within, run-bytes, run-no-bytes, run-mapped}

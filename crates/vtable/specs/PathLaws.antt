@@ -9,7 +9,7 @@ use lib.ListN.{length, take, drop}
 use borrow.Author.Tests.{le-leb, lt-leb, lt-ltb, le-ltb}
 use Rattle.util.specs.LittleEndian.{littleEndian, bytesAt, littleAt, twosComplement, signedAt, unsignedIn, signedIn}
 use Rattle.util.specs.Pointer.{relativePointer, relativeAddress}
-use Rattle.util.specs.Segments.{segmentsOf, decides, inFile, fileOffset}
+use Rattle.segment.specs.Segments.{segmentsOf, decides, inFile, fileOffset}
 use Rattle.runtime.specs.Reads.{Reads, done, bytes, bind, andThen, within, bytesPlace, run, Range, bytesRange, path}
 use Rattle.runtime.specs.ReadsLaws.{run-bind, path-bind}
 use Rattle.runtime.specs.PathLaws.{path-bytes, bytes-read}

@@ -1,7 +1,7 @@
 // Walks over the entries of a table: by value, each step hands the walk back.
 ghost use mathlib.Core.Path.{_≡_};
 ghost use Prim.Native.Nat.{_+_, _^_, _<_};
-ghost use Rattle.util.specs.Mapping.{withMapping, Mapped};
+ghost use Rattle.segment.specs.Mapping.{withMapping, Mapped};
 ghost use Rattle.vtable.specs.Entries.{method, override, defaultOverride, prespecialization, entryOf, ofMethod, ofOverride, ofDefaultOverride, ofPrespecialization, start, entryStep, methodStep, overrideStep, defaultOverrideStep, prespecializationStep};
 use crate::entry::DEFAULT_OVERRIDE_SIZE;
 use crate::entry::DefaultOverrideEntry;
@@ -13,8 +13,8 @@ use crate::entry::PrespecializationEntry;
 use crate::entry::VTableEntry;
 use crate::entry::entry_address;
 use crate::entry::entry_bytes;
-use util::Around;
-use util::Mapping;
+use segment::Around;
+use segment::Mapping;
 
 // The table's address, how many entries it has, and the number of the next one.
 pub struct EntryCursor {
@@ -127,7 +127,7 @@ impl EntryCursor {
     pub fn locate(self, segments: &[u64]) -> Mapping
         ensures { λ r. ⌜ Mapped (now (segments .entry)) r ⌝ }
     {
-        match util::locate(segments, self.base_va) {
+        match segment::locate(segments, self.base_va) {
             Around::Mapping(mapping) => mapping,
             Around::Nothing => Mapping::empty(),
         }

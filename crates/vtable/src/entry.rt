@@ -1,8 +1,8 @@
 ghost use mathlib.Core.Path.{_≡_};
 ghost use Prim.Native.Nat.{_+_, _*_, _%_, _^_};
-ghost use Rattle.util.specs.Mapping.{withMapping};
+ghost use Rattle.segment.specs.Mapping.{withMapping};
 ghost use Rattle.vtable.specs.Entries.{entryBytes};
-use util::Mapping;
+use segment::Mapping;
 
 // One entry of each kind: its address, and what its words say. A relative pointer of offset 0 gives address 0.
 pub struct VTableEntry {

@@ -2,7 +2,7 @@
 -- Assumes nothing.
 use mathlib.Core.Path.{ap}
 use Rattle.util.specs.AnswersLaws.{told}
-use Rattle.util.specs.VmAddress.{addressOf}
+use Rattle.segment.specs.VmAddress.{addressOf}
 use Rattle.exports.specs.Numbers.{valueNumbers}
 use Rattle.exports.specs.NumbersLaws.{tells-whole, tells-ragged}
 use borrow.Author.Needs.{needs}

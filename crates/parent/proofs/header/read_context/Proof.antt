@@ -1,7 +1,7 @@
 -- `parent::header::read_context` meets its contract.
 -- Assumes nothing.
 use Rattle.util.specs.AnswersLaws.{told}
-use Rattle.util.specs.MappingLaws.{empty-mapped}
+use Rattle.segment.specs.MappingLaws.{empty-mapped}
 use Rattle.parent.specs.Context.{headerOf}
 use Rattle.parent.specs.ContextLaws.{unnamed, is-named, no-context-near, context-near}
 use borrow.Author.Needs.{needs}

@@ -1,7 +1,7 @@
 -- `runtime::reads::find_bytes` meets its contract: an empty mapping says nothing.
 -- Assumes nothing.
 use mathlib.Core.Path.{_∙_}
-use Rattle.util.specs.MappingLaws.{empty-mapped}
+use Rattle.segment.specs.MappingLaws.{empty-mapped}
 use Rattle.runtime.specs.CallsLaws.{place-mapped}
 use borrow.Author.Needs.{needs}
 use Rattle.runtime.proofs.reads.find_bytes.Statement.{statement}

@@ -2,7 +2,7 @@
 -- Assumes nothing.
 use native.Mathlib.Omega.{arith}
 use Rattle.util.specs.AnswersLaws.{told}
-use Rattle.util.specs.Segments.{offsetOf}
+use Rattle.segment.specs.Segments.{offsetOf}
 use Rattle.runtime.specs.CallsLaws.{bytes-at, bytes-past, bytes-nowhere}
 use borrow.Author.Needs.{needs}
 use Rattle.runtime.proofs.reads.find_bytes_near.Statement.{statement}

@@ -1,7 +1,7 @@
 -- `runtime::reads::read_cstr` meets its contract: an empty mapping says nothing.
 -- Assumes nothing.
 use mathlib.Core.Path.{_∙_}
-use Rattle.util.specs.MappingLaws.{empty-mapped}
+use Rattle.segment.specs.MappingLaws.{empty-mapped}
 use Rattle.runtime.specs.CallsLaws.{text-mapped}
 use borrow.Author.Needs.{needs}
 use Rattle.runtime.proofs.reads.read_cstr.Statement.{statement}

@@ -1,7 +1,7 @@
 -- `runtime::reads::read_cstr_near` meets its contract: each `return` is a case of `textPlace`.
 -- Assumes nothing.
 use Rattle.util.specs.AnswersLaws.{told}
-use Rattle.util.specs.Segments.{offsetOf}
+use Rattle.segment.specs.Segments.{offsetOf}
 use Rattle.util.specs.Cstr.{textOf}
 use Rattle.runtime.specs.CallsLaws.{text-zero, text-at, text-there, text-nowhere}
 use borrow.Author.Needs.{needs}

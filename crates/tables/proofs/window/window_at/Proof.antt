@@ -1,6 +1,6 @@
 -- `tables::window::window_at` meets its contract.
 -- Assumes nothing.
-use Rattle.util.specs.Mapping.{Located}
+use Rattle.segment.specs.Mapping.{Located}
 use Rattle.util.specs.AnswersLaws.{case}
 use Rattle.tables.specs.TablesLaws.{closed-opens, mapping-opens}
 use borrow.Author.Needs.{needs}

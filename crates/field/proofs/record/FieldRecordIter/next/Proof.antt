@@ -1,7 +1,7 @@
 -- `field::record::FieldRecordIter::next` meets its contract.
 -- Assumes nothing.
 use mathlib.Core.Path.{_∙_}
-use Rattle.util.specs.MappingLaws.{empty-mapped}
+use Rattle.segment.specs.MappingLaws.{empty-mapped}
 use Rattle.field.specs.RecordsLaws.{record-mapped}
 use borrow.Author.Needs.{needs}
 use Rattle.field.proofs.record.FieldRecordIter.next.Statement.{statement}

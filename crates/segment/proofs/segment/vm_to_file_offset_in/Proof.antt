@@ -6,10 +6,10 @@ use Prim.Native.Nat.{_≤_, _-_}
 use mathlib.Core.Path.{_≡_, refl}
 use denote.Ref.{now}
 use lib.ListN.{length, drop}
-use Rattle.util.specs.Segments.{segmentsOf, fileOffset}
-use Rattle.util.specs.SegmentsLaws.{lookup-answer, lookup-next, lookup-end}
-use Rattle.util.proofs.segment.vm_to_file_offset_in.Statement.{statement}
-use Rattle.util.proofs.segment.vm_to_file_offset_in.Tie as tie
+use Rattle.segment.specs.Segments.{segmentsOf, fileOffset}
+use Rattle.segment.specs.SegmentsLaws.{lookup-answer, lookup-next, lookup-end}
+use Rattle.segment.proofs.segment.vm_to_file_offset_in.Statement.{statement}
+use Rattle.segment.proofs.segment.vm_to_file_offset_in.Tie as tie
 
 abbrev Inv-loop : tie.InvT-loop
 Inv-loop segments vmaddr i₀ i =

@@ -1,9 +1,9 @@
 -- `util::segment::vm_to_file_offset_near` meets its contract.
 -- Assumes nothing.
-use Rattle.util.specs.MappingLaws.{near-answer, near-next}
+use Rattle.segment.specs.MappingLaws.{near-answer, near-next}
 use borrow.Author.Needs.{needs}
-use Rattle.util.proofs.segment.vm_to_file_offset_near.Statement.{statement}
-use Rattle.util.proofs.segment.vm_to_file_offset_near.Tie as tie
+use Rattle.segment.proofs.segment.vm_to_file_offset_near.Statement.{statement}
+use Rattle.segment.proofs.segment.vm_to_file_offset_near.Tie as tie
 
 look-up-requires : tie.Need-look-up-requires
 look-up-requires c κs = search needs

@@ -7,11 +7,11 @@ use Prim.Native.Nat.{ℕ, _≤_, _<_, _-_, _^_}
 use mathlib.Core.Path.{_≡_, refl, sym, ap, _∙_}
 use denote.Ref.{now}
 use lib.ListN.{length, drop}
-use Rattle.util.specs.Segments.{segmentsOf, fileOffset, offsetOf}
-use Rattle.util.specs.SegmentsLaws.{lookup-answer, lookup-next, lookup-end}
-use Rattle.util.specs.MappingLaws.{next-fits, answer-in, around-next, low-next, high-next, around-mapped, around-exact}
-use Rattle.util.proofs.segment.locate.Statement.{statement}
-use Rattle.util.proofs.segment.locate.Tie as tie
+use Rattle.segment.specs.Segments.{segmentsOf, fileOffset, offsetOf}
+use Rattle.segment.specs.SegmentsLaws.{lookup-answer, lookup-next, lookup-end}
+use Rattle.segment.specs.MappingLaws.{next-fits, answer-in, around-next, low-next, high-next, around-mapped, around-exact}
+use Rattle.segment.proofs.segment.locate.Statement.{statement}
+use Rattle.segment.proofs.segment.locate.Tie as tie
 
 abbrev Inv-loop : tie.InvT-loop
 Inv-loop segments address low₀ high₀ i₀ low high i =

@@ -2,9 +2,9 @@
 -- Assumes nothing.
 use borrow.Author.Needs.{needs}
 use native.Mathlib.Omega.{arith}
-use Rattle.util.specs.SegmentsLaws.{wraps, below, above, no-bytes, held, past-file, offset-wraps, in-file}
-use Rattle.util.proofs.segment.look_up.Statement.{statement}
-use Rattle.util.proofs.segment.look_up.Tie as tie
+use Rattle.segment.specs.SegmentsLaws.{wraps, below, above, no-bytes, held, past-file, offset-wraps, in-file}
+use Rattle.segment.proofs.segment.look_up.Statement.{statement}
+use Rattle.segment.proofs.segment.look_up.Tie as tie
 
 sub-if1 : tie.Need-sub-if1
 sub-if1 c = search needs

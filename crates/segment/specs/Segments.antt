@@ -5,8 +5,8 @@ use mathlib.Core.List.{List, [], _∷_}
 use mathlib.Core.Bool.{Bool, cond, _&&_, _||_}
 use mathlib.Core.Option.{Option, some, none, Option·getD}
 use lib.Dec.{leb, ltb}
-use Rattle.util.specs.declared.segment.FileOffset.{FileOffset}
-use Rattle.util.specs.declared.segment.Lookup.{Lookup}
+use Rattle.segment.specs.declared.segment.FileOffset.{FileOffset}
+use Rattle.segment.specs.declared.segment.Lookup.{Lookup}
 
 pub record Segment : Type 0 where
   pub vmaddr : ℕ

@@ -1,8 +1,8 @@
 // From a file offset to an address, by the segments: the way back from `vm_to_file_offset_in`.
 ghost use mathlib.Core.Path.{_≡_};
 ghost use Prim.Native.Nat.{min};
-ghost use Rattle.util.specs.Segments.{decides, segmentsOf};
-ghost use Rattle.util.specs.VmAddress.{turned, vmAddress, addressOf, turnedTo};
+ghost use Rattle.segment.specs.Segments.{decides, segmentsOf};
+ghost use Rattle.segment.specs.VmAddress.{turned, vmAddress, addressOf, turnedTo};
 
 pub enum VmAddress {
     At(u64),

@@ -1,10 +1,10 @@
 -- `util::segment::clip` meets its contract.
 -- Assumes nothing.
 use native.Mathlib.Omega.{arith}
-use Rattle.util.specs.MappingLaws.{clipped}
+use Rattle.segment.specs.MappingLaws.{clipped}
 use borrow.Author.Needs.{needs}
-use Rattle.util.proofs.segment.clip.Statement.{statement}
-use Rattle.util.proofs.segment.clip.Tie as tie
+use Rattle.segment.proofs.segment.clip.Statement.{statement}
+use Rattle.segment.proofs.segment.clip.Tie as tie
 
 sub-if1 : tie.Need-sub-if1
 sub-if1 c = search needs

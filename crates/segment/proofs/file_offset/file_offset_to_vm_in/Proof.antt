@@ -6,11 +6,11 @@ use Prim.Native.Nat.{_≤_, _-_}
 use mathlib.Core.Path.{_≡_, refl}
 use denote.Ref.{now}
 use lib.ListN.{length, drop}
-use Rattle.util.specs.Segments.{segmentsOf}
-use Rattle.util.specs.VmAddress.{vmAddress}
-use Rattle.util.specs.VmAddressLaws.{turn-answer, turn-next, turn-end}
-use Rattle.util.proofs.file_offset.file_offset_to_vm_in.Statement.{statement}
-use Rattle.util.proofs.file_offset.file_offset_to_vm_in.Tie as tie
+use Rattle.segment.specs.Segments.{segmentsOf}
+use Rattle.segment.specs.VmAddress.{vmAddress}
+use Rattle.segment.specs.VmAddressLaws.{turn-answer, turn-next, turn-end}
+use Rattle.segment.proofs.file_offset.file_offset_to_vm_in.Statement.{statement}
+use Rattle.segment.proofs.file_offset.file_offset_to_vm_in.Tie as tie
 
 abbrev Inv-loop : tie.InvT-loop
 Inv-loop segments offset i₀ i =

@@ -1,8 +1,8 @@
 // From an address to a file offset, by the segments: a lent list of numbers, four to a segment.
 ghost use mathlib.Core.Path.{_≡_};
 ghost use Prim.Native.Nat.{_+_, _≤_, _<_, _^_, min, max};
-ghost use Rattle.util.specs.Segments.{fileOffset, segmentsOf, decides, offsetOf, decided};
-ghost use Rattle.util.specs.Mapping.{InFile, Clipped, Located, withMapping};
+ghost use Rattle.segment.specs.Segments.{fileOffset, segmentsOf, decides, offsetOf, decided};
+ghost use Rattle.segment.specs.Mapping.{InFile, Clipped, Located, withMapping};
 
 pub enum FileOffset {
     At(u64),

@@ -8,10 +8,10 @@ use mathlib.Core.List.{List, [], _∷_}
 use lib.ListN.{length, drop, getD, length-drop}
 use lib.Seq.{drop-drop, getD-drop}
 use borrow.Author.Tests.{le-leb, lt-leb, lt-ltb, le-ltb}
-use Rattle.util.specs.Segments.{Segment, segmentsOf, fileOffset, decides, inFile, decided, offsetOf}
-use Rattle.util.specs.declared.segment.FileOffset.{FileOffset}
-use Rattle.util.specs.declared.segment.Lookup.{Lookup}
-use Rattle.util.specs.declared.segment.Lookup.the-variants.{Answer, Next}
+use Rattle.segment.specs.Segments.{Segment, segmentsOf, fileOffset, decides, inFile, decided, offsetOf}
+use Rattle.segment.specs.declared.segment.FileOffset.{FileOffset}
+use Rattle.segment.specs.declared.segment.Lookup.{Lookup}
+use Rattle.segment.specs.declared.segment.Lookup.the-variants.{Answer, Next}
 
 module _ (s : Segment) (v : ℕ) where
   pub wraps : 2 ^ 64 ≤ s .vmaddr + s .vmsize → some none ≡ decides s v

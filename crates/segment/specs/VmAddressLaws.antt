@@ -6,11 +6,11 @@ use mathlib.Core.Path.{_≡_, refl, _∙_, ap}
 use mathlib.Core.List.{List, [], _∷_}
 use mathlib.Core.Option.{Option, some, none, Option·getD}
 use lib.ListN.{length, drop, length-drop}
-use Rattle.util.specs.Segments.{Segment, segmentsOf, fileOffset, decides, inFile}
-use Rattle.util.specs.SegmentsLaws.{wraps, below, above, no-bytes, held, past-file, offset-wraps, in-file, segmentAt, segments-step, segments-end}
-use Rattle.util.specs.VmAddress.{turned, vmAddress, addressOf, turnedTo}
-use Rattle.util.specs.declared.file_offset.VmAddress.{VmAddress}
-use Rattle.util.specs.declared.file_offset.Turned.{Turned}
+use Rattle.segment.specs.Segments.{Segment, segmentsOf, fileOffset, decides, inFile}
+use Rattle.segment.specs.SegmentsLaws.{wraps, below, above, no-bytes, held, past-file, offset-wraps, in-file, segmentAt, segments-step, segments-end}
+use Rattle.segment.specs.VmAddress.{turned, vmAddress, addressOf, turnedTo}
+use Rattle.segment.specs.declared.file_offset.VmAddress.{VmAddress}
+use Rattle.segment.specs.declared.file_offset.Turned.{Turned}
 
 -- `x`, what the numbers from `i` on say, is what the segment there says, or what those after it say
 module _ (l : List ℕ) (i o : ℕ) (x : Option ℕ) (inv : x ≡ vmAddress (segmentsOf (drop i l)) o) where

@@ -3,9 +3,9 @@
 use Prim.Native.Nat.{ℕ, min}
 use mathlib.Core.List.{List, map}
 use mathlib.Core.Option.{Option, some, none}
-use Rattle.util.specs.Segments.{Segment, fileOffset}
-use Rattle.util.specs.declared.file_offset.VmAddress.{VmAddress}
-use Rattle.util.specs.declared.file_offset.Turned.{Turned}
+use Rattle.segment.specs.Segments.{Segment, fileOffset}
+use Rattle.segment.specs.declared.file_offset.VmAddress.{VmAddress}
+use Rattle.segment.specs.declared.file_offset.Turned.{Turned}
 
 -- offsets and addresses exchanged, and only what lies in both
 abbrev pub turned : Segment → Segment

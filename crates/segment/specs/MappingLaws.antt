@@ -6,14 +6,14 @@ use mathlib.Core.Path.{_≡_, refl, sym, ap, _∙_}
 use mathlib.Core.Option.{Option, some, none}
 use mathlib.Core.List.{List}
 use lib.ListN.{length, drop, getD}
-use Rattle.util.specs.Segments.{Segment, segmentsOf, fileOffset, decides, inFile, decided, offsetOf}
-use Rattle.util.specs.SegmentsLaws.{wraps, below, above, no-bytes, held, past-file, offset-wraps, in-file, segmentAt, segments-step}
-use Rattle.util.specs.Mapping.{withMapping, Mapped, Has, Exact, Located, InFile, Clipped}
-use Rattle.util.specs.declared.segment.Mapping.{Mapping}
-use Rattle.util.specs.declared.segment.Around.{Around}
-use Rattle.util.specs.declared.segment.FileOffset.{FileOffset}
-use Rattle.util.specs.declared.segment.Lookup.{Lookup}
-use Rattle.util.specs.declared.segment.Lookup.the-variants.{Answer, Next}
+use Rattle.segment.specs.Segments.{Segment, segmentsOf, fileOffset, decides, inFile, decided, offsetOf}
+use Rattle.segment.specs.SegmentsLaws.{wraps, below, above, no-bytes, held, past-file, offset-wraps, in-file, segmentAt, segments-step}
+use Rattle.segment.specs.Mapping.{withMapping, Mapped, Has, Exact, Located, InFile, Clipped}
+use Rattle.segment.specs.declared.segment.Mapping.{Mapping}
+use Rattle.segment.specs.declared.segment.Around.{Around}
+use Rattle.segment.specs.declared.segment.FileOffset.{FileOffset}
+use Rattle.segment.specs.declared.segment.Lookup.{Lookup}
+use Rattle.segment.specs.declared.segment.Lookup.the-variants.{Answer, Next}
 
 -- what the mapping itself says of an address
 abbrev first : Mapping → Segment

@@ -2,9 +2,9 @@
 -- Assumes nothing.
 use borrow.Author.Needs.{needs}
 use native.Mathlib.Omega.{arith}
-use Rattle.util.specs.SegmentsLaws.{wraps, below, above, held, offset-wraps, in-file}
-use Rattle.util.proofs.file_offset.turn.Statement.{statement}
-use Rattle.util.proofs.file_offset.turn.Tie as tie
+use Rattle.segment.specs.SegmentsLaws.{wraps, below, above, held, offset-wraps, in-file}
+use Rattle.segment.proofs.file_offset.turn.Statement.{statement}
+use Rattle.segment.proofs.file_offset.turn.Tie as tie
 
 lower-requires : tie.Need-lower-requires
 lower-requires c κs = search needs

@@ -3,9 +3,9 @@ use Prim.Native.Nat.{ℕ, _+_, _-_, _^_, _≤_, _<_}
 use mathlib.Core.Path.{_≡_}
 use mathlib.Core.List.{List, _∷_}
 use mathlib.Core.Option.{some, none}
-use Rattle.util.specs.Segments.{Segment, segmentsOf, fileOffset}
-use Rattle.util.specs.declared.segment.Mapping.{Mapping}
-use Rattle.util.specs.declared.segment.Around.{Around}
+use Rattle.segment.specs.Segments.{Segment, segmentsOf, fileOffset}
+use Rattle.segment.specs.declared.segment.Mapping.{Mapping}
+use Rattle.segment.specs.declared.segment.Around.{Around}
 
 -- the segments' numbers with a mapping as one more segment before them: what a call that takes a mapping goes by
 unfoldable pub withMapping : Mapping → List ℕ → List ℕ
