@@ -3,6 +3,7 @@
 mod body;
 mod descriptor;
 mod iter;
+mod offsets;
 mod singleton;
 mod trailers;
 
@@ -19,6 +20,11 @@ pub use descriptor::decode_type_descriptor;
 pub use iter::TypeIter;
 pub use iter::TypeStep;
 pub use iter::slot_row;
+pub use offsets::FieldOffset;
+pub use offsets::FieldOffsets;
+pub use offsets::field_offset;
+pub use offsets::field_offsets;
+pub use offsets::static_field_offsets;
 pub use singleton::SingletonMetadataInit;
 pub use singleton::SingletonMetadataPointer;
 pub use singleton::singleton_metadata_init;
