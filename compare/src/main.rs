@@ -8,6 +8,7 @@ mod generate;
 mod input;
 mod proved;
 mod sample;
+mod sample_full;
 mod shrink;
 mod util_calls;
 
@@ -20,6 +21,7 @@ const USAGE: &str = "usage: compare run [--seed S] [--count N] [--seconds T]   s
        compare exhaustive [--few]                     all short texts, all flags, chains around the limit, all cuts
        compare one LINE                               the input of one printed line
        compare sample OUT [DIR]                       inputs with the Rust's answers; in DIR as stdin and stdout of a program
+       compare sample-full OUT [DIR]                  the same of bodies, blocks, entries and fields
        compare bench                                  nanoseconds per row on both sides";
 
 /// Prints the difference with the smallest input that shows one, and ends the run.
@@ -105,6 +107,10 @@ fn main() {
         },
         Some("sample") => match args.get(1) {
             Some(out) => sample::run(out, args.get(2).map(String::as_str)),
+            None => usage(),
+        },
+        Some("sample-full") => match args.get(1) {
+            Some(out) => sample_full::run(out, args.get(2).map(String::as_str)),
             None => usage(),
         },
         Some("bench") => bench::run(),
