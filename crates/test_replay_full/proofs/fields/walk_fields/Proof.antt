@@ -1,0 +1,66 @@
+-- `test_replay_full::fields::walk_fields` is safe and ends: at most 4,096 descriptors are asked for.
+use Prim.Native.Nat.{_-_}
+use borrow.Author.Needs.{needs}
+use Rattle.test_replay_full.proofs.fields.walk_fields.Statement.{statement}
+use Rattle.test_replay_full.proofs.fields.walk_fields.Tie as tie
+
+abbrev Inv-loop : tie.InvT-loop
+Inv-loop image segments fields vmaddr strings strings-va walk₀ given₀ walk given = Unit
+
+abbrev μ-loop : tie.MeasureT-loop
+μ-loop image segments fields vmaddr strings strings-va walk₀ given₀ walk given = 4096 - given
+
+loop-holds : tie.Need-loop-holds Inv-loop μ-loop
+loop-holds c = search needs
+
+next-requires : tie.Need-next-requires Inv-loop μ-loop
+next-requires c κs = search needs
+
+enum-known-step : tie.Need-enum-known-step Inv-loop μ-loop
+enum-known-step c = search needs
+
+descriptor-lines-requires : tie.Need-descriptor-lines-requires Inv-loop μ-loop
+descriptor-lines-requires c κs = search needs
+
+add-given : tie.Need-add-given Inv-loop μ-loop
+add-given c = search needs
+
+loop-less : tie.Need-loop-less Inv-loop μ-loop
+loop-less c = search needs
+
+loop-again : tie.Need-loop-again Inv-loop μ-loop
+loop-again c = search needs
+
+enum-known-step-2 : tie.Need-enum-known-step-2 Inv-loop μ-loop
+enum-known-step-2 c = search needs
+
+end-line-requires : tie.Need-end-line-requires Inv-loop μ-loop
+end-line-requires c κs = search needs
+
+returns : tie.Need-returns Inv-loop μ-loop
+returns c = search needs
+
+bad-line-requires : tie.Need-bad-line-requires Inv-loop μ-loop
+bad-line-requires c κs = search needs
+
+returns-2 : tie.Need-returns-2 Inv-loop μ-loop
+returns-2 c = search needs
+
+pub walk-fields-spec : {M : Type 1} → statement M
+walk-fields-spec =
+    tie.close
+    (tie.spec
+    Inv-loop
+    μ-loop
+    loop-holds
+    next-requires
+    enum-known-step
+    descriptor-lines-requires
+    add-given
+    loop-less
+    loop-again
+    enum-known-step-2
+    end-line-requires
+    returns
+    bad-line-requires
+    returns-2)

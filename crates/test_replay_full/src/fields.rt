@@ -1,0 +1,183 @@
+// The field descriptors, with their records.
+use crate::words::SHOWN;
+use crate::words::after_shown;
+use crate::words::bad_line;
+use crate::words::done;
+use crate::words::nothing;
+use crate::words::number_field;
+use crate::words::one;
+use crate::words::text_line;
+use crate::words::three;
+use crate::words::unreadable;
+use crate::words::word;
+use context::FieldDescriptorKind;
+use field::FieldDescriptor;
+use field::FieldIter;
+use field::FieldRecord;
+use field::FieldRecordStep;
+use field::FieldStep;
+use runtime::FieldName;
+
+fn kind_number(kind: FieldDescriptorKind) -> u64 {
+    match kind {
+        FieldDescriptorKind::Struct => 0,
+        FieldDescriptorKind::Class => 1,
+        FieldDescriptorKind::Enum => 2,
+        FieldDescriptorKind::MultiPayloadEnum => 3,
+        FieldDescriptorKind::Protocol => 4,
+        FieldDescriptorKind::ClassProtocol => 5,
+        FieldDescriptorKind::ObjCProtocol => 6,
+        FieldDescriptorKind::ObjCClass => 7,
+        FieldDescriptorKind::Other(n) => n as u64,
+    }
+}
+
+// Records.
+
+fn name_line(image: &[u8], segments: &[u64], strings: &[u8], strings_va: u64, record: FieldRecord) {
+    word(b"name");
+    match field::field_name(image, segments, strings, strings_va, record) {
+        FieldName::Image { place, length } => three(1, place as u64, length as u64),
+        FieldName::Strings { place, length } => three(2, place as u64, length as u64),
+        FieldName::Nothing => nothing(),
+    }
+}
+
+fn record_lines(
+    image: &[u8],
+    segments: &[u64],
+    strings: &[u8],
+    strings_va: u64,
+    record: FieldRecord,
+) {
+    word(b"record");
+    one(record.flags as u64);
+    text_line(b"type", field::record_type_name(image, segments, record));
+    name_line(image, segments, strings, strings_va, record);
+}
+
+fn records(
+    image: &[u8],
+    segments: &[u64],
+    strings: &[u8],
+    strings_va: u64,
+    descriptor: FieldDescriptor,
+) {
+    let mut walk = descriptor.records();
+    let mut shown: u32 = 0;
+    while shown < SHOWN {
+        let step = walk.next(image, segments);
+        match step {
+            FieldRecordStep::Record { record, next } => {
+                record_lines(image, segments, strings, strings_va, record);
+                walk = next;
+                shown += 1;
+            }
+            FieldRecordStep::Unreadable { next } => {
+                unreadable();
+                walk = next;
+                shown += 1;
+            }
+            FieldRecordStep::End => {
+                done();
+                return;
+            }
+        }
+    }
+    after_shown(descriptor.num_fields);
+}
+
+// Descriptors.
+
+fn descriptor_line(descriptor: FieldDescriptor) {
+    let kind = descriptor.kind;
+    word(b"descriptor");
+    number_field(descriptor.address);
+    three(
+        kind_number(kind),
+        descriptor.field_record_size as u64,
+        descriptor.num_fields as u64,
+    );
+}
+
+fn descriptor_lines(
+    image: &[u8],
+    segments: &[u64],
+    strings: &[u8],
+    strings_va: u64,
+    descriptor: FieldDescriptor,
+) {
+    descriptor_line(descriptor);
+    text_line(
+        b"type",
+        field::mangled_type_name(image, segments, descriptor),
+    );
+    text_line(
+        b"superclass",
+        field::superclass_mangled_name(image, segments, descriptor),
+    );
+    records(image, segments, strings, strings_va, descriptor);
+}
+
+fn end_line() {
+    word(b"end\n");
+}
+
+// The descriptors up to the end of the walk, from there on.
+fn walk_fields(
+    image: &[u8],
+    segments: &[u64],
+    fields: &[u8],
+    vmaddr: u64,
+    strings: &[u8],
+    strings_va: u64,
+    from: FieldIter,
+) -> FieldIter {
+    let mut walk = from;
+    let mut given: u32 = 0;
+    while given < 4096 {
+        let step = walk.next(fields, vmaddr);
+        match step {
+            FieldStep::Descriptor { descriptor, next } => {
+                descriptor_lines(image, segments, strings, strings_va, descriptor);
+                walk = next;
+                given += 1;
+            }
+            FieldStep::End { next } => {
+                end_line();
+                return next;
+            }
+        }
+    }
+    bad_line();
+    walk
+}
+
+// The descriptors of a section of fewer than 65,536 bytes: up to the end of the walk, and from there up to the next one.
+pub fn all_fields(
+    image: &[u8],
+    segments: &[u64],
+    fields: &[u8],
+    vmaddr: u64,
+    strings: &[u8],
+    strings_va: u64,
+) {
+    let stopped = walk_fields(
+        image,
+        segments,
+        fields,
+        vmaddr,
+        strings,
+        strings_va,
+        FieldIter::new(),
+    );
+    walk_fields(
+        image,
+        segments,
+        fields,
+        vmaddr,
+        strings,
+        strings_va,
+        stopped,
+    );
+}

@@ -1,0 +1,167 @@
+// Replays the Rust's answers on bodies, blocks, entries, singleton records, field offsets and fields: reads one input a line from
+// standard input, and writes the answers of the proved calls.
+//
+// A line is
+//   input IMAGE TYPES_ADDRESS TYPES FIELDS_ADDRESS FIELDS STRINGS_ADDRESS STRINGS COUNT SEGMENT_NUMBER..
+// with one space between. All numbers and the bytes are lowercase hexadecimal; `-` stands for no bytes. Its answers are
+//   row SLOT ADDRESS FLAGS PARENT NAME_PLACE NAME_LENGTH   for each row, in order, followed by its body, which is one of
+//   fixed NEGATIVE POSITIVE MEMBERS FIELDS VECTOR          a class, with the sizes of its metadata,
+//   resilient BOUNDS EXTRA MEMBERS FIELDS VECTOR           or with a resilient superclass;
+//   superclass PLACE LENGTH                                then its superclass's name, or `superclass nothing`
+//   struct FIELDS VECTOR
+//   enum PAYLOAD_CASES SIZE_OFFSET EMPTY_CASES
+//   bodiless
+//   block KIND NUMBER..                                    each block, by stepping, followed by
+//   init CACHE INCOMPLETE COMPLETION                       the singleton initialization there, or `init nothing`,
+//   pointer METADATA                                       the singleton pointer there, or `pointer nothing`,
+//   method ADDRESS FLAGS IMPL                              or the first 12 entries of the table there, `unreadable` for one that
+//   override ADDRESS CLASS METHOD IMPL                     cannot be read, and then `done`, or `more` where there are more
+//   default ADDRESS METHOD IMPL
+//   metadata ADDRESS METADATA
+//   kind KIND NUMBER..                                     the block of each kind, in one call, where there is one
+//   offsets COUNT NUMBER..                                 a struct's field offsets, the first 12, or `offsets nothing`,
+//                                                          and, for a row at one of the last 32 addresses, 5 entries of each
+//                                                          kind there
+//   rows ROWS                                              and then for each field descriptor
+//   descriptor ADDRESS KIND RECORD_SIZE COUNT
+//   type PLACE LENGTH                                      its type's name, and its superclass's, or `nothing`
+//   superclass PLACE LENGTH
+//   record FLAGS                                           its first 12 records, `unreadable` for one that cannot be read,
+//   type PLACE LENGTH                                      with the name of the type, and of the field:
+//   name WHERE PLACE LENGTH                                1 in the image, 2 in the strings; then `done` or `more`
+//   end                                                    where the walk ends; it goes on from there up to a second end
+// A kind of block is its number in their order. `target/compare/compare sample-full OUT crates/test_replay_full` (after compare/build)
+// makes both files, stdin and stdout, anew from the Rust; OUT gets them as one, with what each input is for.
+mod entries;
+mod fields;
+mod rows;
+mod words;
+
+use crate::fields::all_fields;
+use crate::rows::all_rows;
+use crate::words::bad_line;
+use test_lines::Count;
+use test_lines::Number;
+
+// The numbers of a list: its count is the field `from`, and they are the fields after that.
+fn parse_list(line: &[u8], from: usize, out: &mut [u64]) -> Count {
+    if from > 1000 {
+        return Count::Bad;
+    }
+    let Number::Value(given) = test_lines::parse_number(test_lines::field(line, from)) else {
+        return Count::Bad;
+    };
+    let count = given as usize;
+    if out.len() < count {
+        return Count::Bad;
+    }
+    if count > 1000 {
+        return Count::Bad;
+    }
+    let mut n = 0;
+    while n < count {
+        let Number::Value(value) = test_lines::parse_number(test_lines::field(line, from + 1 + n))
+        else {
+            return Count::Bad;
+        };
+        out[n] = value;
+        n += 1;
+    }
+    Count::Of(n)
+}
+
+// The line's sections, and all its answers.
+fn run_sections(
+    line: &[u8],
+    image: &[u8],
+    segments: &[u64],
+    types_va: u64,
+    fields_va: u64,
+    strings_va: u64,
+) {
+    let mut types = [0u8; 256];
+    let mut fields = [0u8; 512];
+    let mut strings = [0u8; 256];
+    let Count::Of(slots) = test_lines::parse_bytes(test_lines::field(line, 3), &mut types) else {
+        bad_line();
+        return;
+    };
+    let Count::Of(headers) = test_lines::parse_bytes(test_lines::field(line, 5), &mut fields) else {
+        bad_line();
+        return;
+    };
+    let Count::Of(names) = test_lines::parse_bytes(test_lines::field(line, 7), &mut strings) else {
+        bad_line();
+        return;
+    };
+    all_rows(image, segments, util::part(&types, 0, slots), types_va);
+    all_fields(
+        image,
+        segments,
+        util::part(&fields, 0, headers),
+        fields_va,
+        util::part(&strings, 0, names),
+        strings_va,
+    );
+}
+
+// The line's image and segments.
+fn run_line(line: &[u8], types_va: u64, fields_va: u64, strings_va: u64) {
+    let mut image = [0u8; 1024];
+    let mut segments = [0u64; 64];
+    let Count::Of(bytes) = test_lines::parse_bytes(test_lines::field(line, 1), &mut image) else {
+        bad_line();
+        return;
+    };
+    let Count::Of(numbers) = parse_list(line, 8, &mut segments) else {
+        bad_line();
+        return;
+    };
+    run_sections(
+        line,
+        util::part(&image, 0, bytes),
+        test_lines::first(&segments, numbers),
+        types_va,
+        fields_va,
+        strings_va,
+    );
+}
+
+fn answer_line(line: &[u8]) {
+    if !test_lines::same(test_lines::field(line, 0), b"input") {
+        bad_line();
+        return;
+    }
+    let Number::Value(types_va) = test_lines::parse_number(test_lines::field(line, 2)) else {
+        bad_line();
+        return;
+    };
+    let Number::Value(fields_va) = test_lines::parse_number(test_lines::field(line, 4)) else {
+        bad_line();
+        return;
+    };
+    let Number::Value(strings_va) = test_lines::parse_number(test_lines::field(line, 6)) else {
+        bad_line();
+        return;
+    };
+    run_line(line, types_va, fields_va, strings_va);
+}
+
+fn answer_lines(input: &[u8]) {
+    let mut at = 0;
+    while at < input.len() {
+        let end = test_lines::find(input, at, b'\n');
+        answer_line(&input[at..end]);
+        if end == input.len() {
+            return;
+        }
+        at = end + 1;
+    }
+}
+
+// What stands past the first 131,072 bytes is not read.
+fn main() {
+    let mut space = [0u8; 131072];
+    let n = io::read_full(0, &mut space);
+    answer_lines(&space[..n]);
+}

@@ -1,0 +1,346 @@
+// The rows, with their bodies and blocks.
+use crate::entries::at_row;
+use crate::entries::default_overrides;
+use crate::entries::methods;
+use crate::entries::overrides;
+use crate::entries::prespecializations;
+use crate::words::SHOWN;
+use crate::words::bad_line;
+use crate::words::newline;
+use crate::words::nothing;
+use crate::words::number_field;
+use crate::words::one;
+use crate::words::refused;
+use crate::words::text_line;
+use crate::words::three;
+use crate::words::two;
+use crate::words::word;
+use classtrailers::Block;
+use classtrailers::BlockKind;
+use listing::BlockAnswer;
+use listing::BodyAnswer;
+use listing::InitAnswer;
+use listing::NextBlock;
+use listing::NextRow;
+use listing::PointerAnswer;
+use listing::TextAnswer;
+use typedescriptor::ClassBody;
+use typedescriptor::ClassSizes;
+use typedescriptor::FieldOffset;
+use typedescriptor::FieldOffsets;
+use typedescriptor::Row;
+use typedescriptor::SingletonMetadataInit;
+use typedescriptor::SingletonMetadataPointer;
+use typedescriptor::TypeBody;
+use typedescriptor::TypeIter;
+
+// Bodies.
+
+fn class_line(class: ClassBody) {
+    let sizes = class.sizes;
+    match sizes {
+        ClassSizes::Fixed {
+            negative_words,
+            positive_words,
+        } => {
+            word(b"fixed");
+            number_field(negative_words as u64);
+            number_field(positive_words as u64);
+        }
+        ClassSizes::Resilient {
+            bounds_va,
+            extra_class_flags,
+        } => {
+            word(b"resilient");
+            number_field(bounds_va);
+            number_field(extra_class_flags as u64);
+        }
+    }
+    three(
+        class.num_immediate_members as u64,
+        class.num_fields as u64,
+        class.field_offset_vector_offset as u64,
+    );
+}
+
+fn superclass_line(image: &[u8], segments: &[u64], body: TypeBody) {
+    match listing::superclass_name(image, segments, body) {
+        TextAnswer::Text(text) => text_line(b"superclass", text),
+        TextAnswer::Refused(refusal) => refused(refusal),
+    }
+}
+
+fn body_lines(image: &[u8], segments: &[u64], body: TypeBody) {
+    match body {
+        TypeBody::Class(class) => {
+            class_line(class);
+            superclass_line(image, segments, body);
+        }
+        TypeBody::Struct(fields) => {
+            word(b"struct");
+            two(
+                fields.num_fields as u64,
+                fields.field_offset_vector_offset as u64,
+            );
+        }
+        TypeBody::Enum(cases) => {
+            word(b"enum");
+            three(
+                cases.num_payload_cases as u64,
+                cases.payload_size_offset as u64,
+                cases.num_empty_cases as u64,
+            );
+        }
+        TypeBody::Nothing => word(b"bodiless\n"),
+    }
+}
+
+// Blocks.
+
+// The rest of a block's line: its kind and its numbers.
+fn block_end(block: Block) {
+    match block {
+        Block::Generic(address) => two(0, address),
+        Block::ResilientSuperclass(address) => two(1, address),
+        Block::ForeignMetadataInit(address) => two(2, address),
+        Block::SingletonMetadataInit(address) => two(3, address),
+        Block::VTable {
+            vtable_offset,
+            vtable_size,
+            entries_va,
+        } => {
+            number_field(4);
+            three(vtable_offset as u64, vtable_size as u64, entries_va);
+        }
+        Block::OverrideTable {
+            num_entries,
+            entries_va,
+        } => three(5, num_entries as u64, entries_va),
+        Block::ObjcResilientClassStub(address) => two(6, address),
+        Block::Prespecializations { count, base_va } => three(7, count as u64, base_va),
+        Block::InvertibleProtocolSet { bits, protocols } => {
+            three(8, bits as u64, protocols as u64);
+        }
+        Block::SingletonMetadataPointer(address) => two(9, address),
+        Block::DefaultOverrideTable {
+            num_entries,
+            entries_va,
+        } => three(0xa, num_entries as u64, entries_va),
+    }
+}
+
+fn init_line(image: &[u8], segments: &[u64], address: u64) {
+    word(b"init");
+    match listing::singleton_init(image, segments, address) {
+        InitAnswer::Init(init) => match init {
+            SingletonMetadataInit::At {
+                initialization_cache_va,
+                incomplete_metadata_va,
+                completion_function_va,
+            } => three(
+                initialization_cache_va,
+                incomplete_metadata_va,
+                completion_function_va,
+            ),
+            SingletonMetadataInit::Nothing => nothing(),
+        },
+        InitAnswer::Refused(refusal) => refused(refusal),
+    }
+}
+
+fn pointer_line(image: &[u8], segments: &[u64], address: u64) {
+    word(b"pointer");
+    match listing::singleton_pointer(image, segments, address) {
+        PointerAnswer::Pointer(pointer) => match pointer {
+            SingletonMetadataPointer::At(metadata_va) => one(metadata_va),
+            SingletonMetadataPointer::Nothing => nothing(),
+        },
+        PointerAnswer::Refused(refusal) => refused(refusal),
+    }
+}
+
+// What lies at a block: its record or its entries.
+fn detail_lines(image: &[u8], segments: &[u64], block: Block) {
+    match block {
+        Block::Generic(_) => {}
+        Block::ResilientSuperclass(_) => {}
+        Block::ForeignMetadataInit(_) => {}
+        Block::SingletonMetadataInit(address) => init_line(image, segments, address),
+        Block::VTable {
+            vtable_offset: _,
+            vtable_size,
+            entries_va,
+        } => methods(image, segments, entries_va, vtable_size),
+        Block::OverrideTable {
+            num_entries,
+            entries_va,
+        } => overrides(image, segments, entries_va, num_entries),
+        Block::ObjcResilientClassStub(_) => {}
+        Block::Prespecializations { count, base_va } => {
+            prespecializations(image, segments, base_va, count);
+        }
+        Block::InvertibleProtocolSet {
+            bits: _,
+            protocols: _,
+        } => {}
+        Block::SingletonMetadataPointer(address) => pointer_line(image, segments, address),
+        Block::DefaultOverrideTable {
+            num_entries,
+            entries_va,
+        } => default_overrides(image, segments, entries_va, num_entries),
+    }
+}
+
+fn block_line(image: &[u8], segments: &[u64], block: Block) {
+    word(b"block");
+    block_end(block);
+    detail_lines(image, segments, block);
+}
+
+// There are at most 11 blocks, and then the end.
+fn block_lines(image: &[u8], segments: &[u64], row: Row, body: TypeBody) {
+    let mut walk = listing::block_walk(row, body);
+    let mut given: u32 = 0;
+    while given < 12 {
+        let step = listing::next_block(image, segments, walk);
+        match step {
+            NextBlock::Block { block, next } => {
+                block_line(image, segments, block);
+                walk = next;
+                given += 1;
+            }
+            NextBlock::End => {
+                return;
+            }
+            NextBlock::Refused(refusal) => {
+                refused(refusal);
+                return;
+            }
+        }
+    }
+    bad_line();
+}
+
+fn kind_line(image: &[u8], segments: &[u64], row: Row, body: TypeBody, kind: BlockKind) {
+    match listing::block_of_kind(image, segments, row, body, kind) {
+        BlockAnswer::Block(block) => {
+            word(b"kind");
+            block_end(block);
+        }
+        BlockAnswer::Nothing => {}
+        BlockAnswer::Refused(refusal) => refused(refusal),
+    }
+}
+
+fn kind_lines(image: &[u8], segments: &[u64], row: Row, body: TypeBody) {
+    kind_line(image, segments, row, body, BlockKind::Generic);
+    kind_line(image, segments, row, body, BlockKind::ResilientSuperclass);
+    kind_line(image, segments, row, body, BlockKind::ForeignMetadataInit);
+    kind_line(image, segments, row, body, BlockKind::SingletonMetadataInit);
+    kind_line(image, segments, row, body, BlockKind::VTable);
+    kind_line(image, segments, row, body, BlockKind::OverrideTable);
+    kind_line(
+        image,
+        segments,
+        row,
+        body,
+        BlockKind::ObjcResilientClassStub,
+    );
+    kind_line(image, segments, row, body, BlockKind::Prespecializations);
+    kind_line(image, segments, row, body, BlockKind::InvertibleProtocolSet);
+    kind_line(
+        image,
+        segments,
+        row,
+        body,
+        BlockKind::SingletonMetadataPointer,
+    );
+    kind_line(image, segments, row, body, BlockKind::DefaultOverrideTable);
+}
+
+// Field offsets.
+
+fn offset_field(image: &[u8], offsets: FieldOffsets, number: u32) {
+    match typedescriptor::field_offset(image, offsets, number) {
+        FieldOffset::At(offset) => number_field(offset as u64),
+        FieldOffset::Nothing => nothing(),
+    }
+}
+
+fn offset_fields(image: &[u8], offsets: FieldOffsets, count: u32) {
+    let mut number: u32 = 0;
+    while number < SHOWN {
+        if count <= number {
+            return;
+        }
+        offset_field(image, offsets, number);
+        number += 1;
+    }
+}
+
+fn offsets_line(image: &[u8], segments: &[u64], row: Row) {
+    word(b"offsets");
+    let offsets = typedescriptor::static_field_offsets(image, segments, row.address, row.flags);
+    match offsets {
+        FieldOffsets::At { place: _, count } => {
+            number_field(count as u64);
+            offset_fields(image, offsets, count);
+            newline();
+        }
+        FieldOffsets::Nothing => nothing(),
+    }
+}
+
+// Rows.
+
+fn row_line(slot: usize, row: Row) {
+    word(b"row");
+    number_field(slot as u64);
+    number_field(row.address);
+    number_field(row.flags as u64);
+    three(row.parent, row.name_place as u64, row.name_length as u64);
+}
+
+fn row_lines(image: &[u8], segments: &[u64], slot: usize, row: Row) {
+    row_line(slot, row);
+    match listing::row_body(image, segments, row) {
+        BodyAnswer::Body(body) => {
+            body_lines(image, segments, body);
+            block_lines(image, segments, row, body);
+            kind_lines(image, segments, row, body);
+        }
+        BodyAnswer::Refused(refusal) => refused(refusal),
+    }
+    offsets_line(image, segments, row);
+    at_row(image, segments, row.address);
+}
+
+fn rows_line(rows: u64) {
+    word(b"rows");
+    one(rows);
+}
+
+// The rows of a types section of fewer than 4,096 slots.
+pub fn all_rows(image: &[u8], segments: &[u64], types: &[u8], vmaddr: u64) {
+    let mut walk = TypeIter::new();
+    let mut rows: u64 = 0;
+    while rows < 4096 {
+        let step = listing::next_row(image, segments, types, vmaddr, walk);
+        match step {
+            NextRow::Row { slot, row, next } => {
+                row_lines(image, segments, slot, row);
+                walk = next;
+                rows += 1;
+            }
+            NextRow::End => {
+                rows_line(rows);
+                return;
+            }
+            NextRow::Refused(refusal) => {
+                refused(refusal);
+                return;
+            }
+        }
+    }
+    bad_line();
+}
