@@ -25,7 +25,7 @@ use generate_full::FullGenerator;
 use input::Input;
 use std::time::Instant;
 
-const USAGE: &str = "usage: compare run [--seed S] [--count N] [--seconds T]   seeded inputs, N of them or as many as T seconds allow
+const USAGE: &str = "usage: compare run [--seed S] [--count N] [--seconds T] [--full]   seeded inputs, N of them or as many as T seconds allow
        compare exhaustive [--few]                     all short texts, all flags, chains around the limit, blocks around 2^64, all cuts
        compare one LINE                               the input of one printed line
        compare sample OUT [DIR]                       inputs with the Rust's answers; in DIR as stdin and stdout of a program
@@ -76,6 +76,7 @@ fn run(args: &[String]) {
     } else {
         1_000_000
     });
+    let only_full = args.iter().any(|a| a == "--full");
     let start = Instant::now();
     let mut checker = Checker::default();
     let mut generator = Generator::default();
@@ -88,7 +89,7 @@ fn run(args: &[String]) {
         }
         // Inputs for rows, contexts and names, of which the rows' own bodies and blocks are compared too; every fourth is one for bodies,
         // blocks, entries and fields, of which all is.
-        let same = if i % 4 == 3 {
+        let same = if only_full || i % 4 == 3 {
             full.make(seed, i, &mut input);
             checker.input(&input)
         } else {
