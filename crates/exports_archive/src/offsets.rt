@@ -2,16 +2,16 @@
 ghost use mathlib.Core.Path.{_≡_};
 ghost use Rattle.refusal.specs.Refusal.{answered, mapped};
 ghost use Rattle.runtime.specs.Reads.{run};
-ghost use Rattle.typedescriptor.specs.Body.{body};
-ghost use Rattle.typedescriptor.specs.Offsets.{offsets, offsetsPlace, staticPlace, offsetIn, offsetsOf};
+ghost use Rattle.typebody.specs.Body.{body};
+ghost use Rattle.typebody.specs.Offsets.{offsets, offsetsPlace, staticPlace, offsetIn, offsetsOf};
 ghost use Rattle.listing.specs.Calls.{guarded};
 ghost use Rattle.exports.specs.Numbers.{Tells, valueNumbers};
 ghost use Rattle.exports_archive.specs.Offsets.{offsetsNumbers};
 use crate::fields::ANSWERED;
 use crate::fields::THERE;
 use listing::OffsetsAnswer;
-use typedescriptor::FieldOffset;
-use typedescriptor::FieldOffsets;
+use typebody::FieldOffset;
+use typebody::FieldOffsets;
 use typedescriptor::Row;
 
 fn offsets_numbers(offsets: FieldOffsets) -> [u64; 3]
@@ -36,7 +36,7 @@ pub extern "C" fn hodrupec_field_offsets(
 ) -> u64
     ensures { λ r. ⌜ Tells (mapped offsetsNumbers (guarded (now (segments .entry)) (answered (offsetsPlace (now (image .entry)) (now (segments .entry)) (run (now (image .entry)) (now (segments .entry)) (body address flags)) «metadata_va»)))) (now (out .entry)) r (now (out .exit)) ⌝ }
 {
-    let body = typedescriptor::decode_body(image, segments, address, flags);
+    let body = typebody::decode_body(image, segments, address, flags);
     match listing::field_offsets(image, segments, body, metadata_va) {
         OffsetsAnswer::Offsets(offsets) => {
             *out = offsets_numbers(offsets);
@@ -84,7 +84,7 @@ pub extern "C" fn hodrupec_field_offset(
 ) -> u64
     ensures { λ r. ⌜ Tells (answered (valueNumbers (offsetIn (now (image .entry)) (offsets place count) number))) (now (out .entry)) r (now (out .exit)) ⌝ }
 {
-    match typedescriptor::field_offset(image, FieldOffsets::At { place, count }, number) {
+    match typebody::field_offset(image, FieldOffsets::At { place, count }, number) {
         FieldOffset::At(offset) => {
             *out = [THERE, offset as u64];
             ANSWERED

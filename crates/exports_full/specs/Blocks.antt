@@ -10,8 +10,8 @@ use Rattle.runtime.specs.Reads.{andThen, run}
 use Rattle.classtrailers.specs.Blocks.{Row, table, Walk, Step}
 use Rattle.classtrailers.specs.declared.block.Block.{Block}
 use Rattle.classtrailers.specs.declared.block.BlockKind.{BlockKind}
-use Rattle.typedescriptor.specs.Body.{body}
-use Rattle.typedescriptor.specs.Items.{Start, trailers}
+use Rattle.typebody.specs.Body.{body}
+use Rattle.typebody.specs.Items.{Start, trailers}
 use Rattle.listing.specs.Blocks.{kindFrom}
 use Rattle.exports_util.specs.Flags.{flagNumber}
 use Rattle.exports_full.specs.declared.blocks.BlockNumbers.{BlockNumbers}

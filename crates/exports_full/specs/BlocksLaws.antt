@@ -12,10 +12,10 @@ use Rattle.runtime.specs.Reads.{andThen, run}
 use Rattle.classtrailers.specs.Blocks.{Row, table}
 use Rattle.classtrailers.specs.declared.block.Block.{Block}
 use Rattle.classtrailers.specs.declared.block.BlockKind.{BlockKind}
-use Rattle.typedescriptor.specs.Body.{Body, body}
-use Rattle.typedescriptor.specs.Items.{trailers, trailersOf}
-use Rattle.typedescriptor.specs.declared.trailers.TrailingRead.{TrailingRead}
-use Rattle.typedescriptor.specs.declared.trailers.TrailingStart.{TrailingStart}
+use Rattle.typebody.specs.Body.{Body, body}
+use Rattle.typebody.specs.Items.{trailers, trailersOf}
+use Rattle.typebody.specs.declared.trailers.TrailingRead.{TrailingRead}
+use Rattle.typebody.specs.declared.trailers.TrailingStart.{TrailingStart}
 use Rattle.listing.specs.Calls.{guarded}
 use Rattle.listing.specs.CallsLaws.{answered-is}
 use Rattle.listing.specs.Blocks.{kindFrom}

@@ -3,7 +3,7 @@
 use Prim.Native.Nat.{ℕ}
 use mathlib.Core.List.{List, [], _∷_}
 use mathlib.Core.Option.{Option, some, none}
-use Rattle.typedescriptor.specs.Body.{Body, ofClass, ofStruct, ofEnum, fixed, resilient}
+use Rattle.typebody.specs.Body.{Body, ofClass, ofStruct, ofEnum, fixed, resilient}
 
 abbrev pub bodyNumbers : Option Body → List ℕ
 bodyNumbers none = 0 ∷ (0 ∷ (0 ∷ (0 ∷ (0 ∷ (0 ∷ (0 ∷ (0 ∷ [])))))))

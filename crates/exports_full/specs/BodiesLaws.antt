@@ -1,9 +1,9 @@
 -- What the case of a class's two words says of its numbers.
 use mathlib.Core.Path.{_≡_}
 use mathlib.Core.Option.{some}
-use Rattle.typedescriptor.specs.Body.{ofClass, sizesOf, classOf}
-use Rattle.typedescriptor.specs.declared.body.ClassBody.{ClassBody}
-use Rattle.typedescriptor.specs.declared.body.ClassSizes.{ClassSizes}
+use Rattle.typebody.specs.Body.{ofClass, sizesOf, classOf}
+use Rattle.typebody.specs.declared.body.ClassBody.{ClassBody}
+use Rattle.typebody.specs.declared.body.ClassSizes.{ClassSizes}
 use Rattle.exports_full.specs.Bodies.{bodyNumbers}
 
 pub class-known : (class : ClassBody) (s : ClassSizes) → class .sizes ≡ s

@@ -3,7 +3,7 @@
 use Prim.Native.Nat.{ℕ}
 use mathlib.Core.List.{List, [], _∷_}
 use mathlib.Core.Option.{Option, some, none}
-use Rattle.typedescriptor.specs.Singleton.{Initialization}
+use Rattle.typebody.specs.Singleton.{Initialization}
 
 abbrev pub initNumbers : Option Initialization → List ℕ
 initNumbers none = 0 ∷ (0 ∷ (0 ∷ (0 ∷ [])))

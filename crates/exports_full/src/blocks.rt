@@ -2,7 +2,7 @@
 ghost use mathlib.Core.Path.{_≡_};
 ghost use Rattle.refusal.specs.Refusal.{answered, mapped};
 ghost use Rattle.classtrailers.specs.Blocks.{nextBlock};
-ghost use Rattle.typedescriptor.specs.Items.{trailersOf};
+ghost use Rattle.typebody.specs.Items.{trailersOf};
 ghost use Rattle.listing.specs.Calls.{guarded};
 ghost use Rattle.listing.specs.Blocks.{blockAnswer};
 ghost use Rattle.exports.specs.Numbers.{Tells};
@@ -17,8 +17,8 @@ use classtrailers::Trailing;
 use listing::BlockAnswer;
 use listing::BodyAnswer;
 use listing::NextBlock;
+use typebody::TrailingRead;
 use typedescriptor::Row;
-use typedescriptor::TrailingRead;
 
 // A block's kind, and three numbers of what is recorded of it, 0 where a kind has fewer.
 pub struct BlockNumbers {
@@ -160,7 +160,7 @@ pub extern "C" fn hodrupec_first_block(
     };
     match listing::row_body(image, segments, row) {
         BodyAnswer::Body(body) => {
-            *out = start_numbers(typedescriptor::trailing(address, flags, body));
+            *out = start_numbers(typebody::trailing(address, flags, body));
             ANSWERED
         }
         BodyAnswer::Refused(refusal) => refusal::number(refusal),

@@ -3,16 +3,16 @@ ghost use mathlib.Core.Path.{_≡_};
 ghost use mathlib.Core.Option.{some};
 ghost use Rattle.refusal.specs.Refusal.{answered, mapped};
 ghost use Rattle.runtime.specs.Reads.{run, textPlace};
-ghost use Rattle.typedescriptor.specs.Body.{body, bodyOf, classOf};
+ghost use Rattle.typebody.specs.Body.{body, bodyOf, classOf};
 ghost use Rattle.listing.specs.Calls.{guarded};
 ghost use Rattle.exports.specs.Numbers.{Tells, textNumbers};
 ghost use Rattle.exports_full.specs.Bodies.{bodyNumbers};
 use listing::BodyAnswer;
 use listing::TextAnswer;
-use typedescriptor::ClassBody;
-use typedescriptor::ClassSizes;
+use typebody::ClassBody;
+use typebody::ClassSizes;
+use typebody::TypeBody;
 use typedescriptor::Row;
-use typedescriptor::TypeBody;
 use util::Text;
 
 // The status of a call that answers.

@@ -1,7 +1,7 @@
 // The singleton records at an address.
 ghost use Rattle.refusal.specs.Refusal.{answered, mapped};
 ghost use Rattle.runtime.specs.Reads.{run};
-ghost use Rattle.typedescriptor.specs.Singleton.{singletonInit, singletonPointer};
+ghost use Rattle.typebody.specs.Singleton.{singletonInit, singletonPointer};
 ghost use Rattle.listing.specs.Calls.{guarded};
 ghost use Rattle.exports.specs.Numbers.{Tells, valueNumbers};
 ghost use Rattle.exports_full.specs.Singletons.{initNumbers};
@@ -9,8 +9,8 @@ use crate::bodies::ANSWERED;
 use crate::bodies::THERE;
 use listing::InitAnswer;
 use listing::PointerAnswer;
-use typedescriptor::SingletonMetadataInit;
-use typedescriptor::SingletonMetadataPointer;
+use typebody::SingletonMetadataInit;
+use typebody::SingletonMetadataPointer;
 
 // 1, and the addresses of the initialization cache, the incomplete metadata and the completion function, each 0 where there is none.
 #[no_mangle]

@@ -10,10 +10,10 @@ use Rattle.classtrailers.specs.declared.block.Block.{Block}
 use Rattle.classtrailers.specs.declared.block.BlockKind.{BlockKind}
 use Rattle.typedescriptor.specs.Row.{TypeRow}
 use Rattle.typedescriptor.specs.Slots.{slotRow}
-use Rattle.typedescriptor.specs.Body.{Body, slotBody}
-use Rattle.typedescriptor.specs.Singleton.{Initialization, needing}
-use Rattle.typedescriptor.specs.Items.{slotBlock, slotInit, slotPointer}
-use Rattle.typedescriptor.specs.Offsets.{slotOffsets}
+use Rattle.typebody.specs.Body.{Body, slotBody}
+use Rattle.typebody.specs.Singleton.{Initialization, needing}
+use Rattle.typebody.specs.Items.{slotBlock, slotInit, slotPointer}
+use Rattle.typebody.specs.Offsets.{slotOffsets}
 use Rattle.vtable.specs.Entries.{Layout, method, override, defaultOverride, prespecialization, Entry, entry}
 use Rattle.field.specs.Fields.{descriptorAt}
 use Rattle.field.specs.Records.{recordAt}

@@ -5,8 +5,8 @@ use mathlib.Core.Option.{Option, some, none}
 use Rattle.classtrailers.specs.declared.block.Block.{Block}
 use Rattle.classtrailers.specs.declared.block.BlockKind.{BlockKind}
 use Rattle.typedescriptor.specs.Row.{TypeRow}
-use Rattle.typedescriptor.specs.Body.{Body}
-use Rattle.typedescriptor.specs.Singleton.{Initialization}
+use Rattle.typebody.specs.Body.{Body}
+use Rattle.typebody.specs.Singleton.{Initialization}
 use Rattle.vtable.specs.Entries.{Entry}
 use Rattle.field.specs.declared.iter.FieldDescriptor.{FieldDescriptor}
 use Rattle.parent.specs.Context.{Header}

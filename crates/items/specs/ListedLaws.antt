@@ -22,13 +22,14 @@ use Rattle.typedescriptor.specs.Row.{TypeRow}
 use Rattle.typedescriptor.specs.Slots.{slots, Found, found, rowsFrom, rows}
 use Rattle.typedescriptor.specs.RowLaws.{past-slots}
 use Rattle.typedescriptor.specs.SlotsLaws.{stepped as steppedRows, stepped-rows}
-use Rattle.typedescriptor.specs.Body.{Body, body, trailing, trailingStart}
-use Rattle.typedescriptor.specs.Singleton.{needing, singletonInit, singletonPointer}
-use Rattle.typedescriptor.specs.Items.{slotBlock, slotPointer, pointerOfBlock}
+use Rattle.typebody.specs.Body.{Body, body, trailing, trailingStart}
+use Rattle.typebody.specs.Singleton.{needing, singletonInit, singletonPointer}
+use Rattle.typebody.specs.Items.{slotBlock, slotPointer, pointerOfBlock}
 use Rattle.typedescriptor.specs.PathLaws as Slot
-use Rattle.typedescriptor.specs.Offsets.{fieldOffsets, Offsets, offsetsPlace, staticPlace, metadataAt, startOf}
-use Rattle.typedescriptor.specs.OffsetsLaws as Vector
-use Rattle.typedescriptor.specs.OffsetsLaws.{offsetList}
+use Rattle.typebody.specs.PathLaws as Hung
+use Rattle.typebody.specs.Offsets.{fieldOffsets, Offsets, offsetsPlace, staticPlace, metadataAt, startOf}
+use Rattle.typebody.specs.OffsetsLaws as Vector
+use Rattle.typebody.specs.OffsetsLaws.{offsetList}
 use Rattle.vtable.specs.Entries.{Layout, method, override, defaultOverride, prespecialization, Entry, entry, start}
 use Rattle.vtable.specs.ListLaws.{listed as listedEntries, listed-all}
 use Rattle.field.specs.declared.iter.FieldDescriptor.{FieldDescriptor}
@@ -96,12 +97,12 @@ module _ (image segments : List ℕ) (s : Sections) where
   no-row-no-item : (k : Key) (i : ℕ) → slotOf k ≡ some i → ((j : ℕ) → slotOf k ≡ some j → run image segments (rowOfSlot s j) ≡ none) → run image segments (item s k) ≡ none
   unfolding item entryOfSlot contextOfSlot run
   no-row-no-item (Key.row i) _ _ e = map-none image segments _ (e i refl) _
-  no-row-no-item (Key.body i) _ _ e = map-none image segments _ (Slot.no-row-no-body image segments _ _ i (e i refl)) _
-  no-row-no-item (Key.block i k) _ _ e = map-none image segments _ (Slot.no-row-no-block image segments _ _ i (e i refl) k) _
-  no-row-no-item (Key.entry i t k) _ _ e = map-none image segments _ (bind-none image segments _ (Slot.no-row-no-block image segments _ _ i (e i refl) (tableKind t)) _) _
-  no-row-no-item (Key.initialization i) _ _ e = map-none image segments _ (Slot.no-block-no-init image segments _ _ i (Slot.no-row-no-block image segments _ _ i (e i refl) _)) _
-  no-row-no-item (Key.pointer i) _ _ e = map-none image segments _ (Slot.no-block-no-pointer image segments _ _ i (Slot.no-row-no-block image segments _ _ i (e i refl) _)) _
-  no-row-no-item (Key.offsets i m) _ _ e = map-none image segments _ (Vector.no-body-no-offsets image segments _ _ i m (Slot.no-row-no-body image segments _ _ i (e i refl))) _
+  no-row-no-item (Key.body i) _ _ e = map-none image segments _ (Hung.no-row-no-body image segments _ _ i (e i refl)) _
+  no-row-no-item (Key.block i k) _ _ e = map-none image segments _ (Hung.no-row-no-block image segments _ _ i (e i refl) k) _
+  no-row-no-item (Key.entry i t k) _ _ e = map-none image segments _ (bind-none image segments _ (Hung.no-row-no-block image segments _ _ i (e i refl) (tableKind t)) _) _
+  no-row-no-item (Key.initialization i) _ _ e = map-none image segments _ (Hung.no-block-no-init image segments _ _ i (Hung.no-row-no-block image segments _ _ i (e i refl) _)) _
+  no-row-no-item (Key.pointer i) _ _ e = map-none image segments _ (Hung.no-block-no-pointer image segments _ _ i (Hung.no-row-no-block image segments _ _ i (e i refl) _)) _
+  no-row-no-item (Key.offsets i m) _ _ e = map-none image segments _ (Vector.no-body-no-offsets image segments _ _ i m (Hung.no-row-no-body image segments _ _ i (e i refl))) _
   no-row-no-item (Key.context i k) _ _ e = map-none image segments _ (go (ltb k contextsMost)) _
     where
       go : (b : Bool) → run image segments (cond b (bind (rowOfSlot s i) (λ r. headerAt k (r .parent))) nothing) ≡ none
@@ -162,7 +163,7 @@ module _ (image segments : List ℕ) where
   pub block-kind : (t : Trailing) (start : ℕ) (k : BlockKind) (x : Block) → run image segments (block t start k) ≡ some x → kindOf x ≡ k
   unfolding block blockIn run
   block-kind t start k x e =
-      let w = Slot.both-read image segments (reached t start (rowNumber k)) (λ a. cond (rowAt (rowNumber k) .there t) (recordAt (rowAt (rowNumber k)) a) nothing) x e in
+      let w = Hung.both-read image segments (reached t start (rowNumber k)) (λ a. cond (rowAt (rowNumber k) .there t) (recordAt (rowAt (rowNumber k)) a) nothing) x e in
       there (w .first) (rowAt (rowNumber k) .there t) (w .goes)
     where
       there : (a : ℕ) (b : Bool) → run image segments (cond b (recordAt (rowAt (rowNumber k)) a) nothing) ≡ some x → kindOf x ≡ k
@@ -204,14 +205,14 @@ module _ (image segments : List ℕ) (s : Sections) (i : ℕ) (r : TypeRow) (is-
   -- the body that is decoded at a row's address by its flags
   pub body-listed : run image segments (item s (Key.body i)) ≡ Option·map Answer.body (run image segments (body (r .address) (r .flags)))
   unfolding item
-  body-listed = run-map image segments Answer.body (bodyOfSlot s i) ∙ ap (Option·map Answer.body) (Slot.slot-body image segments (s .types) (s .typesStart) i r the-row)
+  body-listed = run-map image segments Answer.body (bodyOfSlot s i) ∙ ap (Option·map Answer.body) (Hung.slot-body image segments (s .types) (s .typesStart) i r the-row)
 
   -- and without one there are no blocks
   pub no-body : (k : BlockKind) → run image segments (item s (Key.body i)) ≡ none → run image segments (item s (Key.block i k)) ≡ none
   unfolding item
   no-body k e =
       map-none image segments _
-      (Slot.no-body-no-block image segments (s .types) (s .typesStart) i r the-row k (un-map-none image segments Answer.body (bodyOfSlot s i) e)) _
+      (Hung.no-body-no-block image segments (s .types) (s .typesStart) i r the-row k (un-map-none image segments Answer.body (bodyOfSlot s i) e)) _
 
   module _ (b : Body) (is-body : run image segments (item s (Key.body i)) ≡ some (Answer.body b)) where
     the-body : run image segments (bodyOfSlot s i) ≡ some b
@@ -224,7 +225,7 @@ module _ (image segments : List ℕ) (s : Sections) (i : ℕ) (r : TypeRow) (is-
     unfolding item
     block-listed k =
         run-map image segments Answer.block (blockOfSlot s i k)
-        ∙ ap (Option·map Answer.block) (Slot.slot-block image segments (s .types) (s .typesStart) i r the-row b the-body k)
+        ∙ ap (Option·map Answer.block) (Hung.slot-block image segments (s .types) (s .typesStart) i r the-row b the-body k)
 
     blocks-items : (ks : List BlockKind)
         → map (blockItem i) (blocksOf image segments (trailing (r .flags) b) (trailingStart (r .address) b) ks) ≡ itemsOf image segments s (blockKeys i ks)
@@ -254,10 +255,10 @@ module _ (image segments : List ℕ) (s : Sections) (i : ℕ) (r : TypeRow) (is-
     static-by : staticPlace image segments (r .address) (r .flags) ≡ andThen (run image segments (pointerOfSlot s i)) (offsetsPlace image segments (some b))
     unfolding staticPlace metadataAt slotPointer
     static-by =
-        let its : run image segments (body (r .address) (r .flags)) ≡ some b = sym (Slot.slot-body image segments (s .types) (s .typesStart) i r the-row) ∙ the-body in
+        let its : run image segments (body (r .address) (r .flags)) ≡ some b = sym (Hung.slot-body image segments (s .types) (s .typesStart) i r the-row) ∙ the-body in
         let metadata : run image segments (metadataAt (startOf (r .address) (r .flags) b)) ≡ run image segments (pointerOfSlot s i)
         = run-bind image segments pointerOfBlock (block (trailing (r .flags) b) (trailingStart (r .address) b) BlockKind.SingletonMetadataPointer)
-        ∙ rw (sym (Slot.slot-block image segments (s .types) (s .typesStart) i r the-row b the-body BlockKind.SingletonMetadataPointer))
+        ∙ rw (sym (Hung.slot-block image segments (s .types) (s .typesStart) i r the-row b the-body BlockKind.SingletonMetadataPointer))
         (sym (run-bind image segments pointerOfBlock (blockOfSlot s i BlockKind.SingletonMetadataPointer))) in
         rw (its, metadata)
 
@@ -365,8 +366,8 @@ module _ (image segments : List ℕ) (s : Sections) (i : ℕ) where
   slot-block-kind : (k : BlockKind) (x : Block) → run image segments (blockOfSlot s i k) ≡ some x → kindOf x ≡ k
   unfolding slotBlock
   slot-block-kind k x e =
-      let w = Slot.both-read image segments (rowOfSlot s i) _ x e in
-      let v = Slot.both-read image segments (body (w .first .address) (w .first .flags)) _ x (w .goes) in
+      let w = Hung.both-read image segments (rowOfSlot s i) _ x e in
+      let v = Hung.both-read image segments (body (w .first .address) (w .first .flags)) _ x (w .goes) in
       block-kind image segments (trailing (w .first .flags) (v .first)) (trailingStart (w .first .address) (v .first)) k x (v .goes)
 
   module _ (e : EntryKind) where
@@ -420,7 +421,7 @@ module _ (image segments : List ℕ) (s : Sections) (i : ℕ) where
   -- the records of a singleton, each by its block's address
   pub no-init : run image segments (item s (Key.block i BlockKind.SingletonMetadataInit)) ≡ none → run image segments (item s (Key.initialization i)) ≡ none
   unfolding item
-  no-init f = map-none image segments _ (Slot.no-block-no-init image segments _ _ i (un-map-none image segments Answer.block (blockOfSlot s i BlockKind.SingletonMetadataInit) f)) _
+  no-init f = map-none image segments _ (Hung.no-block-no-init image segments _ _ i (un-map-none image segments Answer.block (blockOfSlot s i BlockKind.SingletonMetadataInit) f)) _
 
   pub init-listed : (v : ℕ) → run image segments (item s (Key.block i BlockKind.SingletonMetadataInit)) ≡ some (Answer.block (Block.SingletonMetadataInit v))
       → run image segments (item s (Key.initialization i)) ≡ Option·map Answer.initialization (run image segments (singletonInit v))
@@ -428,11 +429,11 @@ module _ (image segments : List ℕ) (s : Sections) (i : ℕ) where
   init-listed v f =
       run-map image segments Answer.initialization (initOfSlot s i)
       ∙ ap (Option·map Answer.initialization)
-      (Slot.slot-init image segments (s .types) (s .typesStart) i v (un-map image segments Answer.block (blockOfSlot s i BlockKind.SingletonMetadataInit) (Block.SingletonMetadataInit v) (λ a e. cc) f))
+      (Hung.slot-init image segments (s .types) (s .typesStart) i v (un-map image segments Answer.block (blockOfSlot s i BlockKind.SingletonMetadataInit) (Block.SingletonMetadataInit v) (λ a e. cc) f))
 
   pub no-pointer : run image segments (item s (Key.block i BlockKind.SingletonMetadataPointer)) ≡ none → run image segments (item s (Key.pointer i)) ≡ none
   unfolding item
-  no-pointer f = map-none image segments _ (Slot.no-block-no-pointer image segments _ _ i (un-map-none image segments Answer.block (blockOfSlot s i BlockKind.SingletonMetadataPointer) f)) _
+  no-pointer f = map-none image segments _ (Hung.no-block-no-pointer image segments _ _ i (un-map-none image segments Answer.block (blockOfSlot s i BlockKind.SingletonMetadataPointer) f)) _
 
   pub pointer-listed : (v : ℕ) → run image segments (item s (Key.block i BlockKind.SingletonMetadataPointer)) ≡ some (Answer.block (Block.SingletonMetadataPointer v))
       → run image segments (item s (Key.pointer i)) ≡ Option·map Answer.pointer (run image segments (singletonPointer v))
@@ -440,7 +441,7 @@ module _ (image segments : List ℕ) (s : Sections) (i : ℕ) where
   pointer-listed v f =
       run-map image segments Answer.pointer (pointerOfSlot s i)
       ∙ ap (Option·map Answer.pointer)
-      (Slot.slot-pointer image segments (s .types) (s .typesStart) i v (un-map image segments Answer.block (blockOfSlot s i BlockKind.SingletonMetadataPointer) (Block.SingletonMetadataPointer v) (λ a e. cc) f))
+      (Hung.slot-pointer image segments (s .types) (s .typesStart) i v (un-map image segments Answer.block (blockOfSlot s i BlockKind.SingletonMetadataPointer) (Block.SingletonMetadataPointer v) (λ a e. cc) f))
 
 -- ---- fields
 

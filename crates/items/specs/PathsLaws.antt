@@ -19,11 +19,12 @@ use Rattle.classtrailers.specs.declared.block.Block.{Block}
 use Rattle.classtrailers.specs.declared.block.BlockKind.{BlockKind}
 use Rattle.typedescriptor.specs.Row.{TypeRow, rowName, descriptor}
 use Rattle.typedescriptor.specs.Slots.{slotAddress}
-use Rattle.typedescriptor.specs.Body.{Body, ofStruct, bodySize, trailing, trailingStart}
-use Rattle.typedescriptor.specs.Singleton.{Initialization, needing, targets, singletonInit, singletonPointer}
+use Rattle.typebody.specs.Body.{Body, ofStruct, bodySize, trailing, trailingStart}
+use Rattle.typebody.specs.Singleton.{Initialization, needing, targets, singletonInit, singletonPointer}
 use Rattle.typedescriptor.specs.PathLaws as Slot
-use Rattle.typedescriptor.specs.Offsets.{u32s, fieldOffsets}
-use Rattle.typedescriptor.specs.OffsetsLaws as Vector
+use Rattle.typebody.specs.PathLaws as Hung
+use Rattle.typebody.specs.Offsets.{u32s, fieldOffsets}
+use Rattle.typebody.specs.OffsetsLaws as Vector
 use Rattle.vtable.specs.Entries.{Entry, entry}
 use Rattle.vtable.specs.PathLaws.{offsetIn, ranges, entry-path as own-entries}
 use Rattle.field.specs.declared.iter.FieldDescriptor.{FieldDescriptor}
@@ -105,8 +106,8 @@ module _ (image segments : List ℕ) where
 
         body-placed : fileOffset (segmentsOf segments) (address + 20) ≡ some (offsetIn segments (address + 20))
         body-placed =
-            let q = Slot.slot-row-address image segments (s .types) (s .typesStart) i r the-row in
-            let w = Slot.body-read image segments (r .address) b (r .flags) (sym (Slot.slot-body image segments (s .types) (s .typesStart) i r the-row) ∙ the-body) in
+            let q = Hung.slot-row-address image segments (s .types) (s .typesStart) i r the-row in
+            let w = Hung.body-read image segments (r .address) b (r .flags) (sym (Hung.slot-body image segments (s .types) (s .typesStart) i r the-row) ∙ the-body) in
             placed segments (address + 20) (w .offset) (sym (ap (λ (a : ℕ). fileOffset (segmentsOf segments) (a + 20)) q) ∙ w .at)
 
         -- the row's path, and the body's 24 or 8 bytes
@@ -114,7 +115,7 @@ module _ (image segments : List ℕ) where
         unfolding item
         body-path =
             path-map image segments Answer.body (bodyOfSlot s i)
-            ∙ Slot.body-path image segments (s .types) (s .typesStart) i r the-row b the-body (offsetIn segments address) (offsetIn segments (address + 20)) row-placed body-placed
+            ∙ Hung.body-path image segments (s .types) (s .typesStart) i r the-row b the-body (offsetIn segments address) (offsetIn segments (address + 20)) row-placed body-placed
             ∙ ap (λ (l : List Range). l ++ (bytesAt segments (address + 20) (bodySize b) ∷ [])) (sym row-path)
 
         -- ---- blocks
@@ -126,9 +127,9 @@ module _ (image segments : List ℕ) where
         unfolding item
         block-path k x is-block =
             let there : run image segments (blockOfSlot s i k) ≡ some x = un-map image segments Answer.block (blockOfSlot s i k) x (λ a e. cc) is-block in
-            let its = Slot.slot-block image segments (s .types) (s .typesStart) i r the-row b the-body k in
+            let its = Hung.slot-block image segments (s .types) (s .typesStart) i r the-row b the-body k in
             path-map image segments Answer.block (blockOfSlot s i k)
-            ∙ Slot.block-path image segments (s .types) (s .typesStart) i r the-row b the-body k
+            ∙ Hung.block-path image segments (s .types) (s .typesStart) i r the-row b the-body k
             ∙ rw (path-map image segments Answer.body (bodyOfSlot s i), own-headers image segments (trailing (r .flags) b) (trailingStart (r .address) b) k x (sym there ∙ its))
 
       -- ---- contexts
@@ -204,9 +205,9 @@ module _ (image segments : List ℕ) where
     init-path v y is-block is-init =
         let b = the-block BlockKind.SingletonMetadataInit (Block.SingletonMetadataInit v) is-block in
         let there : run image segments (initOfSlot s i) ≡ some y = un-map image segments Answer.initialization (initOfSlot s i) y (λ a e. cc) is-init in
-        let w = bytes-read image segments v y 12 (targets v) (sym (Slot.slot-init image segments (s .types) (s .typesStart) i v b) ∙ there) in
+        let w = bytes-read image segments v y 12 (targets v) (sym (Hung.slot-init image segments (s .types) (s .typesStart) i v b) ∙ there) in
         path-map image segments Answer.initialization (initOfSlot s i)
-        ∙ Slot.init-path image segments (s .types) (s .typesStart) i v b y (offsetIn segments v) there (placed segments v (w .offset) (w .at))
+        ∙ Hung.init-path image segments (s .types) (s .typesStart) i v b y (offsetIn segments v) there (placed segments v (w .offset) (w .at))
         ∙ ap (λ (l : List Range). l ++ (bytesAt segments v 12 ∷ [])) (sym (block-reads BlockKind.SingletonMetadataInit (Block.SingletonMetadataInit v) is-block))
 
     pub pointer-path : (v y : ℕ) → run image segments (item s (Key.block i BlockKind.SingletonMetadataPointer)) ≡ some (Answer.block (Block.SingletonMetadataPointer v))
@@ -216,9 +217,9 @@ module _ (image segments : List ℕ) where
     pointer-path v y is-block is-pointer =
         let b = the-block BlockKind.SingletonMetadataPointer (Block.SingletonMetadataPointer v) is-block in
         let there : run image segments (pointerOfSlot s i) ≡ some y = un-map image segments Answer.pointer (pointerOfSlot s i) y (λ a e. cc) is-pointer in
-        let w = bytes-read image segments v y 4 (λ h. done (relativeAddress v (signedIn 4 h 0))) (sym (Slot.slot-pointer image segments (s .types) (s .typesStart) i v b) ∙ there) in
+        let w = bytes-read image segments v y 4 (λ h. done (relativeAddress v (signedIn 4 h 0))) (sym (Hung.slot-pointer image segments (s .types) (s .typesStart) i v b) ∙ there) in
         path-map image segments Answer.pointer (pointerOfSlot s i)
-        ∙ Slot.pointer-path image segments (s .types) (s .typesStart) i v b y (offsetIn segments v) there (placed segments v (w .offset) (w .at))
+        ∙ Hung.pointer-path image segments (s .types) (s .typesStart) i v b y (offsetIn segments v) there (placed segments v (w .offset) (w .at))
         ∙ ap (λ (l : List Range). l ++ (bytesAt segments v 4 ∷ [])) (sym (block-reads BlockKind.SingletonMetadataPointer (Block.SingletonMetadataPointer v) is-block))
 
   -- ---- fields

@@ -15,10 +15,10 @@ use Rattle.context.specs.declared.descriptor.ContextDescriptorKind.{ContextDesc
 use Rattle.classtrailers.specs.Blocks.{Trailing, Row, rowAt, readHeader, recordAt, endAt, passed, reached, blockIn, rowNumber, block}
 use Rattle.classtrailers.specs.declared.block.Block.{Block}
 use Rattle.classtrailers.specs.declared.block.BlockKind.{BlockKind}
-use Rattle.typedescriptor.specs.Body.{Body, bodyBytes, bodyOfKind, body, slotBody, trailing, trailingStart}
-use Rattle.typedescriptor.specs.Singleton.{initialization, slotTarget, needing, targets, singletonInit, singletonPointer}
-use Rattle.typedescriptor.specs.Items.{slotBlock, slotInit, slotPointer, initOfBlock, pointerOfBlock}
-use Rattle.typedescriptor.specs.Offsets.{vector, u32s, fieldOffsets, slotOffsets}
+use Rattle.typebody.specs.Body.{Body, bodyBytes, bodyOfKind, body, slotBody, trailing, trailingStart}
+use Rattle.typebody.specs.Singleton.{initialization, slotTarget, needing, targets, singletonInit, singletonPointer}
+use Rattle.typebody.specs.Items.{slotBlock, slotInit, slotPointer, initOfBlock, pointerOfBlock}
+use Rattle.typebody.specs.Offsets.{vector, u32s, fieldOffsets, slotOffsets}
 use Rattle.vtable.specs.Entries.{Layout, entrySize, entryOf, entryAddress, entryAt, upTo, entry}
 use Rattle.field.specs.Fields.{descriptorFrom, given, descriptorAt}
 use Rattle.field.specs.Records.{recordLayout, recordsBase, recordAt as fieldRecordAt}

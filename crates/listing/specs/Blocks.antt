@@ -9,7 +9,7 @@ use Rattle.classtrailers.specs.Blocks.{Walk, Step, block}
 use Rattle.classtrailers.specs.Calls.{walkOf}
 use Rattle.classtrailers.specs.declared.block.Block.{Block}
 use Rattle.classtrailers.specs.declared.block.BlockKind.{BlockKind}
-use Rattle.typedescriptor.specs.Items.{Start}
+use Rattle.typebody.specs.Items.{Start}
 use Rattle.listing.specs.declared.blocks.NextBlock.{NextBlock}
 use Rattle.listing.specs.declared.blocks.BlockAnswer.{BlockAnswer}
 

@@ -2,7 +2,7 @@
 use mathlib.Core.Option.{Option}
 use Rattle.refusal.specs.Refusal.{Guarded, answered, refused, refusalNumber}
 use Rattle.util.specs.Cstr.{Place, textOf}
-use Rattle.typedescriptor.specs.Body.{Body, bodyOf}
+use Rattle.typebody.specs.Body.{Body, bodyOf}
 use Rattle.listing.specs.declared.bodies.BodyAnswer.{BodyAnswer}
 use Rattle.listing.specs.declared.bodies.TextAnswer.{TextAnswer}
 

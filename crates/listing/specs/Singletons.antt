@@ -2,7 +2,7 @@
 use Prim.Native.Nat.{ℕ}
 use mathlib.Core.Option.{Option}
 use Rattle.refusal.specs.Refusal.{Guarded, answered, refused, refusalNumber}
-use Rattle.typedescriptor.specs.Singleton.{Initialization, initOf, pointerOf}
+use Rattle.typebody.specs.Singleton.{Initialization, initOf, pointerOf}
 use Rattle.listing.specs.declared.singletons.InitAnswer.{InitAnswer}
 use Rattle.listing.specs.declared.singletons.PointerAnswer.{PointerAnswer}
 

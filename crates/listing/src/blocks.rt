@@ -3,8 +3,8 @@ ghost use mathlib.Core.Path.{_≡_};
 ghost use Rattle.refusal.specs.Refusal.{answered};
 ghost use Rattle.classtrailers.specs.Blocks.{nextBlock};
 ghost use Rattle.classtrailers.specs.Calls.{walkOf};
-ghost use Rattle.typedescriptor.specs.Body.{bodyOf};
-ghost use Rattle.typedescriptor.specs.Items.{trailers};
+ghost use Rattle.typebody.specs.Body.{bodyOf};
+ghost use Rattle.typebody.specs.Items.{trailers};
 ghost use Rattle.listing.specs.Calls.{guarded};
 ghost use Rattle.listing.specs.Blocks.{walkFrom, kindFrom, nextBlockAnswer, blockAnswer};
 use classtrailers::Block;
@@ -14,9 +14,9 @@ use classtrailers::BlockStep;
 use classtrailers::BlockWalk;
 use classtrailers::Trailing;
 use refusal::Refusal;
+use typebody::TrailingRead;
+use typebody::TypeBody;
 use typedescriptor::Row;
-use typedescriptor::TrailingRead;
-use typedescriptor::TypeBody;
 
 // The number of a walk that is over: how many kinds of blocks there are.
 const OVER: u32 = 11;
@@ -37,7 +37,7 @@ pub enum BlockAnswer {
 pub fn block_walk(row: Row, body: TypeBody) -> BlockWalk
     ensures { λ r. ⌜ walkOf r ≡ walkFrom (trailers (row .address) (row .flags) (bodyOf body)) ⌝ }
 {
-    match typedescriptor::trailing(row.address, row.flags, body) {
+    match typebody::trailing(row.address, row.flags, body) {
         TrailingRead::Start(first) => BlockWalk {
             trailing: Trailing {
                 flags: first.flags,
@@ -85,7 +85,7 @@ pub fn block_of_kind(
     if segments.len() % 4 != 0 {
         return BlockAnswer::Refused(Refusal::RaggedSegments);
     }
-    match typedescriptor::trailing(row.address, row.flags, body) {
+    match typebody::trailing(row.address, row.flags, body) {
         TrailingRead::Start(first) => {
             let trailing = Trailing {
                 flags: first.flags,

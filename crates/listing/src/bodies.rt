@@ -2,12 +2,12 @@
 ghost use mathlib.Core.Path.{_≡_};
 ghost use Rattle.refusal.specs.Refusal.{answered};
 ghost use Rattle.runtime.specs.Reads.{run, textPlace};
-ghost use Rattle.typedescriptor.specs.Body.{body, bodyOf, superclassName};
+ghost use Rattle.typebody.specs.Body.{body, bodyOf, superclassName};
 ghost use Rattle.listing.specs.Calls.{guarded};
 ghost use Rattle.listing.specs.Bodies.{bodyAnswer, textAnswer};
 use refusal::Refusal;
+use typebody::TypeBody;
 use typedescriptor::Row;
-use typedescriptor::TypeBody;
 use util::Text;
 
 pub enum BodyAnswer {
@@ -27,7 +27,7 @@ pub fn row_body(image: &[u8], segments: &[u64], row: Row) -> BodyAnswer
     if segments.len() % 4 != 0 {
         return BodyAnswer::Refused(Refusal::RaggedSegments);
     }
-    BodyAnswer::Body(typedescriptor::decode_body(image, segments, row.address, row.flags))
+    BodyAnswer::Body(typebody::decode_body(image, segments, row.address, row.flags))
 }
 
 // The name of a class's superclass; there is none beside another body.
@@ -37,7 +37,7 @@ pub fn superclass_name(image: &[u8], segments: &[u64], body: TypeBody) -> TextAn
     if segments.len() % 4 != 0 {
         return TextAnswer::Refused(Refusal::RaggedSegments);
     }
-    TextAnswer::Text(typedescriptor::superclass_name(image, segments, body))
+    TextAnswer::Text(typebody::superclass_name(image, segments, body))
 }
 
 // The text at an address; there is none at address 0.

@@ -2,12 +2,12 @@
 ghost use mathlib.Core.Path.{_≡_};
 ghost use Rattle.refusal.specs.Refusal.{answered};
 ghost use Rattle.runtime.specs.Reads.{run};
-ghost use Rattle.typedescriptor.specs.Singleton.{singletonInit, singletonPointer};
+ghost use Rattle.typebody.specs.Singleton.{singletonInit, singletonPointer};
 ghost use Rattle.listing.specs.Calls.{guarded};
 ghost use Rattle.listing.specs.Singletons.{initAnswer, pointerAnswer};
 use refusal::Refusal;
-use typedescriptor::SingletonMetadataInit;
-use typedescriptor::SingletonMetadataPointer;
+use typebody::SingletonMetadataInit;
+use typebody::SingletonMetadataPointer;
 
 pub enum InitAnswer {
     Init(SingletonMetadataInit),
@@ -26,7 +26,7 @@ pub fn singleton_init(image: &[u8], segments: &[u64], address: u64) -> InitAnswe
     if segments.len() % 4 != 0 {
         return InitAnswer::Refused(Refusal::RaggedSegments);
     }
-    InitAnswer::Init(typedescriptor::singleton_metadata_init(image, segments, address))
+    InitAnswer::Init(typebody::singleton_metadata_init(image, segments, address))
 }
 
 // The singleton pointer at an address.
@@ -36,5 +36,5 @@ pub fn singleton_pointer(image: &[u8], segments: &[u64], address: u64) -> Pointe
     if segments.len() % 4 != 0 {
         return PointerAnswer::Refused(Refusal::RaggedSegments);
     }
-    PointerAnswer::Pointer(typedescriptor::singleton_metadata_pointer(image, segments, address))
+    PointerAnswer::Pointer(typebody::singleton_metadata_pointer(image, segments, address))
 }

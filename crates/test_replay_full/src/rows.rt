@@ -24,14 +24,14 @@ use listing::NextBlock;
 use listing::NextRow;
 use listing::PointerAnswer;
 use listing::TextAnswer;
-use typedescriptor::ClassBody;
-use typedescriptor::ClassSizes;
-use typedescriptor::FieldOffset;
-use typedescriptor::FieldOffsets;
+use typebody::ClassBody;
+use typebody::ClassSizes;
+use typebody::FieldOffset;
+use typebody::FieldOffsets;
+use typebody::SingletonMetadataInit;
+use typebody::SingletonMetadataPointer;
+use typebody::TypeBody;
 use typedescriptor::Row;
-use typedescriptor::SingletonMetadataInit;
-use typedescriptor::SingletonMetadataPointer;
-use typedescriptor::TypeBody;
 use typedescriptor::TypeIter;
 
 // Bodies.
@@ -261,7 +261,7 @@ fn kind_lines(image: &[u8], segments: &[u64], row: Row, body: TypeBody) {
 // Field offsets.
 
 fn offset_field(image: &[u8], offsets: FieldOffsets, number: u32) {
-    match typedescriptor::field_offset(image, offsets, number) {
+    match typebody::field_offset(image, offsets, number) {
         FieldOffset::At(offset) => number_field(offset as u64),
         FieldOffset::Nothing => nothing(),
     }
@@ -280,7 +280,7 @@ fn offset_fields(image: &[u8], offsets: FieldOffsets, count: u32) {
 
 fn offsets_line(image: &[u8], segments: &[u64], row: Row) {
     word(b"offsets");
-    let offsets = typedescriptor::static_field_offsets(image, segments, row.address, row.flags);
+    let offsets = typebody::static_field_offsets(image, segments, row.address, row.flags);
     match offsets {
         FieldOffsets::At { place: _, count } => {
             number_field(count as u64);

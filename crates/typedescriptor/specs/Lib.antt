@@ -1,14 +1,5 @@
-pub mod Body
-pub mod BodyLaws
 pub mod Row
 pub mod Slots
 pub mod RowLaws
 pub mod SlotsLaws
-pub mod Singleton
-pub mod SingletonLaws
-pub mod Items
-pub mod ItemsLaws
-pub mod Offsets
 pub mod PathLaws
-pub mod OffsetsLaws
-pub mod Examples

@@ -3,7 +3,7 @@
 use mathlib.Core.Path.{ap}
 use Rattle.refusal.specs.Refusal.{answered}
 use Rattle.util.specs.AnswersLaws.{told}
-use Rattle.typedescriptor.specs.Offsets.{offsetOf}
+use Rattle.typebody.specs.Offsets.{offsetOf}
 use Rattle.exports.specs.Numbers.{valueNumbers}
 use Rattle.exports.specs.NumbersLaws.{tells}
 use borrow.Author.Needs.{needs}

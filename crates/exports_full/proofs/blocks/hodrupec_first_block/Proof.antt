@@ -2,7 +2,7 @@
 -- Assumes nothing.
 use mathlib.Core.Path.{_∙_, ap}
 use Rattle.util.specs.AnswersLaws.{told}
-use Rattle.typedescriptor.specs.Items.{trailers}
+use Rattle.typebody.specs.Items.{trailers}
 use Rattle.listing.specs.Bodies.{bodyAnswer}
 use Rattle.exports_full.specs.Blocks.{startNumbers}
 use Rattle.exports_full.specs.BlocksLaws.{answered-then, refused-then}

@@ -2,8 +2,8 @@
 -- Assumes nothing.
 use mathlib.Core.Path.{refl, _∙_}
 use Rattle.util.specs.AnswersLaws.{told}
-use Rattle.typedescriptor.specs.Body.{bodyOf}
-use Rattle.typedescriptor.specs.declared.body.TypeBody.{TypeBody}
+use Rattle.typebody.specs.Body.{bodyOf}
+use Rattle.typebody.specs.declared.body.TypeBody.{TypeBody}
 use Rattle.exports_full.specs.Bodies.{bodyNumbers}
 use borrow.Author.Needs.{needs}
 use Rattle.exports_full.proofs.bodies.body_numbers.Statement.{statement}

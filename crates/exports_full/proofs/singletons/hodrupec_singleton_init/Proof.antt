@@ -2,8 +2,8 @@
 -- Assumes nothing.
 use Rattle.refusal.specs.Refusal.{answered}
 use Rattle.util.specs.AnswersLaws.{told}
-use Rattle.typedescriptor.specs.Singleton.{initOf}
-use Rattle.typedescriptor.specs.declared.singleton.SingletonMetadataInit.{SingletonMetadataInit}
+use Rattle.typebody.specs.Singleton.{initOf}
+use Rattle.typebody.specs.declared.singleton.SingletonMetadataInit.{SingletonMetadataInit}
 use Rattle.listing.specs.Singletons.{initAnswer}
 use Rattle.exports_full.specs.Singletons.{initNumbers}
 use Rattle.exports.specs.NumbersLaws.{tells, refuses}

@@ -2,8 +2,8 @@
 -- Assumes nothing.
 use Rattle.refusal.specs.Refusal.{answered}
 use Rattle.util.specs.AnswersLaws.{told}
-use Rattle.typedescriptor.specs.Singleton.{pointerOf}
-use Rattle.typedescriptor.specs.declared.singleton.SingletonMetadataPointer.{SingletonMetadataPointer}
+use Rattle.typebody.specs.Singleton.{pointerOf}
+use Rattle.typebody.specs.declared.singleton.SingletonMetadataPointer.{SingletonMetadataPointer}
 use Rattle.listing.specs.Singletons.{pointerAnswer}
 use Rattle.exports.specs.Numbers.{valueNumbers}
 use Rattle.exports.specs.NumbersLaws.{tells, refuses}

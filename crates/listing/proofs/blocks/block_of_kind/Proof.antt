@@ -4,7 +4,7 @@ use mathlib.Core.Path.{ap, _∙_}
 use Rattle.refusal.specs.Refusal.{answered}
 use Rattle.util.specs.AnswersLaws.{told}
 use Rattle.classtrailers.specs.Calls.{blockReadOf}
-use Rattle.typedescriptor.specs.Items.{trailersOf}
+use Rattle.typebody.specs.Items.{trailersOf}
 use Rattle.listing.specs.Blocks.{kindFrom}
 use Rattle.listing.specs.CallsLaws.{ragged, whole-as}
 use borrow.Author.Needs.{needs}

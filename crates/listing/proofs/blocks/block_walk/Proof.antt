@@ -2,7 +2,7 @@
 -- Assumes nothing.
 use mathlib.Core.Path.{ap}
 use Rattle.util.specs.AnswersLaws.{told}
-use Rattle.typedescriptor.specs.Items.{trailersOf}
+use Rattle.typebody.specs.Items.{trailersOf}
 use Rattle.listing.specs.Blocks.{walkFrom}
 use borrow.Author.Needs.{needs}
 use Rattle.listing.proofs.blocks.block_walk.Statement.{statement}

@@ -1,0 +1,10 @@
+pub mod Body
+pub mod BodyLaws
+pub mod Singleton
+pub mod SingletonLaws
+pub mod Items
+pub mod ItemsLaws
+pub mod Offsets
+pub mod PathLaws
+pub mod OffsetsLaws
+pub mod Examples
