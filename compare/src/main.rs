@@ -3,6 +3,7 @@
 mod archive;
 mod bench;
 mod check;
+mod cuts;
 mod exhaustive;
 mod flags;
 mod full;
@@ -27,6 +28,7 @@ use std::time::Instant;
 
 const USAGE: &str = "usage: compare run [--seed S] [--count N] [--seconds T] [--full]   seeded inputs, N of them or as many as T seconds allow
        compare exhaustive [--few]                     all short texts, all flags, chains around the limit, blocks around 2^64, all cuts
+       compare cuts [--seed S] [--count N]            listings of cut images, against the whole ones filtered by paths
        compare one LINE                               the input of one printed line
        compare sample OUT [DIR]                       inputs with the Rust's answers; in DIR as stdin and stdout of a program
        compare sample-full OUT [DIR]                  the same of bodies, blocks, entries and fields
@@ -122,6 +124,10 @@ fn main() {
             );
             exhaustive::run(args.iter().any(|a| a == "--few"));
         }
+        Some("cuts") => cuts::run(
+            number(&args, "--seed").unwrap_or(1),
+            number(&args, "--count").unwrap_or(10_000),
+        ),
         Some("one") => match args.get(1).and_then(|line| Input::of_line(line)) {
             Some(input) => match Checker::default().input(&input) {
                 Ok(()) => println!("no difference"),

@@ -1,0 +1,692 @@
+//! The cut tried by running: the proved calls list of an image's first c bytes what they list of the whole image, but for the items whose
+//! paths end past c. Paths and texts are computed here from the bytes, by docs/SPECIFICATION.md, "Items, paths and the cut"; of the whole
+//! listing only which items there are is taken.
+
+use crate::generate::{Generator, Rng};
+use crate::generate_full::FullGenerator;
+use crate::input::Input;
+use crate::proved;
+use crate::proved_archive::{field_offset, field_offsets, next_field, next_field_record};
+use crate::proved_full::{self as full, Image};
+use std::ops::Range;
+use std::time::Instant;
+
+/// The cuts of a longer image.
+const CUTS: usize = 200;
+/// Lists end here on both sides: entries of a table, records of a field descriptor, numbers of an offset list; contexts.
+const ENTRIES: u32 = 40;
+const CONTEXTS: usize = 256;
+
+#[derive(Clone, Copy, Debug, PartialEq)]
+enum Kind {
+    Row,
+    Body,
+    Block,
+    Method,
+    Override,
+    DefaultOverride,
+    Prespecialization,
+    Init,
+    Pointer,
+    Offsets,
+    Context,
+    Descriptor,
+    Record,
+}
+
+const KINDS: [&str; 13] = [
+    "rows",
+    "bodies",
+    "blocks",
+    "methods",
+    "overrides",
+    "default overrides",
+    "prespecializations",
+    "initializations",
+    "pointers",
+    "offset lists",
+    "contexts",
+    "field descriptors",
+    "field records",
+];
+
+/// What an item is known by: its slot or field descriptor, the block's kind or the metadata's address, its number in a list.
+#[derive(Clone, Copy, Debug, PartialEq)]
+struct Key {
+    kind: Kind,
+    of: u64,
+    part: u64,
+    number: u64,
+}
+
+#[derive(Debug)]
+struct Item {
+    key: Key,
+    numbers: Vec<u64>,
+    /// The bytes of a row's name.
+    name: Vec<u8>,
+    /// Where the text beside a context or a field record was found, its place and length.
+    beside: [u64; 3],
+}
+
+impl Item {
+    /// Whether it is this item of the whole image. Its text may be missing, and a field's name be the string section's at its address.
+    fn is(&self, whole: &Item, strings_va: u64) -> bool {
+        let [found, place, _] = self.beside;
+        let in_strings = self.key.kind == Kind::Record
+            && found == 2
+            && strings_va.wrapping_add(place) == self.numbers[3];
+        self.key == whole.key
+            && self.numbers == whole.numbers
+            && self.name == whole.name
+            && (self.beside == [0; 3] || in_strings || self.beside == whole.beside)
+    }
+}
+
+/// The listing by the proved calls of an image that may be cut, with the input's segments and sections; offset lists for these slots and
+/// metadata addresses.
+struct Listing<'a> {
+    input: &'a Input,
+    image: Image<'a>,
+    metadata: &'a [(u64, u64)],
+    items: Vec<Item>,
+}
+
+impl Listing<'_> {
+    fn of(input: &Input, length: usize, metadata: &[(u64, u64)]) -> Result<Vec<Item>, String> {
+        let mut listing = Listing {
+            input,
+            image: Image {
+                bytes: &input.image[..length],
+                segments: input.numbers(),
+            },
+            metadata,
+            items: Vec::new(),
+        };
+        listing.rows()?;
+        listing.fields()?;
+        Ok(listing.items)
+    }
+
+    fn push(&mut self, kind: Kind, of: u64, part: u64, number: u64, numbers: &[u64]) -> &mut Item {
+        self.items.push(Item {
+            key: Key {
+                kind,
+                of,
+                part,
+                number,
+            },
+            numbers: numbers.to_vec(),
+            name: Vec::new(),
+            beside: [0; 3],
+        });
+        let last = self.items.len() - 1;
+        &mut self.items[last]
+    }
+
+    fn rows(&mut self) -> Result<(), String> {
+        let Image { bytes, segments } = self.image;
+        let (types, va) = (&self.input.types, self.input.types_va);
+        let mut slot = 0;
+        loop {
+            let row = proved::next_row(bytes, segments, types, va, slot)?;
+            if row.there != 1 {
+                return Ok(());
+            }
+            let name = bytes.get(row.place as usize..(row.place + row.length) as usize);
+            let name = name.ok_or("a row's name past the image's end")?.to_vec();
+            let numbers = [row.address, row.flags, row.parent, row.place, row.length];
+            self.push(Kind::Row, row.slot, 0, 0, &numbers).name = name;
+            self.contexts(row.slot, row.parent)?;
+            self.body(row.slot, row.address, row.flags as u32)?;
+            slot = row.next as usize;
+        }
+    }
+
+    fn contexts(&mut self, slot: u64, mut address: u64) -> Result<(), String> {
+        let Image { bytes, segments } = self.image;
+        for given in 0..CONTEXTS {
+            let c = proved::next_context(bytes, segments, address, given)?;
+            if c.there != 1 {
+                break;
+            }
+            let numbers = [c.address, c.flags, c.next, c.given];
+            self.push(Kind::Context, slot, 0, given as u64, &numbers)
+                .beside = [c.named, c.place, c.length];
+            address = c.next;
+        }
+        Ok(())
+    }
+
+    fn body(&mut self, slot: u64, address: u64, flags: u32) -> Result<(), String> {
+        let body = full::body(self.image, address, flags)?;
+        if body[0] == 0 {
+            return Ok(());
+        }
+        self.push(Kind::Body, slot, 0, 0, &body);
+        let [there, class, extra, at] = full::first_block(self.image, address, flags)?;
+        let (class, extra, mut row, mut at) = (class as u32, extra as u32, 0, at);
+        while there == 1 {
+            let block = full::next_block(self.image, flags, class, extra, row, at)?;
+            let [1, kind, a, b, c, next, end] = block else {
+                break;
+            };
+            self.push(Kind::Block, slot, kind, 0, &block[2..]);
+            match kind {
+                3 => self.init(slot, a)?,
+                4 => self.table(slot, Kind::Method, c, b as u32)?,
+                5 => self.table(slot, Kind::Override, b, a as u32)?,
+                7 => self.table(slot, Kind::Prespecialization, b, a as u32)?,
+                9 => self.pointer(slot, a)?,
+                10 => self.table(slot, Kind::DefaultOverride, b, a as u32)?,
+                _ => {}
+            }
+            (row, at) = (next as u32, end);
+        }
+        self.offsets(slot, address, flags)
+    }
+
+    fn table(&mut self, slot: u64, kind: Kind, base: u64, count: u32) -> Result<(), String> {
+        let image = self.image;
+        for n in 0..count.min(ENTRIES) {
+            let step = match kind {
+                Kind::Method => full::next_method(image, base, count, n)?.to_vec(),
+                Kind::Override => full::next_override(image, base, count, n)?.to_vec(),
+                Kind::DefaultOverride => {
+                    full::next_default_override(image, base, count, n)?.to_vec()
+                }
+                _ => full::next_prespecialization(image, base, count, n)?.to_vec(),
+            };
+            if step[0] != 1 {
+                break;
+            }
+            self.push(kind, slot, 0, n.into(), &step[1..]);
+        }
+        Ok(())
+    }
+
+    fn init(&mut self, slot: u64, address: u64) -> Result<(), String> {
+        let init = full::singleton_init(self.image, address)?;
+        if init[0] == 1 {
+            self.push(Kind::Init, slot, 0, 0, &init[1..]);
+        }
+        Ok(())
+    }
+
+    fn pointer(&mut self, slot: u64, address: u64) -> Result<(), String> {
+        let pointer = full::singleton_pointer(self.image, address)?;
+        if pointer[0] == 1 {
+            self.push(Kind::Pointer, slot, 0, 0, &pointer[1..]);
+        }
+        Ok(())
+    }
+
+    fn offsets(&mut self, slot: u64, address: u64, flags: u32) -> Result<(), String> {
+        for &(_, metadata) in self.metadata.iter().filter(|m| m.0 == slot) {
+            let [there, place, count] = field_offsets(self.image, address, flags, metadata)?;
+            if there != 1 {
+                continue;
+            }
+            let mut numbers = vec![place, count];
+            for n in 0..ENTRIES.min(count as u32) {
+                let one = field_offset(self.image.bytes, place as usize, count as u32, n)?;
+                numbers.extend_from_slice(&one);
+            }
+            self.push(Kind::Offsets, slot, metadata, 0, &numbers);
+        }
+        Ok(())
+    }
+
+    fn fields(&mut self) -> Result<(), String> {
+        let Input {
+            fields, fields_va, ..
+        } = self.input;
+        let mut at = 0;
+        for number in 0.. {
+            let descriptor = next_field(fields, *fields_va, at)?;
+            if descriptor[0] != 1 {
+                break;
+            }
+            self.push(Kind::Descriptor, number, 0, 0, &descriptor[1..]);
+            let [_, next, address, _, size, count, ..] = descriptor;
+            let base = address.checked_add(16).unwrap_or(0);
+            self.records(number, base, count as u32, size as u32)?;
+            at = next as usize;
+        }
+        Ok(())
+    }
+
+    fn records(&mut self, of: u64, base: u64, count: u32, size: u32) -> Result<(), String> {
+        let (strings, strings_va) = (&self.input.strings, self.input.strings_va);
+        let Image { bytes, segments } = self.image;
+        for n in 0..count.min(ENTRIES) {
+            let record = next_field_record(self.image, base, count, size, n)?;
+            if record[0] != 1 {
+                break;
+            }
+            let name = proved::field_name(bytes, segments, strings, strings_va, record[5])?;
+            self.push(Kind::Record, of, 0, n.into(), &record[2..])
+                .beside = name;
+        }
+        Ok(())
+    }
+}
+
+/// The whole image, read as the specification says.
+struct Whole<'a> {
+    image: &'a [u8],
+    segments: &'a [[u64; 4]],
+}
+
+/// The address that a signed offset in the slot at an address refers to.
+fn pointer(slot: u64, offset: u32) -> u64 {
+    slot.wrapping_add(offset as i32 as u64)
+}
+
+impl Whole<'_> {
+    /// The first segment that has the address and bytes in the file decides; one that reaches 2^64 ends the search.
+    fn offset(&self, address: u64) -> Option<u64> {
+        for &[vmaddr, vmsize, fileoff, filesize] in self.segments {
+            let end = vmaddr.checked_add(vmsize)?;
+            if vmaddr <= address && address < end && filesize > 0 {
+                let distance = address - vmaddr;
+                return if distance < filesize {
+                    fileoff.checked_add(distance)
+                } else {
+                    None
+                };
+            }
+        }
+        None
+    }
+
+    /// The range of so many bytes that start at an address.
+    fn bytes(&self, address: u64, length: u64) -> Option<Range<u64>> {
+        let start = self.offset(address)?;
+        let end = start.checked_add(length)?;
+        (end <= self.image.len() as u64).then_some(start..end)
+    }
+
+    fn u32_at(&self, offset: u64) -> Option<u32> {
+        let bytes = self.image.get(offset as usize..)?.first_chunk()?;
+        Some(u32::from_le_bytes(*bytes))
+    }
+
+    /// The range of the text that is looked up at an address, well-formed or not: with its NUL, or to the image's end; one byte there.
+    fn text(&self, address: u64) -> Option<Range<u64>> {
+        let start = self.offset(address).filter(|_| address != 0)?;
+        let rest = self.image.get(start as usize..).unwrap_or(&[]);
+        let nul = rest.iter().position(|&b| b == 0);
+        let length = nul.map_or(rest.len().max(1), |at| at + 1);
+        Some(start..start.saturating_add(length as u64))
+    }
+
+    /// The text at the address that a descriptor's own offset at 8 refers to, an offset of 0 too.
+    fn descriptor_name(&self, address: u64) -> Option<Range<u64>> {
+        let header = self.bytes(address, 20)?;
+        let slot = address.checked_add(8)?;
+        self.text(pointer(slot, self.u32_at(header.start + 8)?))
+    }
+
+    /// A context's, where its kind has a name and the offset is not 0. The offset is a read of its own.
+    fn context_name(&self, address: u64, flags: u32) -> Option<Range<u64>> {
+        if !matches!(flags & 0x1f, 0 | 1 | 3 | 16..=18) {
+            return None;
+        }
+        let slot = address.checked_add(8)?;
+        let offset = self.u32_at(self.bytes(slot, 4)?.start)?;
+        self.text(pointer(slot, offset)).filter(|_| offset != 0)
+    }
+
+    /// How long a block is, by its header.
+    fn block_size(&self, kind: u64, header: Option<&Range<u64>>) -> Option<u64> {
+        let word = |at: u64| Some(u64::from(self.u32_at(header?.start + at)?));
+        Some(match kind {
+            0 => {
+                let (parameters, requirements) = (word(8)? & 0xffff, word(8)? >> 16);
+                16 + parameters.next_multiple_of(4) + 12 * requirements
+            }
+            3 => 12,
+            4 => 8 + 8 * word(4)?,
+            5 => 4 + 12 * word(0)?,
+            7 | 10 => 4 + 8 * word(0)?,
+            _ => 4,
+        })
+    }
+}
+
+/// The bytes that a block's header has: 0 for a block without one.
+fn header_size(kind: u64) -> u64 {
+    match kind {
+        0 => 16,
+        4 => 8,
+        5 | 7 | 10 => 4,
+        8 => 2,
+        _ => 0,
+    }
+}
+
+/// Where the path of each item of a listing ends, and the texts that the listing looks up.
+#[derive(Default)]
+struct Paths {
+    ends: Vec<u64>,
+    texts: Vec<Range<u64>>,
+}
+
+/// The slot, table or field descriptor that a walk over the items is in: addresses, and where paths end.
+#[derive(Default)]
+struct Place {
+    address: u64,
+    parent: u64,
+    row: u64,
+    context: u64,
+    body: u64,
+    /// The block, its entries, and the block behind it.
+    block_at: u64,
+    entries_at: u64,
+    next_at: u64,
+    block: u64,
+    entry: u64,
+    records_at: u64,
+    record_size: u64,
+    record: u64,
+}
+
+impl Paths {
+    fn of(input: &Input, items: &[Item]) -> Result<Paths, String> {
+        let whole = Whole {
+            image: &input.image,
+            segments: &input.segments,
+        };
+        let mut paths = Paths::default();
+        for slot in 0..input.types.len() as u64 / 4 {
+            let address = slot_address(input, slot);
+            let name = address.and_then(|va| whole.descriptor_name(va));
+            paths.texts.extend(name);
+        }
+        let mut place = Place::default();
+        for item in items {
+            let end = paths.end(input, &whole, &mut place, &item.key);
+            let unread = || format!("{:?} reads what is not in the whole image", item.key);
+            paths.ends.push(end.ok_or_else(unread)?);
+        }
+        Ok(paths)
+    }
+
+    /// Where the path of the next item ends.
+    fn end(&mut self, input: &Input, whole: &Whole, at: &mut Place, key: &Key) -> Option<u64> {
+        Some(match key.kind {
+            Kind::Row => {
+                at.address = slot_address(input, key.of)?;
+                let header = whole.bytes(at.address, 20)?;
+                let name = whole.descriptor_name(at.address)?;
+                let parent = whole.u32_at(header.start + 4)?;
+                at.parent = pointer(at.address.checked_add(4)?, parent);
+                if parent == 0 {
+                    at.parent = 0;
+                }
+                at.row = header.end.max(name.end);
+                at.context = at.row;
+                at.row
+            }
+            Kind::Context => {
+                let header = whole.bytes(at.parent, 8)?;
+                let flags = whole.u32_at(header.start)?;
+                self.texts.extend(whole.context_name(at.parent, flags));
+                let parent = whole.u32_at(header.start + 4)?;
+                at.parent = pointer(at.parent.checked_add(4)?, parent);
+                if parent == 0 {
+                    at.parent = 0;
+                }
+                at.context = at.context.max(header.end);
+                at.context
+            }
+            Kind::Body => {
+                let flags = whole.u32_at(whole.offset(at.address)?)?;
+                let size = if flags & 0x1f == 16 { 24 } else { 8 };
+                let body_at = at.address.checked_add(20)?;
+                at.body = at.row.max(whole.bytes(body_at, size)?.end);
+                at.block = at.body;
+                at.next_at = body_at.checked_add(size)?;
+                at.body
+            }
+            Kind::Block => {
+                at.block_at = at.next_at;
+                let size = header_size(key.part);
+                let header = whole.bytes(at.block_at, size).filter(|_| size > 0);
+                let length = whole.block_size(key.part, header.as_ref())?;
+                at.entries_at = at.block_at.wrapping_add(size);
+                at.next_at = at.block_at.wrapping_add(length);
+                at.block = at.block.max(header.map_or(0, |h| h.end));
+                at.entry = at.block;
+                at.block
+            }
+            Kind::Method | Kind::Override | Kind::DefaultOverride | Kind::Prespecialization => {
+                let size = match key.kind {
+                    Kind::Override => 12,
+                    Kind::Prespecialization => 4,
+                    _ => 8,
+                };
+                let entry = whole.bytes(at.entries_at + size * key.number, size)?;
+                at.entry = at.entry.max(entry.end);
+                at.entry
+            }
+            Kind::Init => at.block.max(whole.bytes(at.block_at, 12)?.end),
+            Kind::Pointer => at.block.max(whole.bytes(at.block_at, 4)?.end),
+            Kind::Offsets => {
+                let body = whole.bytes(at.address + 20, 8)?;
+                let count = u64::from(whole.u32_at(body.start)?);
+                let word = u64::from(whole.u32_at(body.start + 4)?);
+                let vector = whole.bytes(key.part.checked_add(8 * word)?, 4 * count)?;
+                at.body.max(vector.end)
+            }
+            Kind::Descriptor => {
+                let header = field_header(input, key.of)?;
+                (at.records_at, at.record_size, at.record) = (header.0, header.1, 0);
+                0
+            }
+            Kind::Record => {
+                let address = at.records_at + at.record_size * key.number;
+                let record = whole.bytes(address, 12)?;
+                let slot = address.checked_add(8)?;
+                let offset = whole.u32_at(record.start + 8)?;
+                if offset != 0 {
+                    self.texts.extend(whole.text(pointer(slot, offset)));
+                }
+                at.record = at.record.max(record.end);
+                at.record
+            }
+        })
+    }
+
+    /// Whether the cut falls into a text, which the premise leaves out.
+    fn left_out(&self, cut: u64) -> bool {
+        self.texts.iter().any(|t| t.start <= cut && cut < t.end)
+    }
+}
+
+/// The address that a slot of the types section refers to, unless its offset is 0.
+fn slot_address(input: &Input, slot: u64) -> Option<u64> {
+    let bytes = input.types.get(4 * slot as usize..)?.first_chunk()?;
+    let offset = u32::from_le_bytes(*bytes);
+    (offset != 0).then(|| pointer(input.types_va.wrapping_add(4 * slot), offset))
+}
+
+/// Where the records of a field descriptor start, and how far apart they are: each descriptor is behind the records of the one before.
+fn field_header(input: &Input, number: u64) -> Option<(u64, u64)> {
+    let mut at = 0;
+    for n in 0.. {
+        let header: &[u8; 16] = input.fields.get(at..)?.first_chunk()?;
+        let size = u64::from(u16::from_le_bytes([header[10], header[11]]));
+        let count = u32::from_le_bytes([header[12], header[13], header[14], header[15]]);
+        if n == number {
+            let address = input.fields_va.wrapping_add(at as u64);
+            return Some((address.checked_add(16).unwrap_or(0), size));
+        }
+        at += 16 + (u64::from(count) * size) as usize;
+    }
+    None
+}
+
+#[derive(Default)]
+struct Counts {
+    images: u64,
+    cuts: u64,
+    left_out: u64,
+    survived: [u64; KINDS.len()],
+    fell: [u64; KINDS.len()],
+}
+
+impl Counts {
+    fn line(&self) -> String {
+        let Counts {
+            images,
+            cuts,
+            left_out,
+            ..
+        } = self;
+        let kinds = KINDS.iter().zip(self.survived.iter().zip(&self.fell));
+        let kinds: Vec<String> = kinds
+            .map(|(kind, (survived, fell))| format!("{kind} {survived} and {fell}"))
+            .collect();
+        format!(
+            "{images} images, {cuts} cuts tried, {left_out} left out by the premise; survived and fell: {}",
+            kinds.join(", ")
+        )
+    }
+}
+
+/// The whole listing, with the offset lists of each slot for the metadata that its own pointer refers to, and for another address.
+fn whole_listing(input: &Input) -> Result<(Vec<Item>, Vec<(u64, u64)>), String> {
+    let length = input.image.len();
+    let mut metadata = Vec::new();
+    for item in Listing::of(input, length, &[])? {
+        match item.key.kind {
+            Kind::Pointer => metadata.push((item.key.of, item.numbers[0])),
+            Kind::Row => metadata.extend(input.targets.first().map(|&t| (item.key.of, t))),
+            _ => {}
+        }
+    }
+    Ok((Listing::of(input, length, &metadata)?, metadata))
+}
+
+/// All cuts of an image, or so many spread over it. A difference is told with its cut.
+fn check(input: &Input, rng: &mut Rng, counts: &mut Counts) -> Result<(), String> {
+    let (whole, metadata) = whole_listing(input)?;
+    let paths = Paths::of(input, &whole)?;
+    let all = input.image.len() + 1;
+    let tried = all.min(CUTS);
+    counts.images += 1;
+    for i in 0..tried {
+        let (from, to) = (i * all / tried, (i + 1) * all / tried);
+        let cut = from + rng.below(to - from);
+        if paths.left_out(cut as u64) {
+            counts.left_out += 1;
+            continue;
+        }
+        counts.cuts += 1;
+        let at = |what: String| format!("cut to {cut} of {} bytes: {what}", all - 1);
+        let listed = Listing::of(input, cut, &metadata).map_err(at)?;
+        let mut items = listed.iter();
+        for (item, &end) in whole.iter().zip(&paths.ends) {
+            let kind = item.key.kind as usize;
+            if end <= cut as u64 {
+                counts.survived[kind] += 1;
+                let given = items.next();
+                if !given.is_some_and(|given| given.is(item, input.strings_va)) {
+                    return Err(at(format!(
+                        "{item:?} has to be there, but there is {given:?}"
+                    )));
+                }
+            } else {
+                counts.fell[kind] += 1;
+            }
+        }
+        if let Some(more) = items.next() {
+            return Err(at(format!("{more:?} must not be there")));
+        }
+    }
+    Ok(())
+}
+
+/// The specification's image of 33 bytes: its row reads the first 20, and the name from 28 on with its NUL; the cuts to 28 through 32 fall in
+/// the text; the one to 27 shows nothing. Listings cannot tell of the NUL: without it the same text runs to the cut image's end.
+fn clue() -> Result<(), String> {
+    let mut input = Input::default();
+    for word in [17u32, 0, 20, 0, 0, 0, 0] {
+        input.image.extend_from_slice(&word.to_le_bytes());
+    }
+    input.image.extend_from_slice(b"Clue\0");
+    input.segments.push([0x1000, 33, 0, 33]);
+    (input.types, input.types_va) = (vec![0x00, 0xf0, 0xff, 0xff], 0x2000);
+    let (whole, metadata) = whole_listing(&input)?;
+    let paths = Paths::of(&input, &whole)?;
+    let left_out: Vec<u64> = (0..=33).filter(|&c| paths.left_out(c)).collect();
+    let shown = Listing::of(&input, 27, &metadata)?.len();
+    let told = (paths.ends, left_out, shown);
+    let right = (vec![33, 33], vec![28, 29, 30, 31, 32], 0);
+    if told == right {
+        return Ok(());
+    }
+    Err(format!(
+        "Clue's paths, the cuts in its text, and its items cut to 27 are {told:?}, not {right:?}"
+    ))
+}
+
+/// Cuts a segment in two whose parts change places in the file, so that what follows in addresses lies before in the image.
+fn turn(rng: &mut Rng, input: &mut Input) {
+    let at = rng.below(input.segments.len().max(1));
+    let Some(&[va, vmsize, off, filesize]) = input.segments.get(at) else {
+        return;
+    };
+    let bytes = input.image.get_mut(off as usize..).unwrap_or_default();
+    let size = bytes.len().min(vmsize.min(filesize) as usize);
+    if size < 2 {
+        return;
+    }
+    let first = 1 + rng.below(size - 1);
+    bytes[..size].rotate_left(first);
+    let (rest, first) = ((size - first) as u64, first as u64);
+    input.segments[at] = [va, first, off + rest, first];
+    let second = [
+        va.wrapping_add(first),
+        vmsize - first,
+        off,
+        filesize - first,
+    ];
+    input.segments.insert(at + 1, second);
+}
+
+pub fn run(seed: u64, count: u64) {
+    let start = Instant::now();
+    let mut counts = Counts::default();
+    let mut generator = Generator::default();
+    let mut full = FullGenerator::default();
+    let mut input = Input::default();
+    for i in 0..count {
+        // Every fourth input is one for rows and contexts, the others for all that there is.
+        if i % 4 == 3 {
+            generator.make(seed, i, &mut input);
+        } else {
+            full.make(seed, i, &mut input);
+        }
+        let mut rng = Rng::new(seed ^ 0xc075, i);
+        if rng.one_in(3) {
+            turn(&mut rng, &mut input);
+        }
+        if let Err(what) = check(&input, &mut rng, &mut counts) {
+            println!("difference: seed {seed}, number {i}, {what}");
+            println!("{}", input.line());
+            std::process::exit(1);
+        }
+    }
+    if let Err(what) = clue() {
+        println!("difference: {what}");
+        std::process::exit(1);
+    }
+    let time = start.elapsed().as_secs_f64();
+    println!(
+        "cuts, seed {seed}: {}; no difference; {time:.1} s",
+        counts.line()
+    );
+}
