@@ -245,7 +245,8 @@ impl Checker {
             self.numbers.clear();
             self.numbers.resize(length + 2 * NUMBER_GUARD, NUMBER);
             let lent = &mut self.numbers[NUMBER_GUARD..NUMBER_GUARD + length];
-            let ours = proved_tables::field_records(Image::of(input), base, count, size, start, lent)?;
+            let ours =
+                proved_tables::field_records(Image::of(input), base, count, size, start, lent)?;
             same!(
                 rust,
                 ours,

@@ -805,7 +805,10 @@ fn entries_from(rt: &SwiftRuntime<'_>, kind: u64, table: Table, start: u32, list
             }
         }
         5 => {
-            for e in OverrideEntryIter::new(rt, base, count).at(start).take(LISTED) {
+            for e in OverrideEntryIter::new(rt, base, count)
+                .at(start)
+                .take(LISTED)
+            {
                 list.extend_from_slice(&[e.address, e.class_va, e.method_va, e.impl_va]);
             }
         }

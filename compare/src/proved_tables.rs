@@ -1,4 +1,5 @@
-//! The proved side of whole tables, the functions of crates/exports_tables: entries and field records into a lent buffer of numbers.
+//! The proved side of whole tables, functions of crates/exports_full, exports_archive and exports_tables: entries and field records into a
+//! lent buffer of numbers.
 
 use crate::proved::{Answer, UNWRITTEN, refusal};
 use crate::proved_full::Image;

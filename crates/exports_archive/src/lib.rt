@@ -2,3 +2,4 @@
 // status, 0 where it answers and else the refusal's number, and writes its answer into a lent array, of which a refused call changes nothing.
 mod fields;
 mod offsets;
+mod records;

@@ -4,4 +4,5 @@
 mod blocks;
 mod bodies;
 mod entries;
+mod methods;
 mod singletons;

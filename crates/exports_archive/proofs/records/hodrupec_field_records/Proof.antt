@@ -1,12 +1,12 @@
--- `exports_tables::hodrupec_field_records` meets its contract.
+-- `exports_archive::records::hodrupec_field_records` meets its contract.
 -- Assumes nothing.
 use Rattle.util.specs.AnswersLaws.{told}
 use Rattle.tables.specs.Tables.{tableAnswer}
 use Rattle.exports.specs.NumbersLaws.{tells, refuses}
 use Rattle.exports_tables.specs.Tables.{countNumbers}
 use borrow.Author.Needs.{needs}
-use Rattle.exports_tables.proofs.hodrupec_field_records.Statement.{statement}
-use Rattle.exports_tables.proofs.hodrupec_field_records.Tie as tie
+use Rattle.exports_archive.proofs.records.hodrupec_field_records.Statement.{statement}
+use Rattle.exports_archive.proofs.records.hodrupec_field_records.Tie as tie
 
 field-records-requires : tie.Need-field-records-requires
 field-records-requires c κs = search needs

@@ -1,12 +1,12 @@
--- `exports_tables::hodrupec_methods` meets its contract.
+-- `exports_full::methods::hodrupec_methods` meets its contract.
 -- Assumes nothing.
 use Rattle.util.specs.AnswersLaws.{told}
 use Rattle.tables.specs.Tables.{tableAnswer}
 use Rattle.exports.specs.NumbersLaws.{tells, refuses}
 use Rattle.exports_tables.specs.Tables.{countNumbers}
 use borrow.Author.Needs.{needs}
-use Rattle.exports_tables.proofs.hodrupec_methods.Statement.{statement}
-use Rattle.exports_tables.proofs.hodrupec_methods.Tie as tie
+use Rattle.exports_full.proofs.methods.hodrupec_methods.Statement.{statement}
+use Rattle.exports_full.proofs.methods.hodrupec_methods.Tie as tie
 
 methods-requires : tie.Need-methods-requires
 methods-requires c κs = search needs
