@@ -10,7 +10,7 @@ use crate::entry::EntryPlace;
 use crate::entry::entry_place;
 use crate::entry::put_entry;
 use crate::entry::words_at;
-use crate::window::window_at;
+use crate::window::window_over;
 use vtable::EntryCursor;
 
 // Why there are no more entries.
@@ -74,7 +74,7 @@ pub fn list_entries(
     let width = 2 + more as usize;
     let base_va = cursor.base_va;
     let count = cursor.count;
-    let window = window_at(image, segments, base_va, size);
+    let window = window_over(image, segments, base_va, size, count);
     let room = buffer.len() / width;
     let mut k = cursor.next;
     let mut n: usize = 0;

@@ -56,12 +56,24 @@ fn window_in(image: &[u8], mapping: Mapping, size: usize) -> Window
 }
 
 // Around an address.
-pub fn window_at(image: &[u8], segments: &[u64], address: u64, size: usize) -> Window
+fn window_at(image: &[u8], segments: &[u64], address: u64, size: usize) -> Window
     requires { ⌜ (4 ≤ size) × (size ≤ 12) ⌝ }
     ensures { λ r. ⌜ Opens (now (image .entry)) (now (segments .entry)) size r ⌝ }
 {
     match segment::locate(segments, address) {
         Around::Mapping(mapping) => window_in(image, mapping, size),
         Around::Nothing => closed(),
+    }
+}
+
+// For a table of so many entries. A window costs as much as looking some entries up one by one, so a short table has none.
+pub fn window_over(image: &[u8], segments: &[u64], address: u64, size: usize, count: u32) -> Window
+    requires { ⌜ (4 ≤ size) × (size ≤ 12) ⌝ }
+    ensures { λ r. ⌜ Opens (now (image .entry)) (now (segments .entry)) size r ⌝ }
+{
+    if count < 4 {
+        closed()
+    } else {
+        window_at(image, segments, address, size)
     }
 }

@@ -25,8 +25,8 @@ add-size c = search needs
 add-width : tie.Need-add-width Inv-loop μ-loop
 add-width c = search needs
 
-window-at-requires : tie.Need-window-at-requires Inv-loop μ-loop
-window-at-requires c κs = search needs
+window-over-requires : tie.Need-window-over-requires Inv-loop μ-loop
+window-over-requires c κs = search needs
 
 div-room : tie.Need-div-room Inv-loop μ-loop
 div-room c = search needs
@@ -144,7 +144,7 @@ list-entries-spec =
     mul-size
     add-size
     add-width
-    window-at-requires
+    window-over-requires
     div-room
     loop-holds
     same-length
