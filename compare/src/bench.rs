@@ -4,7 +4,7 @@ use crate::check::{HEAD, runtime};
 use crate::input::Input;
 use crate::proved;
 use crate::proved_full::Image;
-use crate::{proved_archive, proved_full, proved_tables};
+use crate::{proved_archive, proved_full, proved_fullrows, proved_tables};
 use darwinscope::swift::{FieldRecordIter, TypeKindBody, VTableIter};
 use std::hint::black_box;
 use std::time::Instant;
@@ -262,8 +262,44 @@ fn recorded(body: &TypeKindBody<'_>) -> usize {
     there.iter().filter(|&&b| b).count()
 }
 
-/// Rows with their bodies and all blocks: the Rust reads them with the row, the proved side by a call for the body and one for each block.
+/// How many records of full rows the lent buffer holds: 30 kB.
+const RECORDS: usize = 64;
+
+/// Rows with their bodies and all blocks, which the Rust reads with the row: the proved side in as many calls as a buffer of `RECORDS` asks for.
 fn bodies(input: &Input) -> Times {
+    let rt = runtime(input);
+    let image = Image::of(input);
+    let mut buffer = vec![0; proved_fullrows::NUMBERS * RECORDS];
+    both(
+        ROWS,
+        || {
+            rt.types()
+                .map(|row| row.name().len() + recorded(black_box(row.body())))
+                .sum()
+        },
+        || {
+            let (mut slot, mut sum) = (0, 0);
+            loop {
+                let given = proved_fullrows::full_rows(image, input, slot, &mut buffer);
+                let given = given.expect("whole segments");
+                let (records, _) = buffer.as_chunks::<{ proved_fullrows::NUMBERS }>();
+                for record in &records[..given.records as usize] {
+                    let record = black_box(record);
+                    let (blocks, _) = record[14..].as_chunks::<4>();
+                    sum += record[5] as usize;
+                    sum += blocks.iter().map(|block| block[0] as usize).sum::<usize>();
+                }
+                slot = given.next as usize;
+                if given.all == 1 {
+                    return sum;
+                }
+            }
+        },
+    )
+}
+
+/// The same by a call for the row, one for the body, one for the start of the blocks and one for each block.
+fn bodies_in_steps(input: &Input) -> Times {
     let rt = runtime(input);
     let image = Image::of(input);
     let row_at = |slot| {
@@ -327,9 +363,19 @@ fn method_tables(count: usize, segments: usize) -> Input {
     mapped(image.collect(), segments)
 }
 
-fn sum(numbers: [u64; 3]) -> usize {
-    let [a, b, c] = black_box(numbers);
-    a.wrapping_add(b).wrapping_add(c) as usize
+/// What both sides make of an entry's numbers. One number is kept from the compiler, not the three: a copy of the three, two at a time, would wait
+/// for a buffer that was just written one by one.
+fn sum([a, b, c]: [u64; 3]) -> usize {
+    black_box(a.wrapping_add(b).wrapping_add(c)) as usize
+}
+
+/// The same of a record's numbers. In steps all three are kept from the compiler, which else reads a step's answer two numbers at a time and waits.
+fn sum_of_record<const STEPS: bool>(numbers: [u64; 3]) -> usize {
+    if STEPS {
+        let [a, b, c] = black_box(numbers);
+        return a.wrapping_add(b).wrapping_add(c) as usize;
+    }
+    sum(numbers)
 }
 
 /// All methods of tables: in one call for each table, or step by step.
@@ -345,14 +391,14 @@ fn methods(input: &Input, count: usize, steps: bool) -> Times {
             s.wrapping_add(sum([e.address, e.flags.0.into(), e.impl_va]))
         })
     };
-    let mut buffer = vec![0; 3 * count];
+    let mut buffer = vec![[0; 3]; count];
     if !steps {
         return both(items, rust, || {
             starts.clone().fold(0usize, |s, va| {
-                let given = proved_tables::methods(image, va, n, 0, &mut buffer);
+                let given = proved_tables::methods(image, va, n, 0, buffer.as_flattened_mut());
                 let [given, _] = given.expect("whole segments");
-                let (entries, _) = buffer[..3 * given as usize].as_chunks::<3>();
-                entries.iter().fold(s, |s, &e| s.wrapping_add(sum(e)))
+                let entries = buffer[..given as usize].iter();
+                entries.fold(s, |s, &e| s.wrapping_add(sum(e)))
             })
         });
     }
@@ -393,7 +439,7 @@ fn record_tables(count: usize, segments: usize) -> Input {
 }
 
 /// All records of tables with both names, which the Rust looks up with each: in one call for each table, or step by step.
-fn records(input: &Input, count: usize, steps: bool) -> Times {
+fn records<const STEPS: bool>(input: &Input, count: usize) -> Times {
     let rt = runtime(input);
     let image = Image::of(input);
     let starts = tables(count, 12);
@@ -405,7 +451,7 @@ fn records(input: &Input, count: usize, steps: bool) -> Times {
         let all = lists.flat_map(|va| FieldRecordIter::for_comparison(&rt, va, n, 12, 0));
         all.fold(0usize, |s, r| {
             let flags = r.flags().0.into();
-            s.wrapping_add(sum([
+            s.wrapping_add(sum_of_record::<STEPS>([
                 flags,
                 length(r.mangled_type_name()),
                 length(r.field_name()),
@@ -422,17 +468,17 @@ fn records(input: &Input, count: usize, steps: bool) -> Times {
             name_va,
         );
         let [_, _, name] = name.expect("whole segments");
-        sum([flags, length, name])
+        sum_of_record::<STEPS>([flags, length, name])
     };
-    let mut buffer = vec![0; 4 * count];
-    if !steps {
+    let mut buffer = vec![[0; 4]; count];
+    if !STEPS {
         return both(items, rust, || {
             starts.clone().fold(0usize, |s, va| {
-                let given = proved_tables::field_records(image, va, n, 12, 0, &mut buffer);
+                let lent = buffer.as_flattened_mut();
+                let given = proved_tables::field_records(image, va, n, 12, 0, lent);
                 let [given, _] = given.expect("whole segments");
-                let (entries, _) = buffer[..4 * given as usize].as_chunks::<4>();
-                let each = entries.iter();
-                each.fold(s, |s, &[_, flags, a, b]| s.wrapping_add(named(flags, a, b)))
+                let entries = buffer[..given as usize].iter();
+                entries.fold(s, |s, &[_, flags, a, b]| s.wrapping_add(named(flags, a, b)))
             })
         });
     }
@@ -535,13 +581,20 @@ fn rows_and_names() {
 fn full() {
     println!();
     println!(
-        "Rows with body and all blocks, names of 8 bytes: the Rust reads them with the row; the proved side calls for row, body, and each block."
+        "Rows with body and all blocks, names of 8 bytes, which the Rust reads with the row: `records` in calls for {RECORDS} rows at a time, `steps` by a call for row, body, and each block."
     );
-    println!("bodies     | segments |      Rust |    proved | ratio");
+    println!("bodies              | segments |      Rust |    proved | ratio");
     for (kind, flags) in [("struct", 17), ("class", 16), ("all blocks", ALL_BLOCKS)] {
         for segments in [2, 40] {
             let input = case(flags, 8, segments);
-            line(&format!("{kind:10} | {segments:8}"), bodies(&input));
+            line(
+                &format!("{kind:10}, records | {segments:8}"),
+                bodies(&input),
+            );
+            line(
+                &format!("{kind:10}, steps   | {segments:8}"),
+                bodies_in_steps(&input),
+            );
         }
     }
     println!();
@@ -567,11 +620,11 @@ fn full() {
             let input = record_tables(count, segments);
             line(
                 &format!("records, list   | {case}"),
-                records(&input, count, false),
+                records::<false>(&input, count),
             );
             line(
                 &format!("records, steps  | {case}"),
-                records(&input, count, true),
+                records::<true>(&input, count),
             );
         }
     }

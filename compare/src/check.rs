@@ -5,7 +5,7 @@ use crate::input::Input;
 use crate::proved;
 use crate::proved::{Answer, Listed, Refused};
 use crate::proved_full::Image;
-use crate::{proved_archive, proved_full, proved_tables};
+use crate::{proved_archive, proved_full, proved_fullrows, proved_tables};
 use darwinscope::swift::{SwiftRuntime, SwiftSection, lookup_field_name};
 use darwinscope::util::{read_cstr_at, vm_to_file_offset_in};
 
@@ -34,6 +34,7 @@ pub struct Counts {
     pub names: u64,
     pub too_deep: u64,
     pub listings: u64,
+    pub full_rows: u64,
     pub leaves: u64,
     pub refusals: u64,
     pub bodies: u64,
@@ -50,7 +51,7 @@ pub struct Counts {
 impl Counts {
     pub fn line(&self) -> String {
         format!(
-            "{} inputs, {} rows, {} contexts, {} names ({} chains above {LIMIT}), {} listings, {} leaf calls, {} ragged lists, \
+            "{} inputs, {} rows, {} contexts, {} names ({} chains above {LIMIT}), {} listings, {} of full rows, {} leaf calls, {} ragged lists, \
             {} descriptors, {} blocks, {} made-up walks, {} entries, {} singleton records, {} lists, {} field steps, {} records, {} offset calls",
             self.inputs,
             self.rows,
@@ -58,6 +59,7 @@ impl Counts {
             self.names,
             self.too_deep,
             self.listings,
+            self.full_rows,
             self.leaves,
             self.refusals,
             self.bodies,
@@ -78,7 +80,7 @@ impl Counts {
 pub struct Checker {
     pub counts: Counts,
     buffer: Vec<u8>,
-    slots: Vec<u64>,
+    pub slots: Vec<u64>,
     /// The listing of the Rust's rows, and where each record ends.
     listing: Vec<u8>,
     ends: Vec<usize>,
@@ -206,6 +208,7 @@ impl Checker {
         let end = proved::next_row(image, segments, &input.types, input.types_va, slot)?;
         same!(0, end.there, "row {number} is there");
         self.starts(input)?;
+        self.full_rows(input, rt)?;
         self.listings(input)
     }
 
@@ -343,8 +346,8 @@ impl Checker {
                 "{more} segment numbers too many"
             );
             self.numbers.clear();
-            self.numbers.resize(12 + 2 * NUMBER_GUARD, NUMBER);
-            let lent = &mut self.numbers[NUMBER_GUARD..NUMBER_GUARD + 12];
+            self.numbers.resize(60 + 2 * NUMBER_GUARD, NUMBER);
+            let lent = &mut self.numbers[NUMBER_GUARD..NUMBER_GUARD + 60];
             let image = Image {
                 bytes: image,
                 segments: list,
@@ -374,6 +377,12 @@ impl Checker {
                 [Some(Refused(1)); 19],
                 ours,
                 "{more} segment numbers too many for bodies, blocks, entries and fields"
+            );
+            let lent = &mut self.numbers[NUMBER_GUARD..NUMBER_GUARD + 60];
+            same!(
+                Some(Refused(1)),
+                of(proved_fullrows::full_rows(image, input, 0, lent)),
+                "{more} segment numbers too many for full rows"
             );
             same!(true, self.holds(&[]), "numbers left alone by refused calls");
             same!(

@@ -45,7 +45,7 @@ impl Input {
             hex(&self.strings)
         );
         for list in [self.numbers(), &self.targets] {
-            let _ = write!(s, " {}", list.len());
+            let _ = write!(s, " {:x}", list.len());
             for n in list {
                 let _ = write!(s, " {n:x}");
             }
@@ -68,7 +68,7 @@ impl Input {
         input.strings_va = u64::from_str_radix(words.next()?, 16).ok()?;
         input.strings = unhex(words.next()?)?;
         let mut list = || -> Option<Vec<u64>> {
-            let count: usize = words.next()?.parse().ok()?;
+            let count = usize::from_str_radix(words.next()?, 16).ok()?;
             (0..count)
                 .map(|_| u64::from_str_radix(words.next()?, 16).ok())
                 .collect()

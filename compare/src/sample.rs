@@ -10,7 +10,7 @@ use std::fmt::Write;
 
 const HEAD: &str = "\
 # The Rust's answers, made by `compare sample` from seed 3 (compare/build, compare/src/sample.rs): replayed without the Rust.
-# Numbers are hexadecimal but for the two counts of an input; bytes are hexadecimal, `-` for none.
+# Numbers and bytes are hexadecimal, `-` for no bytes.
 #   input IMAGE TYPES_ADDRESS TYPES STRINGS_ADDRESS STRINGS COUNT SEGMENT_NUMBER.. COUNT ADDRESS..
 # and then its answers:
 #   row SLOT ADDRESS FLAGS PARENT NAME_PLACE NAME_LENGTH       for each row, in order, followed by

@@ -1,9 +1,4 @@
 pub mod Bundle
 pub mod BundleLaws
-pub mod LayoutLaws
 pub mod Open
 pub mod OpenLaws
-pub mod Parts
-pub mod PartsLaws
-pub mod Rule
-pub mod RuleLaws

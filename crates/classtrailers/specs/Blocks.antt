@@ -66,8 +66,8 @@ ofClass f t = t .isClass && f (typeFlags t)
 abbrev pub hasInitialization : ℕ → Trailing → Bool
 hasInitialization n t = eqb (low 2 (typeFlags t)) n
 
-abbrev pub table : List Row
-table =
+abbrev pub blockTable : List Row
+blockTable =
     headed BlockKind.Generic (λ t. isGeneric (t .flags)) 16 (λ h. genericSize (unsignedIn 2 h 8) (unsignedIn 2 h 10)) (λ a h. Block.Generic a) ∷
     plain BlockKind.ResilientSuperclass (ofClass classHasResilientSuperclass) 4 Block.ResilientSuperclass ∷
     plain BlockKind.ForeignMetadataInit (hasInitialization 2) 4 Block.ForeignMetadataInit ∷
@@ -90,7 +90,7 @@ table =
 
 -- the row with a number; past the table's end one that is never there
 unfoldable pub rowAt : ℕ → Row
-rowAt n = getD table n (plain BlockKind.Generic (λ _. false) 0 Block.Generic)
+rowAt n = getD blockTable n (plain BlockKind.Generic (λ _. false) 0 Block.Generic)
 
 -- ---- a block at an address
 
@@ -182,4 +182,4 @@ blocksOf image segments t start (k ∷ ks) = withBlock (run image segments (bloc
 
 -- those of all kinds, in the table's order
 unfoldable pub blocks : List ℕ → List ℕ → Trailing → ℕ → List Block
-blocks image segments t start = blocksOf image segments t start (map (λ (r : Row). r .kind) table)
+blocks image segments t start = blocksOf image segments t start (map (λ (r : Row). r .kind) blockTable)

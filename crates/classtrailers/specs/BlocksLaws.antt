@@ -13,7 +13,7 @@ use lib.Seq.{take-all}
 use lib.Dec.{leb, eqb}
 use Rattle.context.specs.Bits.{bit}
 use Rattle.runtime.specs.Reads.{Reads, done, nothing, bytesPlace, andThen, run}
-use Rattle.classtrailers.specs.Blocks.{Trailing, Row, table, setBits, rowAt, readHeader, recordAt, endAt, reached, blockIn, rowNumber, block, Walk, Step, after, stepAt, nextBlock, withBlock, blocks}
+use Rattle.classtrailers.specs.Blocks.{Trailing, Row, blockTable, setBits, rowAt, readHeader, recordAt, endAt, reached, blockIn, rowNumber, block, Walk, Step, after, stepAt, nextBlock, withBlock, blocks}
 use Rattle.classtrailers.specs.CallsLaws.{next-there, next-absent, walk-over, pass-absent, pass-there, reached-start, reached-next, stopped, kind-stops, kind-absent, kind-there}
 use Rattle.classtrailers.specs.declared.block.Block.{Block}
 use Rattle.classtrailers.specs.declared.block.BlockKind.{BlockKind}
@@ -32,7 +32,7 @@ steppedTo image segments (suc n) w =
 
 -- ---- the table
 
-pub table-length : length table ≡ 11
+pub table-length : length blockTable ≡ 11
 table-length = refl
 
 -- a kind's number is that of its row

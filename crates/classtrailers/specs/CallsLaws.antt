@@ -12,11 +12,13 @@ use lib.ListN.{length, List·getD-eq-default}
 use lib.Dec.{leb}
 use lib.Count.{ones, ones-step}
 use borrow.Author.Tests.{le-leb, lt-leb}
+use Rattle.segment.specs.Mapping.{withMapping, Mapped}
+use Rattle.segment.specs.declared.segment.Mapping.{Mapping}
 use Rattle.runtime.specs.Reads.{Reads, done, nothing, run, andThen}
 use Rattle.runtime.specs.ReadsLaws.{run-bind}
 use Rattle.runtime.specs.Bytes.{bytesRead}
-use Rattle.runtime.specs.CallsLaws.{run-bytes, run-no-bytes}
-use Rattle.classtrailers.specs.Blocks.{Trailing, Row, plain, table, setBits, rowAt, recordAt, endAt, passed, reached, blockIn, block, rowNumber, Step, stepAt, stepIn, nextBlock}
+use Rattle.runtime.specs.CallsLaws.{run-bytes, run-no-bytes, run-mapped}
+use Rattle.classtrailers.specs.Blocks.{Trailing, Row, plain, blockTable, setBits, rowAt, recordAt, endAt, passed, reached, blockIn, block, rowNumber, Step, stepAt, stepIn, nextBlock}
 use Rattle.classtrailers.specs.Calls.{Says, Unread, below, blockOf}
 use Rattle.classtrailers.specs.declared.block.Block.{Block}
 use Rattle.classtrailers.specs.declared.block.BlockKind.{BlockKind}
@@ -84,7 +86,12 @@ past (suc k) n h =
 
 pub no-row : (n : ℕ) (t : Trailing) → 11 ≤ n → false ≡ rowAt n .there t
 unfolding rowAt
-no-row n t h = rw (List·getD-eq-default table (plain BlockKind.Generic (λ _. false) 0 Block.Generic) h)
+no-row n t h = rw (List·getD-eq-default blockTable (plain BlockKind.Generic (λ _. false) 0 Block.Generic) h)
+
+-- a true mapping changes no answer
+pub says-mapped : (image segments : List ℕ) (m : Mapping) → Mapped segments m → (r : Row) (a : ℕ) (x : BlockAt) → Says image (withMapping m segments) r a x → Says image segments r a x
+says-mapped image segments m w r a x s =
+    record { recorded = s .recorded ∙ run-mapped image segments m w (recordAt r a); ends = s .ends ∙ run-mapped image segments m w (endAt r a) }
 
 -- the case of a list of entries
 pub entries-say : (image segments : List ℕ) (r : Row) (a : ℕ) (b : ℕ → ℕ → Block) {x y : Entries} → Says image segments r a (blockOf b x) → x ≡ y
@@ -111,7 +118,7 @@ module _ (image segments : List ℕ) (a : ℕ) (x : BlockAt) where
   -- a number that no row has
   pub no-row-says : (n : ℕ) → 11 ≤ n → Unread (Block.Generic a) (a + 0) x → Says image segments (rowAt n) a x
   unfolding rowAt
-  no-row-says n h u = rw (List·getD-eq-default table (plain BlockKind.Generic (λ _. false) 0 Block.Generic) {n = n} h) (unread-says image segments (plain BlockKind.Generic (λ _. false) 0 Block.Generic) refl refl a x u)
+  no-row-says n h u = rw (List·getD-eq-default blockTable (plain BlockKind.Generic (λ _. false) 0 Block.Generic) {n = n} h) (unread-says image segments (plain BlockKind.Generic (λ _. false) 0 Block.Generic) refl refl a x u)
 
   pub foreign-says : Unread (Block.ForeignMetadataInit a) (a + 4) x → Says image segments (rowAt 2) a x
   unfolding rowAt

@@ -28,7 +28,7 @@ pub record ThreeMethods (image segments : List ℕ) (a : ℕ) (h : List ℕ) : T
   pub whole : 8 ≤ length h
   pub methods : unsignedIn 4 h 4 ≡ 3
 
-pub record Checked : Type 0 where
+pub record CheckedBlocks : Type 0 where
   pub no-parameters : genericSize 0 0 ≡ 16
   pub three-parameters : genericSize 3 0 ≡ 20
   pub four-parameters : genericSize 4 0 ≡ 20
@@ -86,9 +86,9 @@ module _ (image segments : List ℕ) (extra a : ℕ) where
       both : headers image segments (tabled extra) (a + 44) 6 ≡ bytesRange o 8 ∷ (bytesRange q 4 ∷ [])
       both = one-more ∙ rw (vtable-range, overrides, override-range)
 
-pub checked : Checked
+pub checked-blocks : CheckedBlocks
 unfolding genericSize
-checked =
+checked-blocks =
     record {
       no-parameters = refl;
       three-parameters = refl;

@@ -1,9 +1,11 @@
 // What the blocks say at an address. A header is read once, as its bytes of the image.
 ghost use mathlib.Core.Path.{_≡_};
 ghost use Prim.Native.Nat.{_+_, _*_, _≤_};
+ghost use Rattle.segment.specs.Mapping.{withMapping};
 ghost use Rattle.classtrailers.specs.Blocks.{rowAt};
 ghost use Rattle.classtrailers.specs.Calls.{Says, Unread, Listed, below, endOf};
 use crate::block::Block;
+use segment::Mapping;
 
 // How many bytes an entry has.
 const OVERRIDE: u64 = 12;
@@ -51,10 +53,10 @@ fn unread(block: Block, at: u64, size: u64) -> BlockAt
 }
 
 // A generic header: its parameters take a byte each, padded to four by their number, its requirements 12.
-fn generic_at(image: &[u8], segments: &[u64], at: u64) -> BlockAt
-    ensures { λ r. ⌜ Says (now (image .entry)) (now (segments .entry)) (rowAt 0) at r ⌝ }
+fn generic_at(image: &[u8], segments: &[u64], mapping: Mapping, at: u64) -> BlockAt
+    ensures { λ r. ⌜ Says (now (image .entry)) (withMapping mapping (now (segments .entry))) (rowAt 0) at r ⌝ }
 {
-    let header = runtime::read_bytes(image, segments, at, 16);
+    let header = runtime::read_bytes_near(image, segments, mapping, at, 16);
     if header.len() < 16 {
         return BlockAt::Nothing;
     }
@@ -69,10 +71,10 @@ fn generic_at(image: &[u8], segments: &[u64], at: u64) -> BlockAt
     }
 }
 
-fn vtable_at(image: &[u8], segments: &[u64], at: u64) -> BlockAt
-    ensures { λ r. ⌜ Says (now (image .entry)) (now (segments .entry)) (rowAt 4) at r ⌝ }
+fn vtable_at(image: &[u8], segments: &[u64], mapping: Mapping, at: u64) -> BlockAt
+    ensures { λ r. ⌜ Says (now (image .entry)) (withMapping mapping (now (segments .entry))) (rowAt 4) at r ⌝ }
 {
-    let header = runtime::read_bytes(image, segments, at, 8);
+    let header = runtime::read_bytes_near(image, segments, mapping, at, 8);
     if header.len() < 8 {
         return BlockAt::Nothing;
     }
@@ -91,11 +93,11 @@ fn vtable_at(image: &[u8], segments: &[u64], at: u64) -> BlockAt
 }
 
 // A block whose header is the number of its entries, each of so many bytes.
-fn entries_at(image: &[u8], segments: &[u64], at: u64, entry: u64) -> Entries
+fn entries_at(image: &[u8], segments: &[u64], mapping: Mapping, at: u64, entry: u64) -> Entries
     requires { ⌜ entry ≤ 12 ⌝ }
-    ensures { λ r. ⌜ Listed (now (image .entry)) (now (segments .entry)) at entry r ⌝ }
+    ensures { λ r. ⌜ Listed (now (image .entry)) (withMapping mapping (now (segments .entry))) at entry r ⌝ }
 {
-    let header = runtime::read_bytes(image, segments, at, 4);
+    let header = runtime::read_bytes_near(image, segments, mapping, at, 4);
     if header.len() < 4 {
         return Entries::Nothing;
     }
@@ -110,10 +112,10 @@ fn entries_at(image: &[u8], segments: &[u64], at: u64, entry: u64) -> Entries
     }
 }
 
-fn overrides_at(image: &[u8], segments: &[u64], at: u64) -> BlockAt
-    ensures { λ r. ⌜ Says (now (image .entry)) (now (segments .entry)) (rowAt 5) at r ⌝ }
+fn overrides_at(image: &[u8], segments: &[u64], mapping: Mapping, at: u64) -> BlockAt
+    ensures { λ r. ⌜ Says (now (image .entry)) (withMapping mapping (now (segments .entry))) (rowAt 5) at r ⌝ }
 {
-    match entries_at(image, segments, at, OVERRIDE) {
+    match entries_at(image, segments, mapping, at, OVERRIDE) {
         Entries::At { count, base, end } => BlockAt::Block {
             block: Block::OverrideTable {
                 num_entries: count,
@@ -125,10 +127,10 @@ fn overrides_at(image: &[u8], segments: &[u64], at: u64) -> BlockAt
     }
 }
 
-fn prespecializations_at(image: &[u8], segments: &[u64], at: u64) -> BlockAt
-    ensures { λ r. ⌜ Says (now (image .entry)) (now (segments .entry)) (rowAt 7) at r ⌝ }
+fn prespecializations_at(image: &[u8], segments: &[u64], mapping: Mapping, at: u64) -> BlockAt
+    ensures { λ r. ⌜ Says (now (image .entry)) (withMapping mapping (now (segments .entry))) (rowAt 7) at r ⌝ }
 {
-    match entries_at(image, segments, at, PRESPECIALIZATION) {
+    match entries_at(image, segments, mapping, at, PRESPECIALIZATION) {
         Entries::At { count, base, end } => BlockAt::Block {
             block: Block::Prespecializations {
                 count,
@@ -141,10 +143,10 @@ fn prespecializations_at(image: &[u8], segments: &[u64], at: u64) -> BlockAt
 }
 
 // Two bytes are read and four passed.
-fn invertible_at(image: &[u8], segments: &[u64], at: u64) -> BlockAt
-    ensures { λ r. ⌜ Says (now (image .entry)) (now (segments .entry)) (rowAt 8) at r ⌝ }
+fn invertible_at(image: &[u8], segments: &[u64], mapping: Mapping, at: u64) -> BlockAt
+    ensures { λ r. ⌜ Says (now (image .entry)) (withMapping mapping (now (segments .entry))) (rowAt 8) at r ⌝ }
 {
-    let header = runtime::read_bytes(image, segments, at, 2);
+    let header = runtime::read_bytes_near(image, segments, mapping, at, 2);
     if header.len() < 2 {
         return BlockAt::Nothing;
     }
@@ -156,10 +158,10 @@ fn invertible_at(image: &[u8], segments: &[u64], at: u64) -> BlockAt
     unread(set, at, 4)
 }
 
-fn default_overrides_at(image: &[u8], segments: &[u64], at: u64) -> BlockAt
-    ensures { λ r. ⌜ Says (now (image .entry)) (now (segments .entry)) (rowAt 10) at r ⌝ }
+fn default_overrides_at(image: &[u8], segments: &[u64], mapping: Mapping, at: u64) -> BlockAt
+    ensures { λ r. ⌜ Says (now (image .entry)) (withMapping mapping (now (segments .entry))) (rowAt 10) at r ⌝ }
 {
-    match entries_at(image, segments, at, DEFAULT_OVERRIDE) {
+    match entries_at(image, segments, mapping, at, DEFAULT_OVERRIDE) {
         Entries::At { count, base, end } => BlockAt::Block {
             block: Block::DefaultOverrideTable {
                 num_entries: count,
@@ -171,23 +173,30 @@ fn default_overrides_at(image: &[u8], segments: &[u64], at: u64) -> BlockAt
     }
 }
 
-// The block with this number of the order, at an address.
-pub fn block_at(image: &[u8], segments: &[u64], row: u32, at: u64) -> BlockAt
-    ensures { λ r. ⌜ Says (now (image .entry)) (now (segments .entry)) (rowAt row) at r ⌝ }
+// The block with this number of the order, at an address. The mapping is asked before the segments: one that is true of them changes no answer.
+pub fn block_near(image: &[u8], segments: &[u64], mapping: Mapping, row: u32, at: u64) -> BlockAt
+    ensures { λ r. ⌜ Says (now (image .entry)) (withMapping mapping (now (segments .entry))) (rowAt row) at r ⌝ }
 {
     match row {
-        0 => generic_at(image, segments, at),
+        0 => generic_at(image, segments, mapping, at),
         1 => unread(Block::ResilientSuperclass(at), at, 4),
         2 => unread(Block::ForeignMetadataInit(at), at, 4),
         3 => unread(Block::SingletonMetadataInit(at), at, 12),
-        4 => vtable_at(image, segments, at),
-        5 => overrides_at(image, segments, at),
+        4 => vtable_at(image, segments, mapping, at),
+        5 => overrides_at(image, segments, mapping, at),
         6 => unread(Block::ObjcResilientClassStub(at), at, 4),
-        7 => prespecializations_at(image, segments, at),
-        8 => invertible_at(image, segments, at),
+        7 => prespecializations_at(image, segments, mapping, at),
+        8 => invertible_at(image, segments, mapping, at),
         9 => unread(Block::SingletonMetadataPointer(at), at, 4),
-        10 => default_overrides_at(image, segments, at),
+        10 => default_overrides_at(image, segments, mapping, at),
         // No block has another number: as the definition has it, an empty one.
         _ => unread(Block::Generic(at), at, 0),
     }
+}
+
+// The same without a mapping.
+pub fn block_at(image: &[u8], segments: &[u64], row: u32, at: u64) -> BlockAt
+    ensures { λ r. ⌜ Says (now (image .entry)) (now (segments .entry)) (rowAt row) at r ⌝ }
+{
+    block_near(image, segments, Mapping::empty(), row, at)
 }

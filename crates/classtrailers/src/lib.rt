@@ -6,6 +6,8 @@ mod walk;
 
 pub use block::Block;
 pub use block::BlockKind;
+pub use decode::BlockAt;
+pub use decode::block_near;
 pub use trailing::Trailing;
 pub use trailing::has_block;
 pub use trailing::number_of;

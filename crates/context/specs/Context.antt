@@ -8,8 +8,8 @@ use Rattle.context.specs.declared.descriptor.ContextDescriptorKind.{Cont
 use Rattle.context.specs.declared.descriptor.ContextDescriptorKind.the-variants.{Module, Extension, Anonymous, Protocol, OpaqueType, Class, Struct, Enum, Other}
 
 -- `ContextDescriptorKind`
-abbrev pub kinds : List (ℕ × ContextDescriptorKind)
-kinds =
+abbrev pub contextKinds : List (ℕ × ContextDescriptorKind)
+contextKinds =
     (0, Module) ∷
     (1, Extension) ∷
     (2, Anonymous) ∷
@@ -21,7 +21,7 @@ kinds =
     []
 
 unfoldable pub kindOf : ℕ → ContextDescriptorKind
-kindOf n = valueOf kinds (Other n) n
+kindOf n = valueOf contextKinds (Other n) n
 
 -- `ContextDescriptorFlags`
 abbrev pub contextKind : ℕ → ContextDescriptorKind

@@ -8,8 +8,8 @@ use Rattle.context.specs.declared.field.FieldDescriptorKind.{FieldDescri
 use Rattle.context.specs.declared.field.FieldDescriptorKind.the-variants.{Struct, Class, Enum, MultiPayloadEnum, Protocol, ClassProtocol, ObjCProtocol, ObjCClass, Other}
 
 -- `FieldDescriptorKind`, a number of 16 bits
-abbrev pub kinds : List (ℕ × FieldDescriptorKind)
-kinds =
+abbrev pub fieldKinds : List (ℕ × FieldDescriptorKind)
+fieldKinds =
     (0, Struct) ∷
     (1, Class) ∷
     (2, Enum) ∷
@@ -21,7 +21,7 @@ kinds =
     []
 
 unfoldable pub fieldKind : ℕ → FieldDescriptorKind
-fieldKind n = valueOf kinds (Other n) n
+fieldKind n = valueOf fieldKinds (Other n) n
 
 -- `FieldRecordFlags`
 abbrev pub isIndirectCase : ℕ → Bool

@@ -8,8 +8,8 @@ use Rattle.context.specs.declared.method.SwiftMethodKind.{SwiftMethodKin
 use Rattle.context.specs.declared.method.SwiftMethodKind.the-variants.{Method, Init, Getter, Setter, ModifyCoroutine, ReadCoroutine, Other}
 
 -- `MethodDescriptorFlags::Kind`
-abbrev pub kinds : List (ℕ × SwiftMethodKind)
-kinds =
+abbrev pub methodKinds : List (ℕ × SwiftMethodKind)
+methodKinds =
     (0, Method) ∷
     (1, Init) ∷
     (2, Getter) ∷
@@ -19,7 +19,7 @@ kinds =
     []
 
 unfoldable pub methodOf : ℕ → SwiftMethodKind
-methodOf n = valueOf kinds (Other n) n
+methodOf n = valueOf methodKinds (Other n) n
 
 -- `MethodDescriptorFlags`
 abbrev pub methodKind : ℕ → SwiftMethodKind

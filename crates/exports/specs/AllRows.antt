@@ -9,7 +9,7 @@ use lib.ListN.{length}
 use lib.Dec.{leb}
 use Rattle.typedescriptor.specs.Row.{TypeRow}
 use Rattle.typedescriptor.specs.Slots.{slots, Found, rowsFrom}
-use Rattle.parent.specs.Name.{tooDeep, qualifiedName}
+use Rattle.qualifiedname.specs.Name.{tooDeep, qualifiedName}
 
 abbrev pub eightBytes : ℕ → List ℕ
 eightBytes n =
@@ -19,12 +19,12 @@ eightBytes n =
     ∷ (n / 0x1000000 % 256
     ∷ (n / 0x100000000 % 256 ∷ (n / 0x10000000000 % 256 ∷ (n / 0x1000000000000 % 256 ∷ (n / 0x100000000000000 % 256 ∷ [])))))))
 
-unfoldable pub pairBytes : ℕ → ℕ → List ℕ
-pairBytes a b = eightBytes a ++ eightBytes b
+unfoldable pub twoNumbers : ℕ → ℕ → List ℕ
+twoNumbers a b = eightBytes a ++ eightBytes b
 
 -- what comes before the name
 unfoldable pub headBytes : ℕ → ℕ → ℕ → ℕ → List ℕ
-headBytes slot address flags n = pairBytes slot address ++ pairBytes flags n
+headBytes slot address flags n = twoNumbers slot address ++ twoNumbers flags n
 
 -- a row's record; one whose joined name is refused with 4 has 2^64 - 4 for the length and no name
 unfoldable pub rowBytes : List ℕ → List ℕ → ℕ → TypeRow → List ℕ
@@ -33,29 +33,29 @@ rowBytes image segments slot row =
     (headBytes slot (row .address) (row .flags) (length (qualifiedName image segments row)) ++ qualifiedName image segments row)
 
 -- the records that fit, the slot to go on from, and 1 if all rows are given
-pub record Listing : Type 0 where
+pub record RowListing : Type 0 where
   pub bytes : List ℕ
   pub next : ℕ
   pub all : ℕ
 
-abbrev pub after : List ℕ → Listing → Listing
-after t l = record { bytes = t ++ l .bytes; next = l .next; all = l .all }
+abbrev pub recordThen : List ℕ → RowListing → RowListing
+recordThen t l = record { bytes = t ++ l .bytes; next = l .next; all = l .all }
 
 -- the records of the rows up to the first that the room does not hold, whose slot is the one to go on from; `past` where all are given
-unfoldable pub listing : List ℕ → List ℕ → ℕ → List Found → ℕ → Listing
-listing image segments past [] room = record { bytes = []; next = past; all = 1 }
-listing image segments past (f ∷ fs) room =
+unfoldable pub recordsIn : List ℕ → List ℕ → ℕ → List Found → ℕ → RowListing
+recordsIn image segments past [] room = record { bytes = []; next = past; all = 1 }
+recordsIn image segments past (f ∷ fs) room =
     cond (leb (length (rowBytes image segments (f .slot) (f .row))) room)
-    (after (rowBytes image segments (f .slot) (f .row)) (listing image segments past fs (room - length (rowBytes image segments (f .slot) (f .row)))))
+    (recordThen (rowBytes image segments (f .slot) (f .row)) (recordsIn image segments past fs (room - length (rowBytes image segments (f .slot) (f .row)))))
     (record { bytes = []; next = f .slot; all = 0 })
 
 -- the listing of a section from slot `i` on
-abbrev pub listingFrom : List ℕ → List ℕ → List ℕ → ℕ → ℕ → ℕ → Listing
+abbrev pub listingFrom : List ℕ → List ℕ → List ℕ → ℕ → ℕ → ℕ → RowListing
 listingFrom image segments types start i room =
-    listing image segments (max (slots types) i) (rowsFrom image segments types start (slots types - i) i) room
+    recordsIn image segments (max (slots types) i) (rowsFrom image segments types start (slots types - i) i) room
 
-abbrev pub listingNumbers : Listing → List ℕ
+abbrev pub listingNumbers : RowListing → List ℕ
 listingNumbers l = length (l .bytes) ∷ (l .next ∷ (l .all ∷ []))
 
-abbrev pub listingBytes : Listing → List ℕ
+abbrev pub listingBytes : RowListing → List ℕ
 listingBytes l = l .bytes

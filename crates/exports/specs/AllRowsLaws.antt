@@ -20,9 +20,9 @@ use Rattle.runtime.specs.Reads.{run}
 use Rattle.typedescriptor.specs.Row.{TypeRow}
 use Rattle.typedescriptor.specs.Slots.{slots, slotRow, Found, found, rowsFrom}
 use Rattle.typedescriptor.specs.SlotsLaws.{rows-out}
-use Rattle.parent.specs.Name.{tooDeep, qualifiedName, nameAnswer}
-use Rattle.parent.specs.NameLaws.{name-length}
-use Rattle.exports.specs.AllRows.{eightBytes, pairBytes, headBytes, rowBytes, Listing, after, listing, listingFrom, listingNumbers, listingBytes}
+use Rattle.qualifiedname.specs.Name.{tooDeep, qualifiedName, nameAnswer}
+use Rattle.qualifiedname.specs.NameLaws.{name-length}
+use Rattle.exports.specs.AllRows.{eightBytes, twoNumbers, headBytes, rowBytes, RowListing, recordThen, recordsIn, listingFrom, listingNumbers, listingBytes}
 
 -- the records of all these rows
 unfoldable pub records : List ℕ → List ℕ → List Found → List ℕ
@@ -30,22 +30,22 @@ records image segments [] = []
 records image segments (f ∷ fs) = rowBytes image segments (f .slot) (f .row) ++ records image segments fs
 
 -- a listing `l` of these rows, with the rows from each slot on: from its slot to go on from there are the other records, and none where it says that all are given
-pub record Resumes (image segments : List ℕ) (all : List Found) (l : Listing) (from : ℕ → List Found) : Type 0 where
+pub record Resumes (image segments : List ℕ) (all : List Found) (l : RowListing) (from : ℕ → List Found) : Type 0 where
   pub together : records image segments all ≡ l .bytes ++ records image segments (from (l .next))
   pub done : l .all ≡ 1 → from (l .next) ≡ []
 
 -- ---- a record
 
-pair-long : (a b : ℕ) → length (pairBytes a b) ≡ 16
-unfolding pairBytes
+pair-long : (a b : ℕ) → length (twoNumbers a b) ≡ 16
+unfolding twoNumbers
 pair-long a b = refl
 
 pub head-long : (slot address flags n : ℕ) → length (headBytes slot address flags n) ≡ 32
-unfolding headBytes pairBytes
+unfolding headBytes twoNumbers
 head-long slot address flags n = refl
 
 -- the head, in two pieces
-pub head-put : (b p q b′ b″ : List ℕ) (slot address flags n at m e : ℕ) → p ≡ pairBytes slot address → q ≡ pairBytes flags n
+pub head-put : (b p q b′ b″ : List ℕ) (slot address flags n at m e : ℕ) → p ≡ twoNumbers slot address → q ≡ twoNumbers flags n
     → m ≡ putEnd b at p → b′ ≡ putInto b at p → e ≡ putEnd b′ m q → b″ ≡ putInto b′ m q → at + 32 ≤ length b → Put b at (headBytes slot address flags n) e b″
 unfolding headBytes
 head-put b p q b′ b″ slot address flags n at m e ep eq em eb′ ee eb″ h =
@@ -143,14 +143,14 @@ pub record Going (image segments : List ℕ) (past : ℕ) (all : List Found) (b�
   pub within : at ≤ length b₀
   pub long : length b ≡ length b₀
   pub rest : drop at b ≡ drop at b₀
-  pub goes : listing image segments past all (length b₀) ≡ after (take at b) (listing image segments past left (length b₀ - at))
+  pub goes : recordsIn image segments past all (length b₀) ≡ recordThen (take at b) (recordsIn image segments past left (length b₀ - at))
 
 pub start-going : (image segments : List ℕ) (past : ℕ) (all : List Found) (b : List ℕ) → Going image segments past all b all b 0
 start-going image segments past all b =
-    record { within = omega arith; long = refl; rest = refl; goes = ap (λ (k : ℕ). listing image segments past all k) (omega arith) }
+    record { within = omega arith; long = refl; rest = refl; goes = ap (λ (k : ℕ). recordsIn image segments past all k) (omega arith) }
 
-finish : (l : Listing) (b₀ b : List ℕ) (at next end : ℕ) → at ≤ length b₀ → length b ≡ length b₀ → drop at b ≡ drop at b₀
-    → l ≡ after (take at b) (record { bytes = []; next = next; all = end }) → (at ∷ (next ∷ (end ∷ [])) ≡ listingNumbers l) × (b ≡ atStart (listingBytes l) b₀)
+finish : (l : RowListing) (b₀ b : List ℕ) (at next end : ℕ) → at ≤ length b₀ → length b ≡ length b₀ → drop at b ≡ drop at b₀
+    → l ≡ recordThen (take at b) (record { bytes = []; next = next; all = end }) → (at ∷ (next ∷ (end ∷ [])) ≡ listingNumbers l) × (b ≡ atStart (listingBytes l) b₀)
 finish l b₀ b at next end h long rest e =
     let len : length (take at b) ≡ at = length-take-le at b (omega arith) in
     rw (e, append-nil, len) (refl, sym (take-append-drop at b) ∙ ap (λ (x : List ℕ). take at b ++ x) rest)
@@ -160,8 +160,8 @@ module _ (image segments : List ℕ) (past : ℕ) (all : List Found) (b₀ b : L
   left-as left left′ g e = rw e at g
 
   pub ended : (left : List Found) (slot : ℕ) → Going image segments past all b₀ left b at → left ≡ [] → slot ≡ past
-      → (at ∷ (slot ∷ (1 ∷ [])) ≡ listingNumbers (listing image segments past all (length b₀))) × (b ≡ atStart (listingBytes (listing image segments past all (length b₀))) b₀)
-  unfolding listing
+      → (at ∷ (slot ∷ (1 ∷ [])) ≡ listingNumbers (recordsIn image segments past all (length b₀))) × (b ≡ atStart (listingBytes (recordsIn image segments past all (length b₀))) b₀)
+  unfolding recordsIn
   ended left slot g e es =
       let w = left-as left [] g e in
       rw es (finish _ b₀ b at past 1 (w .within) (w .long) (w .rest) (w .goes))
@@ -169,20 +169,20 @@ module _ (image segments : List ℕ) (past : ℕ) (all : List Found) (b₀ b : L
   module _ (f : Found) (fs : List Found) (g : Going image segments past all b₀ (f ∷ fs) b at) (e : ℕ) (b′ : List ℕ)
       (ee : e ≡ putEnd b at (rowBytes image segments (f .slot) (f .row))) (eb : b′ ≡ putInto b at (rowBytes image segments (f .slot) (f .row))) where
     pub stops : e ≡ at
-        → (at ∷ (f .slot ∷ (0 ∷ [])) ≡ listingNumbers (listing image segments past all (length b₀))) × (b′ ≡ atStart (listingBytes (listing image segments past all (length b₀))) b₀)
-    unfolding listing
+        → (at ∷ (f .slot ∷ (0 ∷ [])) ≡ listingNumbers (recordsIn image segments past all (length b₀))) × (b′ ≡ atStart (listingBytes (recordsIn image segments past all (length b₀))) b₀)
+    unfolding recordsIn
     stops z =
         elim (decLt (length b) (at + length (rowBytes image segments (f .slot) (f .row)))) [
           | yes h ↦
-              let none-fits : listing image segments past (f ∷ fs) (length b₀ - at) ≡ record { bytes = []; next = f .slot; all = 0 } =
+              let none-fits : recordsIn image segments past (f ∷ fs) (length b₀ - at) ≡ record { bytes = []; next = f .slot; all = 0 } =
               simp (lt-leb (length (rowBytes image segments (f .slot) (f .row))) (length b₀ - at) (omega (arith, g .long, g .within))) in
               let same : b′ ≡ b = eb ∙ sym (past-into b _ at h) in
-              rw same (finish _ b₀ b at (f .slot) 0 (g .within) (g .long) (g .rest) (g .goes ∙ ap (after (take at b)) none-fits))
+              rw same (finish _ b₀ b at (f .slot) 0 (g .within) (g .long) (g .rest) (g .goes ∙ ap (recordThen (take at b)) none-fits))
           | no h ↦ let w = put-fits b _ b′ at e ee eb (omega arith) in absurd (omega (arith, w .ends, z, row-long image segments (f .slot) (f .row)))
         ]
 
     pub goes-on : (e ≡ at → ⊥) → Going image segments past all b₀ fs b′ e
-    unfolding listing
+    unfolding recordsIn
     goes-on z =
         elim (decLt (length b) (at + length (rowBytes image segments (f .slot) (f .row)))) [
           | yes h ↦ absurd (z (ee ∙ sym (past-end b _ at h)))
@@ -195,13 +195,13 @@ module _ (image segments : List ℕ) (past : ℕ) (all : List Found) (b₀ b : L
               let back : drop e b′ ≡ drop (at + length t) b = ap (drop e) split ∙ drop-at (take at b ++ t) _ e both in
               let front : take e b′ ≡ take at b ++ t = ap (take e) split ∙ take-at (take at b ++ t) _ e both in
               let room : length b₀ - at - length t ≡ length b₀ - e = omega (arith, w .ends) in
-              let fits : listing image segments past (f ∷ fs) (length b₀ - at) ≡ after t (listing image segments past fs (length b₀ - e)) =
-              simp (le-leb (length t) (length b₀ - at) (omega (arith, g .long, g .within))) (ap (λ (k : ℕ). after t (listing image segments past fs k)) room) in
+              let fits : recordsIn image segments past (f ∷ fs) (length b₀ - at) ≡ recordThen t (recordsIn image segments past fs (length b₀ - e)) =
+              simp (le-leb (length t) (length b₀ - at) (omega (arith, g .long, g .within))) (ap (λ (k : ℕ). recordThen t (recordsIn image segments past fs k)) room) in
               record {
                 within = omega (arith, w .ends, g .long);
                 long = put-length b t b′ at e w (omega arith) ∙ g .long;
                 rest = back ∙ sym (drop-drop (length t) at b) ∙ ap (drop (length t)) (g .rest) ∙ drop-drop (length t) at b₀ ∙ ap (λ (k : ℕ). drop k b₀) (sym (w .ends));
-                goes = g .goes ∙ ap (after (take at b)) fits ∙ rw (front, append-assoc);
+                goes = g .goes ∙ ap (recordThen (take at b)) fits ∙ rw (front, append-assoc);
               }
         ]
 
@@ -221,8 +221,8 @@ eight-read n h =
 -- ---- going on
 
 resumed-row : (image segments : List ℕ) (past : ℕ) (f : Found) (fs : List Found) (from : ℕ → List Found) (room : ℕ) → from (f .slot) ≡ f ∷ fs
-    → ((k : ℕ) → Resumes image segments fs (listing image segments past fs k) from) → Resumes image segments (f ∷ fs) (listing image segments past (f ∷ fs) room) from
-unfolding listing records
+    → ((k : ℕ) → Resumes image segments fs (recordsIn image segments past fs k) from) → Resumes image segments (f ∷ fs) (recordsIn image segments past (f ∷ fs) room) from
+unfolding recordsIn records
 resumed-row image segments past f fs from room e further =
     let t : List ℕ = rowBytes image segments (f .slot) (f .row) in
     elim (decLt room (length t)) [
@@ -234,15 +234,15 @@ resumed-row image segments past f fs from room e further =
 
 module _ (image segments types : List ℕ) (start past : ℕ) where
   resumed : (n i m room : ℕ) → m - i ≡ n → m ≤ past
-      → Resumes image segments (rowsFrom image segments types start n i) (listing image segments past (rowsFrom image segments types start n i) room) (λ j. rowsFrom image segments types start (m - j) j)
-  unfolding rowsFrom listing records
+      → Resumes image segments (rowsFrom image segments types start n i) (recordsIn image segments past (rowsFrom image segments types start n i) room) (λ j. rowsFrom image segments types start (m - j) j)
+  unfolding rowsFrom recordsIn records
   resumed zero i m room e h = record { together = rw (rows-out image segments types start m past h); done = λ z. rows-out image segments types start m past h }
   resumed (suc n) i m room e h = go (λ k. resumed n (suc i) m k (omega arith) h) (run image segments (slotRow types start i)) refl
     where
       go : ((k : ℕ)
-          → Resumes image segments (rowsFrom image segments types start n (suc i)) (listing image segments past (rowsFrom image segments types start n (suc i)) k) (λ j. rowsFrom image segments types start (m - j) j))
+          → Resumes image segments (rowsFrom image segments types start n (suc i)) (recordsIn image segments past (rowsFrom image segments types start n (suc i)) k) (λ j. rowsFrom image segments types start (m - j) j))
           → (x : Option TypeRow) → run image segments (slotRow types start i) ≡ x
-          → Resumes image segments (rowsFrom image segments types start (suc n) i) (listing image segments past (rowsFrom image segments types start (suc n) i) room) (λ j. rowsFrom image segments types start (m - j) j)
+          → Resumes image segments (rowsFrom image segments types start (suc n) i) (recordsIn image segments past (rowsFrom image segments types start (suc n) i) room) (λ j. rowsFrom image segments types start (m - j) j)
       go further none t = rw (rowsFrom, t) (further room)
       go further (some r) t =
           rw (rowsFrom, t) (resumed-row image segments past (found i r) (rowsFrom image segments types start n (suc i)) _ room (rw (e, rowsFrom, t)) further)

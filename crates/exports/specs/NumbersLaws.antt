@@ -1,15 +1,16 @@
 -- What an answer says of its status and its numbers.
 use Prim.Native.Nat.{ℕ, _%_}
 use mathlib.Core.Path.{_≡_, refl, _∙_, ap}
-use mathlib.Core.List.{List, _∷_}
-use lib.ListN.{length}
+use mathlib.Core.List.{List, [], _∷_}
+use lib.ListN.{length, getD}
 use Rattle.refusal.specs.Refusal.{Guarded, answered, refused, mapped, answerOf}
 use Rattle.util.specs.Buffer.{atStart, overwritten}
+use Rattle.util.specs.Cstr.{textOf}
 use Rattle.util.specs.declared.cstr.Text.{Text}
 use Rattle.parent.specs.Context.{nameRead}
 use Rattle.listing.specs.Calls.{guarded}
 use Rattle.listing.specs.CallsLaws.{ragged, whole}
-use Rattle.exports.specs.Numbers.{Tells, contextNumbers}
+use Rattle.exports.specs.Numbers.{Tells, textNumbers, contextNumbers}
 
 module _ {A : Type 0} (numbers : A → List ℕ) (g : Guarded A) (out : List ℕ) where
   pub tells-as : (a : A) (l : List ℕ) → answered a ≡ g → l ≡ numbers a → Tells (mapped numbers g) out 0 l
@@ -37,7 +38,8 @@ module _ {A : Type 0} (segments : List ℕ) (a : A) where
     pub keeps-ragged : (length segments % 4 ≡ 0 → ⊥) → b ≡ overwritten b (answerOf (mapped text (guarded segments (answered a))))
     keeps-ragged h = ap (λ (x : Guarded A). overwritten b (answerOf (mapped text x))) (ragged segments (answered a) h)
 
--- a context's numbers, where the case of its name is known
-pub name-known : (image : List ℕ) (a w n g : ℕ) (t u : Text) → t ≡ u
-    → 1 ∷ (a ∷ (w ∷ (n ∷ (g ∷ contextNumbers (nameRead image u))))) ≡ 1 ∷ (a ∷ (w ∷ (n ∷ (g ∷ contextNumbers (nameRead image t)))))
-name-known image a w n g t u e = rw e
+-- a context's numbers, the last three of which are its name's
+pub name-told : (image : List ℕ) (a w n g : ℕ) (t : Text) (l : List ℕ) → l ≡ textNumbers (textOf t)
+    → 1 ∷ (a ∷ (w ∷ (n ∷ (g ∷ (getD l 0 0 ∷ (getD l 1 0 ∷ (getD l 2 0 ∷ []))))))) ≡ 1 ∷ (a ∷ (w ∷ (n ∷ (g ∷ contextNumbers (nameRead image t)))))
+name-told image a w n g (Text.At o k) l e = rw e
+name-told image a w n g Text.Nothing l e = rw e

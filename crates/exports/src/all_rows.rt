@@ -7,9 +7,9 @@ ghost use Rattle.util.specs.Buffer.{Put, putEnd, putInto, atStart, overwritten}
 ghost use Rattle.typedescriptor.specs.Row.{rowOf};
 ghost use Rattle.listing.specs.Calls.{guarded};
 ghost use Rattle.exports.specs.Numbers.{Tells};
-ghost use Rattle.exports.specs.AllRows.{pairBytes, headBytes, rowBytes, listingFrom, listingNumbers, listingBytes};
+ghost use Rattle.exports.specs.AllRows.{twoNumbers, headBytes, rowBytes, listingFrom, listingNumbers, listingBytes};
 use crate::calls::ANSWERED;
-use parent::QualifiedName;
+use qualifiedname::QualifiedName;
 use refusal::Refusal;
 use typedescriptor::Row;
 use typedescriptor::TypeIter;
@@ -30,7 +30,7 @@ const BUFFER_FULL: u64 = 0;
 
 // Two numbers, eight bytes each, the lowest first.
 fn pair(a: u64, b: u64) -> [u8; 16]
-    ensures { λ r. ⌜ r ≡ pairBytes a b ⌝ }
+    ensures { λ r. ⌜ r ≡ twoNumbers a b ⌝ }
 {
     [
         (a % 256) as u8,
@@ -81,7 +81,7 @@ fn put_record(
     if buffer.len() - at < HEAD {
         return at;
     }
-    match parent::qualified_name(image, segments, row, &mut buffer[at + HEAD..]) {
+    match qualifiedname::qualified_name(image, segments, row, &mut buffer[at + HEAD..]) {
         QualifiedName::Length(length) => { put_head(slot, row, length as u64, buffer, at) + length }
         QualifiedName::Refused(refusal) => {
             if refusal::number(refusal) != DEEP_CONTEXTS {

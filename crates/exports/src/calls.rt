@@ -3,17 +3,17 @@ ghost use lib.ListN.{length};
 ghost use Rattle.refusal.specs.Refusal.{answered, mapped, answerOf};
 ghost use Rattle.util.specs.Buffer.{overwritten};
 ghost use Rattle.segment.specs.Segments.{fileOffset, segmentsOf};
-ghost use Rattle.util.specs.Cstr.{textAt};
+ghost use Rattle.util.specs.Cstr.{textAt, textOf};
 ghost use Rattle.runtime.specs.FieldName.{fieldName};
 ghost use Rattle.typedescriptor.specs.Slots.{nextRow};
 ghost use Rattle.parent.specs.Chain.{chainStep};
-ghost use Rattle.parent.specs.Name.{nameAnswer};
+ghost use Rattle.qualifiedname.specs.Name.{nameAnswer};
 ghost use Rattle.listing.specs.Calls.{guarded};
 ghost use Rattle.exports.specs.Numbers.{Tells, valueNumbers, textNumbers, fieldNumbers, rowNumbers, stepNumbers, oneNumber, namedRow};
 use listing::NextContext;
 use listing::NextRow;
 use parent::ParentChain;
-use parent::QualifiedName;
+use qualifiedname::QualifiedName;
 use refusal::Refusal;
 use runtime::FieldName;
 use segment::FileOffset;
@@ -25,9 +25,19 @@ use util::Text;
 pub const ANSWERED: u64 = 0;
 
 // The first number of an answer: that there is something, and for a field name that it lies in the string section.
-const THERE: u64 = 1;
+pub const THERE: u64 = 1;
 
 const IN_STRINGS: u64 = 2;
+
+// 1, place and length of a text.
+pub fn text_numbers(text: Text) -> [u64; 3]
+    ensures { λ r. ⌜ r ≡ textNumbers (textOf text) ⌝ }
+{
+    match text {
+        Text::At { place, length } => [THERE, place as u64, length as u64],
+        Text::Nothing => [0; 3],
+    }
+}
 
 // 1 and the file offset of an address.
 #[no_mangle]
@@ -37,16 +47,11 @@ pub extern "C" fn hodrupec_file_offset(segments: &[u64], vmaddr: u64, out: &mut 
     if segments.len() % 4 != 0 {
         return refusal::number(Refusal::RaggedSegments);
     }
-    match segment::vm_to_file_offset_in(segments, vmaddr) {
-        FileOffset::At(offset) => {
-            *out = [THERE, offset];
-            ANSWERED
-        }
-        FileOffset::Nothing => {
-            *out = [0; 2];
-            ANSWERED
-        }
-    }
+    *out = match segment::vm_to_file_offset_in(segments, vmaddr) {
+        FileOffset::At(offset) => [THERE, offset],
+        FileOffset::Nothing => [0; 2],
+    };
+    ANSWERED
 }
 
 // 1, place and length of the text at an offset. It takes no segments, and refuses nothing.
@@ -54,16 +59,8 @@ pub extern "C" fn hodrupec_file_offset(segments: &[u64], vmaddr: u64, out: &mut 
 pub extern "C" fn hodrupec_text(data: &[u8], off: usize, out: &mut [u64; 3]) -> u64
     ensures { λ r. ⌜ Tells (answered (textNumbers (textAt (now («data» .entry)) off))) (now (out .entry)) r (now (out .exit)) ⌝ }
 {
-    match util::read_cstr_at(data, off) {
-        Text::At { place, length } => {
-            *out = [THERE, place as u64, length as u64];
-            ANSWERED
-        }
-        Text::Nothing => {
-            *out = [0; 3];
-            ANSWERED
-        }
-    }
+    *out = text_numbers(util::read_cstr_at(data, off));
+    ANSWERED
 }
 
 // 1 for a name in the image, 2 for one in the string section, and its place and length.
@@ -81,20 +78,12 @@ pub extern "C" fn hodrupec_field_name(
     if segments.len() % 4 != 0 {
         return refusal::number(Refusal::RaggedSegments);
     }
-    match runtime::lookup_field_name(image, segments, strings, vmaddr, target_va) {
-        FieldName::Image { place, length } => {
-            *out = [THERE, place as u64, length as u64];
-            ANSWERED
-        }
-        FieldName::Strings { place, length } => {
-            *out = [IN_STRINGS, place as u64, length as u64];
-            ANSWERED
-        }
-        FieldName::Nothing => {
-            *out = [0; 3];
-            ANSWERED
-        }
-    }
+    *out = match runtime::lookup_field_name(image, segments, strings, vmaddr, target_va) {
+        FieldName::Image { place, length } => [THERE, place as u64, length as u64],
+        FieldName::Strings { place, length } => [IN_STRINGS, place as u64, length as u64],
+        FieldName::Nothing => [0; 3],
+    };
+    ANSWERED
 }
 
 // The next row from a slot on: 1, its slot, the slot to go on from, address, flags, parent, and the name's place and length.
@@ -149,35 +138,19 @@ pub extern "C" fn hodrupec_next_context(
     };
     match listing::next_context(image, segments, walk) {
         NextContext::Context { context, next } => {
-            let name = context.name;
-            match name {
-                Text::At { place, length } => {
-                    *out = [
-                        THERE,
-                        context.address,
-                        context.flags as u64,
-                        next.next_descriptor_va,
-                        next.given as u64,
-                        THERE,
-                        place as u64,
-                        length as u64,
-                    ];
-                    ANSWERED
-                }
-                Text::Nothing => {
-                    *out = [
-                        THERE,
-                        context.address,
-                        context.flags as u64,
-                        next.next_descriptor_va,
-                        next.given as u64,
-                        0,
-                        0,
-                        0,
-                    ];
-                    ANSWERED
-                }
-            }
+            let text = context.name;
+            let name = text_numbers(text);
+            *out = [
+                THERE,
+                context.address,
+                context.flags as u64,
+                next.next_descriptor_va,
+                next.given as u64,
+                name[0],
+                name[1],
+                name[2],
+            ];
+            ANSWERED
         }
         NextContext::End => {
             *out = [0; 8];

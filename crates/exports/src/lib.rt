@@ -2,3 +2,7 @@
 // it answers and else the refusal's number, and writes its answer into a lent array (and buffer), of which a refused call changes nothing.
 mod all_rows;
 mod calls;
+
+pub use calls::ANSWERED;
+pub use calls::THERE;
+pub use calls::text_numbers;

@@ -20,13 +20,13 @@ abbrev pub fieldStepNumbers : Step → List ℕ
 fieldStepNumbers s = descriptorNumbers (s .next) (s .found)
 
 -- a record by its address and its words
-abbrev pub foundNumbers : ℕ → Option Entry → List ℕ
-foundNumbers next none = 2 ∷ (next ∷ (0 ∷ (0 ∷ (0 ∷ (0 ∷ [])))))
-foundNumbers next (some e) = 1 ∷ (next ∷ (e .address ∷ e .words))
+abbrev pub foundRecordNumbers : ℕ → Option Entry → List ℕ
+foundRecordNumbers next none = 2 ∷ (next ∷ (0 ∷ (0 ∷ (0 ∷ (0 ∷ [])))))
+foundRecordNumbers next (some e) = 1 ∷ (next ∷ (e .address ∷ e .words))
 
 abbrev pub recordNumbers : Option RecordStep → List ℕ
 recordNumbers none = 0 ∷ (0 ∷ (0 ∷ (0 ∷ (0 ∷ (0 ∷ [])))))
-recordNumbers (some s) = foundNumbers (s .next .cursor) (s .found)
+recordNumbers (some s) = foundRecordNumbers (s .next .cursor) (s .found)
 
 -- a walk by its numbers
 abbrev pub recordsAt : ℕ → ℕ → ℕ → ℕ → FieldRecordIter

@@ -3,7 +3,7 @@
 use Prim.Native.Nat.{ℕ}
 use mathlib.Core.List.{List, [], _∷_}
 use mathlib.Core.Option.{Option, some, none}
-use Rattle.typebody.specs.Offsets.{Offsets}
+use Rattle.fieldoffsets.specs.Offsets.{Offsets}
 
 abbrev pub offsetsNumbers : Option Offsets → List ℕ
 offsetsNumbers none = 0 ∷ (0 ∷ (0 ∷ []))

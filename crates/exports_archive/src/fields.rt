@@ -9,6 +9,7 @@ ghost use Rattle.exports.specs.Numbers.{Tells};
 ghost use Rattle.exports_archive.specs.Fields.{fieldStepNumbers, recordNumbers, recordsAt};
 use field::FieldIter;
 use field::FieldRecordIter;
+use field::FieldRecordStep;
 use field::FieldStep;
 use listing::NextFieldRecord;
 
@@ -74,23 +75,26 @@ pub extern "C" fn hodrupec_next_field_record(
         cursor: next,
     };
     match listing::next_field_record(image, segments, walk) {
-        NextFieldRecord::Record { record, next } => {
-            *out = [
-                THERE,
-                next.cursor as u64,
-                record.address,
-                record.flags as u64,
-                record.mangled_type_name_va,
-                record.field_name_va,
-            ];
-            ANSWERED
-        }
-        NextFieldRecord::Unreadable { next } => {
-            *out = [UNREADABLE, next.cursor as u64, 0, 0, 0, 0];
-            ANSWERED
-        }
-        NextFieldRecord::End => {
-            *out = [0; 6];
+        NextFieldRecord::Step(step) => {
+            *out = match step {
+                FieldRecordStep::Record { record, next } => [
+                    THERE,
+                    next.cursor as u64,
+                    record.address,
+                    record.flags as u64,
+                    record.mangled_type_name_va,
+                    record.field_name_va,
+                ],
+                FieldRecordStep::Unreadable { next } => [
+                    UNREADABLE,
+                    next.cursor as u64,
+                    0,
+                    0,
+                    0,
+                    0,
+                ],
+                FieldRecordStep::End => [0; 6],
+            };
             ANSWERED
         }
         NextFieldRecord::Refused(refusal) => refusal::number(refusal),

@@ -3,15 +3,15 @@ ghost use mathlib.Core.Path.{_≡_};
 ghost use Rattle.refusal.specs.Refusal.{answered, mapped};
 ghost use Rattle.runtime.specs.Reads.{run};
 ghost use Rattle.typebody.specs.Body.{body};
-ghost use Rattle.typebody.specs.Offsets.{offsets, offsetsPlace, staticPlace, offsetIn, offsetsOf};
+ghost use Rattle.fieldoffsets.specs.Offsets.{offsets, offsetsPlace, staticPlace, offsetIn, offsetsOf};
 ghost use Rattle.listing.specs.Calls.{guarded};
 ghost use Rattle.exports.specs.Numbers.{Tells, valueNumbers};
 ghost use Rattle.exports_archive.specs.Offsets.{offsetsNumbers};
 use crate::fields::ANSWERED;
 use crate::fields::THERE;
+use fieldoffsets::FieldOffset;
+use fieldoffsets::FieldOffsets;
 use listing::OffsetsAnswer;
-use typebody::FieldOffset;
-use typebody::FieldOffsets;
 use typedescriptor::Row;
 
 fn offsets_numbers(offsets: FieldOffsets) -> [u64; 3]
@@ -84,14 +84,9 @@ pub extern "C" fn hodrupec_field_offset(
 ) -> u64
     ensures { λ r. ⌜ Tells (answered (valueNumbers (offsetIn (now (image .entry)) (offsets place count) number))) (now (out .entry)) r (now (out .exit)) ⌝ }
 {
-    match typebody::field_offset(image, FieldOffsets::At { place, count }, number) {
-        FieldOffset::At(offset) => {
-            *out = [THERE, offset as u64];
-            ANSWERED
-        }
-        FieldOffset::Nothing => {
-            *out = [0; 2];
-            ANSWERED
-        }
-    }
+    *out = match fieldoffsets::field_offset(image, FieldOffsets::At { place, count }, number) {
+        FieldOffset::At(offset) => [THERE, offset as u64],
+        FieldOffset::Nothing => [0; 2],
+    };
+    ANSWERED
 }

@@ -1,16 +1,8 @@
 // The records of a field descriptor in one call: those from one on up to the first that cannot be read, as many as the lent buffer holds.
-ghost use mathlib.Core.Path.{_≡_};
-ghost use lib.ListN.{length};
-ghost use Rattle.refusal.specs.Refusal.{answered, mapped, answerOf};
-ghost use Rattle.util.specs.Buffer.{overwritten};
 ghost use Rattle.field.specs.Records.{recordLayout};
-ghost use Rattle.listing.specs.Calls.{guarded};
-ghost use Rattle.tables.specs.Tables.{tableIn, counts, numbersOf};
-ghost use Rattle.exports.specs.Numbers.{Tells};
-ghost use Rattle.exports_tables.specs.Tables.{cursorAt, countNumbers};
-use crate::fields::ANSWERED;
+ghost use Rattle.tables.specs.Tables.{guardedTable};
+ghost use Rattle.exports_tables.specs.Tables.{cursorAt, TellsTable};
 use field::FieldRecordIter;
-use tables::TableAnswer;
 
 // Four for each field record, `size` bytes from one to the next: its address, its flags, the addresses of the type's name and of the field's.
 // How many entries were written, and why no more: 0 the table's end, 1 the buffer is full, 2 an entry that cannot be read.
@@ -25,8 +17,7 @@ pub extern "C" fn hodrupec_field_records(
     buffer: &mut [u64],
     out: &mut [u64; 2],
 ) -> u64
-    ensures { λ r. ⌜ Tells (mapped countNumbers (mapped counts (guarded (now (segments .entry)) (answered (tableIn (now (image .entry)) (now (segments .entry)) (recordLayout size) (cursorAt «base_va» count next) (length (now (buffer .entry)))))))) (now (out .entry)) r (now (out .exit)) ⌝ }
-    ensures { λ _. ⌜ now (buffer .exit) ≡ overwritten (now (buffer .entry)) (answerOf (mapped numbersOf (guarded (now (segments .entry)) (answered (tableIn (now (image .entry)) (now (segments .entry)) (recordLayout size) (cursorAt «base_va» count next) (length (now (buffer .entry)))))))) ⌝ }
+    ensures { λ r. ⌜ TellsTable (guardedTable (now (image .entry)) (now (segments .entry)) (recordLayout size) (cursorAt «base_va» count next) (now (buffer .entry))) (now (out .entry)) (now (buffer .entry)) r (now (out .exit)) (now (buffer .exit)) ⌝ }
 {
     let walk = FieldRecordIter {
         base_va,
@@ -34,11 +25,5 @@ pub extern "C" fn hodrupec_field_records(
         entry_size: size,
         cursor: next,
     };
-    match tables::field_records(image, segments, walk, buffer) {
-        TableAnswer::Listed(listed) => {
-            *out = [listed.entries as u64, listed.stop];
-            ANSWERED
-        }
-        TableAnswer::Refused(refusal) => refusal::number(refusal),
-    }
+    exports_tables::tell_counts(tables::field_records(image, segments, walk, buffer), out)
 }

@@ -7,7 +7,7 @@ use mathlib.Core.Option.{Option, some, none}
 use lib.ListN.{getElem?}
 use lib.Dec.{eqb}
 use Rattle.runtime.specs.Reads.{andThen, run}
-use Rattle.classtrailers.specs.Blocks.{Row, table, Walk, Step}
+use Rattle.classtrailers.specs.Blocks.{Row, blockTable, Walk, Step}
 use Rattle.classtrailers.specs.declared.block.Block.{Block}
 use Rattle.classtrailers.specs.declared.block.BlockKind.{BlockKind}
 use Rattle.typebody.specs.Body.{body}
@@ -55,7 +55,7 @@ kindBlockNumbers (some b) = 1 ∷ blockNumbers b
 
 -- the kind with a number in the table's order
 unfoldable pub kindNumbered : ℕ → Option BlockKind
-kindNumbered n = getElem? (map (λ (r : Row). r .kind) table) n
+kindNumbered n = getElem? (map (λ (r : Row). r .kind) blockTable) n
 
 -- the block of a kind, by the kind's number, of the descriptor at an address; a number that is no kind's has none
 abbrev pub blockNumbered : List ℕ → List ℕ → Option Start → ℕ → Option Block
@@ -63,9 +63,9 @@ blockNumbered image segments start number = andThen (kindNumbered number) (λ k.
 
 -- ---- what the answers within the crate say
 
-abbrev pub numbersOf : BlockNumbers → List ℕ
-numbersOf n = n .kind ∷ (n .first ∷ (n .second ∷ (n .third ∷ [])))
+abbrev pub blockNumbersOf : BlockNumbers → List ℕ
+blockNumbersOf n = n .kind ∷ (n .first ∷ (n .second ∷ (n .third ∷ [])))
 
-abbrev pub kindOf : KindRead → Option BlockKind
-kindOf (KindRead.Kind k) = some k
-kindOf KindRead.Nothing = none
+abbrev pub kindReadOf : KindRead → Option BlockKind
+kindReadOf (KindRead.Kind k) = some k
+kindReadOf KindRead.Nothing = none

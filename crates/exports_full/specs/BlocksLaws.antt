@@ -9,7 +9,7 @@ use lib.ListN.{length, getElem?}
 use lib.Dec.{eqb}
 use Rattle.refusal.specs.Refusal.{Guarded, answered, refused, mapped}
 use Rattle.runtime.specs.Reads.{andThen, run}
-use Rattle.classtrailers.specs.Blocks.{Row, table}
+use Rattle.classtrailers.specs.Blocks.{Row, blockTable}
 use Rattle.classtrailers.specs.declared.block.Block.{Block}
 use Rattle.classtrailers.specs.declared.block.BlockKind.{BlockKind}
 use Rattle.typebody.specs.Body.{Body, body}
@@ -60,7 +60,7 @@ past-end (a ∷ l) (suc n) h = past-end l n (omega arith)
 
 pub no-kind : (n : ℕ) → 11 ≤ n → none ≡ kindNumbered n
 unfolding kindNumbered
-no-kind n h = past-end (map (λ (r : Row). r .kind) table) n h
+no-kind n h = past-end (map (λ (r : Row). r .kind) blockTable) n h
 
 -- ---- the block of a kind
 

@@ -5,20 +5,15 @@ use Prim.Native.Nat.{ℕ, zero, suc}
 use mathlib.Core.List.{List, [], _∷_}
 use mathlib.Core.Option.{Option, some, none}
 use Rattle.vtable.specs.Entries.{Entry, Step}
-use Rattle.vtable.specs.declared.cursor.EntryCursor.{EntryCursor}
 
 abbrev pub zeros : ℕ → List ℕ
 zeros zero = []
 zeros (suc n) = 0 ∷ zeros n
 
-abbrev pub foundNumbers : ℕ → ℕ → Option Entry → List ℕ
-foundNumbers n next none = 2 ∷ (next ∷ (0 ∷ zeros n))
-foundNumbers n next (some e) = 1 ∷ (next ∷ (e .address ∷ e .words))
+abbrev pub foundEntryNumbers : ℕ → ℕ → Option Entry → List ℕ
+foundEntryNumbers n next none = 2 ∷ (next ∷ (0 ∷ zeros n))
+foundEntryNumbers n next (some e) = 1 ∷ (next ∷ (e .address ∷ e .words))
 
-abbrev pub entryNumbers : ℕ → Option Step → List ℕ
-entryNumbers n none = 0 ∷ (0 ∷ (0 ∷ zeros n))
-entryNumbers n (some s) = foundNumbers n (s .next .next) (s .found)
-
--- a walk by its numbers
-abbrev pub cursorAt : ℕ → ℕ → ℕ → EntryCursor
-cursorAt base count next = record { «base_va» = base; count = count; next = next }
+abbrev pub entryStepNumbers : ℕ → Option Step → List ℕ
+entryStepNumbers n none = 0 ∷ (0 ∷ (0 ∷ zeros n))
+entryStepNumbers n (some s) = foundEntryNumbers n (s .next .next) (s .found)

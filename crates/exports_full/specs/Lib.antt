@@ -1,5 +1,3 @@
-pub mod Bodies
-pub mod BodiesLaws
 pub mod Blocks
 pub mod BlocksLaws
 pub mod Entries

@@ -7,7 +7,7 @@ ghost use Rattle.listing.specs.Calls.{guarded};
 ghost use Rattle.listing.specs.Blocks.{blockAnswer};
 ghost use Rattle.exports.specs.Numbers.{Tells};
 ghost use Rattle.exports_util.specs.Flags.{flagNumber};
-ghost use Rattle.exports_full.specs.Blocks.{startAt, startNumbers, walkAt, blockNumbers, numbersOf, blockStepNumbers, kindBlockNumbers, kindNumbered, kindOf, blockNumbered};
+ghost use Rattle.exports_full.specs.Blocks.{startAt, startNumbers, walkAt, blockNumbers, blockNumbersOf, blockStepNumbers, kindBlockNumbers, kindNumbered, kindReadOf, blockNumbered};
 use crate::bodies::ANSWERED;
 use crate::bodies::THERE;
 use classtrailers::Block;
@@ -54,7 +54,7 @@ fn start_numbers(read: TrailingRead) -> [u64; 4]
 }
 
 fn numbers(kind: u64, first: u64, second: u64, third: u64) -> BlockNumbers
-    ensures { λ r. ⌜ numbersOf r ≡ numbersOf (record { kind = kind; first = first; second = second; third = third }) ⌝ }
+    ensures { λ r. ⌜ blockNumbersOf r ≡ blockNumbersOf (record { kind = kind; first = first; second = second; third = third }) ⌝ }
 {
     BlockNumbers {
         kind,
@@ -65,7 +65,7 @@ fn numbers(kind: u64, first: u64, second: u64, third: u64) -> BlockNumbers
 }
 
 fn block_numbers(block: Block) -> BlockNumbers
-    ensures { λ r. ⌜ numbersOf r ≡ blockNumbers block ⌝ }
+    ensures { λ r. ⌜ blockNumbersOf r ≡ blockNumbers block ⌝ }
 {
     match block {
         Block::Generic(va) => numbers(0, va, 0, 0),
@@ -95,7 +95,7 @@ fn block_numbers(block: Block) -> BlockNumbers
 }
 
 fn kind_numbered(number: u32) -> KindRead
-    ensures { λ r. ⌜ kindOf r ≡ kindNumbered number ⌝ }
+    ensures { λ r. ⌜ kindReadOf r ≡ kindNumbered number ⌝ }
 {
     match number {
         0 => KindRead::Kind(BlockKind::Generic),

@@ -6,14 +6,13 @@ ghost use Rattle.runtime.specs.Reads.{run, textPlace};
 ghost use Rattle.typebody.specs.Body.{body, bodyOf, classOf};
 ghost use Rattle.listing.specs.Calls.{guarded};
 ghost use Rattle.exports.specs.Numbers.{Tells, textNumbers};
-ghost use Rattle.exports_full.specs.Bodies.{bodyNumbers};
+ghost use Rattle.fullrows.specs.FullRows.{bodyNumbers};
 use listing::BodyAnswer;
 use listing::TextAnswer;
 use typebody::ClassBody;
 use typebody::ClassSizes;
 use typebody::TypeBody;
 use typedescriptor::Row;
-use util::Text;
 
 // The status of a call that answers.
 pub const ANSWERED: u64 = 0;
@@ -38,16 +37,10 @@ pub extern "C" fn hodrupec_text_at(
     ensures { λ r. ⌜ Tells (mapped textNumbers (guarded (now (segments .entry)) (answered (textPlace (now (image .entry)) (now (segments .entry)) vmaddr)))) (now (out .entry)) r (now (out .exit)) ⌝ }
 {
     match listing::text_at(image, segments, vmaddr) {
-        TextAnswer::Text(text) => match text {
-            Text::At { place, length } => {
-                *out = [THERE, place as u64, length as u64];
-                ANSWERED
-            }
-            Text::Nothing => {
-                *out = [0; 3];
-                ANSWERED
-            }
-        },
+        TextAnswer::Text(text) => {
+            *out = exports::text_numbers(text);
+            ANSWERED
+        }
         TextAnswer::Refused(refusal) => refusal::number(refusal),
     }
 }

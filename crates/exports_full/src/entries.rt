@@ -4,14 +4,19 @@ ghost use Rattle.refusal.specs.Refusal.{answered, mapped};
 ghost use Rattle.vtable.specs.Entries.{method, override, defaultOverride, prespecialization, entryStep};
 ghost use Rattle.listing.specs.Calls.{guarded};
 ghost use Rattle.exports.specs.Numbers.{Tells};
-ghost use Rattle.exports_full.specs.Entries.{entryNumbers, cursorAt};
+ghost use Rattle.exports_tables.specs.Tables.{cursorAt};
+ghost use Rattle.exports_full.specs.Entries.{entryStepNumbers};
 use crate::bodies::ANSWERED;
 use crate::bodies::THERE;
 use listing::NextDefaultOverride;
 use listing::NextMethod;
 use listing::NextOverride;
 use listing::NextPrespecialization;
+use vtable::DefaultOverrideStep;
 use vtable::EntryCursor;
+use vtable::MethodStep;
+use vtable::OverrideStep;
+use vtable::PrespecializationStep;
 
 // The first number of an entry that cannot be read.
 const UNREADABLE: u64 = 2;
@@ -26,7 +31,7 @@ pub extern "C" fn hodrupec_next_method(
     next: u32,
     out: &mut [u64; 5],
 ) -> u64
-    ensures { λ r. ⌜ Tells (mapped (entryNumbers 2) (guarded (now (segments .entry)) (answered (entryStep (now (image .entry)) (now (segments .entry)) method (cursorAt «base_va» count next))))) (now (out .entry)) r (now (out .exit)) ⌝ }
+    ensures { λ r. ⌜ Tells (mapped (entryStepNumbers 2) (guarded (now (segments .entry)) (answered (entryStep (now (image .entry)) (now (segments .entry)) method (cursorAt «base_va» count next))))) (now (out .entry)) r (now (out .exit)) ⌝ }
 {
     let cursor = EntryCursor {
         base_va,
@@ -34,22 +39,18 @@ pub extern "C" fn hodrupec_next_method(
         next,
     };
     match listing::next_method(image, segments, cursor) {
-        NextMethod::Entry { entry, next } => {
-            *out = [
-                THERE,
-                next.next as u64,
-                entry.address,
-                entry.flags as u64,
-                entry.impl_va,
-            ];
-            ANSWERED
-        }
-        NextMethod::Unreadable { next } => {
-            *out = [UNREADABLE, next.next as u64, 0, 0, 0];
-            ANSWERED
-        }
-        NextMethod::End => {
-            *out = [0; 5];
+        NextMethod::Step(step) => {
+            *out = match step {
+                MethodStep::Entry { entry, next } => [
+                    THERE,
+                    next.next as u64,
+                    entry.address,
+                    entry.flags as u64,
+                    entry.impl_va,
+                ],
+                MethodStep::Unreadable { next } => [UNREADABLE, next.next as u64, 0, 0, 0],
+                MethodStep::End => [0; 5],
+            };
             ANSWERED
         }
         NextMethod::Refused(refusal) => refusal::number(refusal),
@@ -66,7 +67,7 @@ pub extern "C" fn hodrupec_next_override(
     next: u32,
     out: &mut [u64; 6],
 ) -> u64
-    ensures { λ r. ⌜ Tells (mapped (entryNumbers 3) (guarded (now (segments .entry)) (answered (entryStep (now (image .entry)) (now (segments .entry)) override (cursorAt «base_va» count next))))) (now (out .entry)) r (now (out .exit)) ⌝ }
+    ensures { λ r. ⌜ Tells (mapped (entryStepNumbers 3) (guarded (now (segments .entry)) (answered (entryStep (now (image .entry)) (now (segments .entry)) override (cursorAt «base_va» count next))))) (now (out .entry)) r (now (out .exit)) ⌝ }
 {
     let cursor = EntryCursor {
         base_va,
@@ -74,23 +75,19 @@ pub extern "C" fn hodrupec_next_override(
         next,
     };
     match listing::next_override(image, segments, cursor) {
-        NextOverride::Entry { entry, next } => {
-            *out = [
-                THERE,
-                next.next as u64,
-                entry.address,
-                entry.class_va,
-                entry.method_va,
-                entry.impl_va,
-            ];
-            ANSWERED
-        }
-        NextOverride::Unreadable { next } => {
-            *out = [UNREADABLE, next.next as u64, 0, 0, 0, 0];
-            ANSWERED
-        }
-        NextOverride::End => {
-            *out = [0; 6];
+        NextOverride::Step(step) => {
+            *out = match step {
+                OverrideStep::Entry { entry, next } => [
+                    THERE,
+                    next.next as u64,
+                    entry.address,
+                    entry.class_va,
+                    entry.method_va,
+                    entry.impl_va,
+                ],
+                OverrideStep::Unreadable { next } => [UNREADABLE, next.next as u64, 0, 0, 0, 0],
+                OverrideStep::End => [0; 6],
+            };
             ANSWERED
         }
         NextOverride::Refused(refusal) => refusal::number(refusal),
@@ -107,7 +104,7 @@ pub extern "C" fn hodrupec_next_default_override(
     next: u32,
     out: &mut [u64; 5],
 ) -> u64
-    ensures { λ r. ⌜ Tells (mapped (entryNumbers 2) (guarded (now (segments .entry)) (answered (entryStep (now (image .entry)) (now (segments .entry)) defaultOverride (cursorAt «base_va» count next))))) (now (out .entry)) r (now (out .exit)) ⌝ }
+    ensures { λ r. ⌜ Tells (mapped (entryStepNumbers 2) (guarded (now (segments .entry)) (answered (entryStep (now (image .entry)) (now (segments .entry)) defaultOverride (cursorAt «base_va» count next))))) (now (out .entry)) r (now (out .exit)) ⌝ }
 {
     let cursor = EntryCursor {
         base_va,
@@ -115,22 +112,18 @@ pub extern "C" fn hodrupec_next_default_override(
         next,
     };
     match listing::next_default_override(image, segments, cursor) {
-        NextDefaultOverride::Entry { entry, next } => {
-            *out = [
-                THERE,
-                next.next as u64,
-                entry.address,
-                entry.method_va,
-                entry.impl_va,
-            ];
-            ANSWERED
-        }
-        NextDefaultOverride::Unreadable { next } => {
-            *out = [UNREADABLE, next.next as u64, 0, 0, 0];
-            ANSWERED
-        }
-        NextDefaultOverride::End => {
-            *out = [0; 5];
+        NextDefaultOverride::Step(step) => {
+            *out = match step {
+                DefaultOverrideStep::Entry { entry, next } => [
+                    THERE,
+                    next.next as u64,
+                    entry.address,
+                    entry.method_va,
+                    entry.impl_va,
+                ],
+                DefaultOverrideStep::Unreadable { next } => [UNREADABLE, next.next as u64, 0, 0, 0],
+                DefaultOverrideStep::End => [0; 5],
+            };
             ANSWERED
         }
         NextDefaultOverride::Refused(refusal) => refusal::number(refusal),
@@ -147,7 +140,7 @@ pub extern "C" fn hodrupec_next_prespecialization(
     next: u32,
     out: &mut [u64; 4],
 ) -> u64
-    ensures { λ r. ⌜ Tells (mapped (entryNumbers 1) (guarded (now (segments .entry)) (answered (entryStep (now (image .entry)) (now (segments .entry)) prespecialization (cursorAt «base_va» count next))))) (now (out .entry)) r (now (out .exit)) ⌝ }
+    ensures { λ r. ⌜ Tells (mapped (entryStepNumbers 1) (guarded (now (segments .entry)) (answered (entryStep (now (image .entry)) (now (segments .entry)) prespecialization (cursorAt «base_va» count next))))) (now (out .entry)) r (now (out .exit)) ⌝ }
 {
     let cursor = EntryCursor {
         base_va,
@@ -155,16 +148,17 @@ pub extern "C" fn hodrupec_next_prespecialization(
         next,
     };
     match listing::next_prespecialization(image, segments, cursor) {
-        NextPrespecialization::Entry { entry, next } => {
-            *out = [THERE, next.next as u64, entry.address, entry.metadata_va];
-            ANSWERED
-        }
-        NextPrespecialization::Unreadable { next } => {
-            *out = [UNREADABLE, next.next as u64, 0, 0];
-            ANSWERED
-        }
-        NextPrespecialization::End => {
-            *out = [0; 4];
+        NextPrespecialization::Step(step) => {
+            *out = match step {
+                PrespecializationStep::Entry { entry, next } => [
+                    THERE,
+                    next.next as u64,
+                    entry.address,
+                    entry.metadata_va,
+                ],
+                PrespecializationStep::Unreadable { next } => [UNREADABLE, next.next as u64, 0, 0],
+                PrespecializationStep::End => [0; 4],
+            };
             ANSWERED
         }
         NextPrespecialization::Refused(refusal) => refusal::number(refusal),

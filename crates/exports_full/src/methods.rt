@@ -1,15 +1,7 @@
 // The methods of a table in one call: those from an entry on up to the first that cannot be read, as many as the lent buffer holds.
-ghost use mathlib.Core.Path.{_≡_};
-ghost use lib.ListN.{length};
-ghost use Rattle.refusal.specs.Refusal.{answered, mapped, answerOf};
-ghost use Rattle.util.specs.Buffer.{overwritten};
 ghost use Rattle.vtable.specs.Entries.{method};
-ghost use Rattle.listing.specs.Calls.{guarded};
-ghost use Rattle.tables.specs.Tables.{tableIn, counts, numbersOf};
-ghost use Rattle.exports.specs.Numbers.{Tells};
-ghost use Rattle.exports_tables.specs.Tables.{cursorAt, countNumbers};
-use crate::bodies::ANSWERED;
-use tables::TableAnswer;
+ghost use Rattle.tables.specs.Tables.{guardedTable};
+ghost use Rattle.exports_tables.specs.Tables.{cursorAt, TellsTable};
 use vtable::EntryCursor;
 
 // Three numbers for each method: its address, its flags, the implementation.
@@ -24,19 +16,12 @@ pub extern "C" fn hodrupec_methods(
     buffer: &mut [u64],
     out: &mut [u64; 2],
 ) -> u64
-    ensures { λ r. ⌜ Tells (mapped countNumbers (mapped counts (guarded (now (segments .entry)) (answered (tableIn (now (image .entry)) (now (segments .entry)) method (cursorAt «base_va» count next) (length (now (buffer .entry)))))))) (now (out .entry)) r (now (out .exit)) ⌝ }
-    ensures { λ _. ⌜ now (buffer .exit) ≡ overwritten (now (buffer .entry)) (answerOf (mapped numbersOf (guarded (now (segments .entry)) (answered (tableIn (now (image .entry)) (now (segments .entry)) method (cursorAt «base_va» count next) (length (now (buffer .entry)))))))) ⌝ }
+    ensures { λ r. ⌜ TellsTable (guardedTable (now (image .entry)) (now (segments .entry)) method (cursorAt «base_va» count next) (now (buffer .entry))) (now (out .entry)) (now (buffer .entry)) r (now (out .exit)) (now (buffer .exit)) ⌝ }
 {
     let walk = EntryCursor {
         base_va,
         count,
         next,
     };
-    match tables::methods(image, segments, walk, buffer) {
-        TableAnswer::Listed(listed) => {
-            *out = [listed.entries as u64, listed.stop];
-            ANSWERED
-        }
-        TableAnswer::Refused(refusal) => refusal::number(refusal),
-    }
+    exports_tables::tell_counts(tables::methods(image, segments, walk, buffer), out)
 }

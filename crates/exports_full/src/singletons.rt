@@ -23,25 +23,22 @@ pub extern "C" fn hodrupec_singleton_init(
     ensures { λ r. ⌜ Tells (mapped initNumbers (guarded (now (segments .entry)) (answered (run (now (image .entry)) (now (segments .entry)) (singletonInit address))))) (now (out .entry)) r (now (out .exit)) ⌝ }
 {
     match listing::singleton_init(image, segments, address) {
-        InitAnswer::Init(init) => match init {
-            SingletonMetadataInit::At {
-                initialization_cache_va,
-                incomplete_metadata_va,
-                completion_function_va,
-            } => {
-                *out = [
+        InitAnswer::Init(init) => {
+            *out = match init {
+                SingletonMetadataInit::At {
+                    initialization_cache_va,
+                    incomplete_metadata_va,
+                    completion_function_va,
+                } => [
                     THERE,
                     initialization_cache_va,
                     incomplete_metadata_va,
                     completion_function_va,
-                ];
-                ANSWERED
-            }
-            SingletonMetadataInit::Nothing => {
-                *out = [0; 4];
-                ANSWERED
-            }
-        },
+                ],
+                SingletonMetadataInit::Nothing => [0; 4],
+            };
+            ANSWERED
+        }
         InitAnswer::Refused(refusal) => refusal::number(refusal),
     }
 }
@@ -57,16 +54,13 @@ pub extern "C" fn hodrupec_singleton_pointer(
     ensures { λ r. ⌜ Tells (mapped valueNumbers (guarded (now (segments .entry)) (answered (run (now (image .entry)) (now (segments .entry)) (singletonPointer address))))) (now (out .entry)) r (now (out .exit)) ⌝ }
 {
     match listing::singleton_pointer(image, segments, address) {
-        PointerAnswer::Pointer(pointer) => match pointer {
-            SingletonMetadataPointer::At(metadata_va) => {
-                *out = [THERE, metadata_va];
-                ANSWERED
-            }
-            SingletonMetadataPointer::Nothing => {
-                *out = [0; 2];
-                ANSWERED
-            }
-        },
+        PointerAnswer::Pointer(pointer) => {
+            *out = match pointer {
+                SingletonMetadataPointer::At(metadata_va) => [THERE, metadata_va],
+                SingletonMetadataPointer::Nothing => [0; 2],
+            };
+            ANSWERED
+        }
         PointerAnswer::Refused(refusal) => refusal::number(refusal),
     }
 }

@@ -1,8 +1,11 @@
 -- docs/SPECIFICATION.md, "Calls for C". The answers of the calls over whole tables as numbers.
 use Prim.Native.Nat.{ℕ}
+use mathlib.Core.Path.{_≡_}
 use mathlib.Core.List.{List, [], _∷_}
+use Rattle.refusal.specs.Refusal.{Guarded, mapped}
 use Rattle.vtable.specs.declared.cursor.EntryCursor.{EntryCursor}
-use Rattle.tables.specs.Tables.{Counts}
+use Rattle.tables.specs.Tables.{WholeTable, Counts, counts, bufferWith}
+use Rattle.exports.specs.Numbers.{Tells}
 
 abbrev pub cursorAt : ℕ → ℕ → ℕ → EntryCursor
 cursorAt base count next = record { «base_va» = base; count = count; next = next }
@@ -10,3 +13,8 @@ cursorAt base count next = record { «base_va» = base; count = count; next = ne
 -- how many entries, and why no more
 abbrev pub countNumbers : Counts → List ℕ
 countNumbers c = c .entries ∷ (c .stop ∷ [])
+
+-- what a call tells, and its lent buffer at the end
+pub record TellsTable (g : Guarded WholeTable) (out buffer : List ℕ) (r : ℕ) (out′ buffer′ : List ℕ) : Type 0 where
+  pub tells : Tells (mapped countNumbers (mapped counts g)) out r out′
+  pub holds : buffer′ ≡ bufferWith g buffer

@@ -2,20 +2,29 @@
 // as many as the lent buffer holds. Methods stand in `exports_full` and field records in `exports_archive`: with one kind of table to an
 // archive its loop is made for that kind. Told are: how many were written, and why no more: 0 the table's end, 1 the buffer is full, 2 an entry that
 // cannot be read.
-ghost use mathlib.Core.Path.{_≡_};
-ghost use lib.ListN.{length};
-ghost use Rattle.refusal.specs.Refusal.{answered, mapped, answerOf};
-ghost use Rattle.util.specs.Buffer.{overwritten};
+ghost use Rattle.refusal.specs.Refusal.{mapped};
 ghost use Rattle.vtable.specs.Entries.{override, defaultOverride, prespecialization};
-ghost use Rattle.listing.specs.Calls.{guarded};
-ghost use Rattle.tables.specs.Tables.{tableIn, counts, numbersOf};
+ghost use Rattle.tables.specs.Tables.{tableAnswer, guardedTable};
 ghost use Rattle.exports.specs.Numbers.{Tells};
-ghost use Rattle.exports_tables.specs.Tables.{cursorAt, countNumbers};
+ghost use Rattle.exports_tables.specs.Tables.{cursorAt, countNumbers, TellsTable};
 use tables::TableAnswer;
 use vtable::EntryCursor;
 
 // The status of a call that answers.
 const ANSWERED: u64 = 0;
+
+// What a call over a table gives back, and writes of its answer.
+pub fn tell_counts(answer: TableAnswer, out: &mut [u64; 2]) -> u64
+    ensures { λ r. ⌜ Tells (mapped countNumbers (tableAnswer answer)) (now (out .entry)) r (now (out .exit)) ⌝ }
+{
+    match answer {
+        TableAnswer::Listed(listed) => {
+            *out = [listed.entries as u64, listed.stop];
+            ANSWERED
+        }
+        TableAnswer::Refused(refusal) => refusal::number(refusal),
+    }
+}
 
 // Four for each override: its address, the class, the method, the implementation.
 #[no_mangle]
@@ -28,21 +37,14 @@ pub extern "C" fn hodrupec_overrides(
     buffer: &mut [u64],
     out: &mut [u64; 2],
 ) -> u64
-    ensures { λ r. ⌜ Tells (mapped countNumbers (mapped counts (guarded (now (segments .entry)) (answered (tableIn (now (image .entry)) (now (segments .entry)) override (cursorAt «base_va» count next) (length (now (buffer .entry)))))))) (now (out .entry)) r (now (out .exit)) ⌝ }
-    ensures { λ _. ⌜ now (buffer .exit) ≡ overwritten (now (buffer .entry)) (answerOf (mapped numbersOf (guarded (now (segments .entry)) (answered (tableIn (now (image .entry)) (now (segments .entry)) override (cursorAt «base_va» count next) (length (now (buffer .entry)))))))) ⌝ }
+    ensures { λ r. ⌜ TellsTable (guardedTable (now (image .entry)) (now (segments .entry)) override (cursorAt «base_va» count next) (now (buffer .entry))) (now (out .entry)) (now (buffer .entry)) r (now (out .exit)) (now (buffer .exit)) ⌝ }
 {
     let walk = EntryCursor {
         base_va,
         count,
         next,
     };
-    match tables::overrides(image, segments, walk, buffer) {
-        TableAnswer::Listed(listed) => {
-            *out = [listed.entries as u64, listed.stop];
-            ANSWERED
-        }
-        TableAnswer::Refused(refusal) => refusal::number(refusal),
-    }
+    tell_counts(tables::overrides(image, segments, walk, buffer), out)
 }
 
 // Three for each default override: its address, the method, the implementation.
@@ -56,21 +58,17 @@ pub extern "C" fn hodrupec_default_overrides(
     buffer: &mut [u64],
     out: &mut [u64; 2],
 ) -> u64
-    ensures { λ r. ⌜ Tells (mapped countNumbers (mapped counts (guarded (now (segments .entry)) (answered (tableIn (now (image .entry)) (now (segments .entry)) defaultOverride (cursorAt «base_va» count next) (length (now (buffer .entry)))))))) (now (out .entry)) r (now (out .exit)) ⌝ }
-    ensures { λ _. ⌜ now (buffer .exit) ≡ overwritten (now (buffer .entry)) (answerOf (mapped numbersOf (guarded (now (segments .entry)) (answered (tableIn (now (image .entry)) (now (segments .entry)) defaultOverride (cursorAt «base_va» count next) (length (now (buffer .entry)))))))) ⌝ }
+    ensures { λ r. ⌜ TellsTable (guardedTable (now (image .entry)) (now (segments .entry)) defaultOverride (cursorAt «base_va» count next) (now (buffer .entry))) (now (out .entry)) (now (buffer .entry)) r (now (out .exit)) (now (buffer .exit)) ⌝ }
 {
     let walk = EntryCursor {
         base_va,
         count,
         next,
     };
-    match tables::default_overrides(image, segments, walk, buffer) {
-        TableAnswer::Listed(listed) => {
-            *out = [listed.entries as u64, listed.stop];
-            ANSWERED
-        }
-        TableAnswer::Refused(refusal) => refusal::number(refusal),
-    }
+    tell_counts(
+        tables::default_overrides(image, segments, walk, buffer),
+        out,
+    )
 }
 
 // Two for each prespecialization: its address, the metadata.
@@ -84,19 +82,15 @@ pub extern "C" fn hodrupec_prespecializations(
     buffer: &mut [u64],
     out: &mut [u64; 2],
 ) -> u64
-    ensures { λ r. ⌜ Tells (mapped countNumbers (mapped counts (guarded (now (segments .entry)) (answered (tableIn (now (image .entry)) (now (segments .entry)) prespecialization (cursorAt «base_va» count next) (length (now (buffer .entry)))))))) (now (out .entry)) r (now (out .exit)) ⌝ }
-    ensures { λ _. ⌜ now (buffer .exit) ≡ overwritten (now (buffer .entry)) (answerOf (mapped numbersOf (guarded (now (segments .entry)) (answered (tableIn (now (image .entry)) (now (segments .entry)) prespecialization (cursorAt «base_va» count next) (length (now (buffer .entry)))))))) ⌝ }
+    ensures { λ r. ⌜ TellsTable (guardedTable (now (image .entry)) (now (segments .entry)) prespecialization (cursorAt «base_va» count next) (now (buffer .entry))) (now (out .entry)) (now (buffer .entry)) r (now (out .exit)) (now (buffer .exit)) ⌝ }
 {
     let walk = EntryCursor {
         base_va,
         count,
         next,
     };
-    match tables::prespecializations(image, segments, walk, buffer) {
-        TableAnswer::Listed(listed) => {
-            *out = [listed.entries as u64, listed.stop];
-            ANSWERED
-        }
-        TableAnswer::Refused(refusal) => refusal::number(refusal),
-    }
+    tell_counts(
+        tables::prespecializations(image, segments, walk, buffer),
+        out,
+    )
 }

@@ -62,8 +62,8 @@ methodNumber SwiftMethodKind.ModifyCoroutine = 4
 methodNumber SwiftMethodKind.ReadCoroutine = 5
 methodNumber (SwiftMethodKind.Other n) = 256 + n
 
-unfoldable pub contextFlags : ℕ → List ℕ
-contextFlags w =
+unfoldable pub contextFlagNumbers : ℕ → List ℕ
+contextFlagNumbers w =
     1 ∷
     kindNumber (Context.contextKind w) ∷
     flagNumber (Context.isType (Context.contextKind w)) ∷
@@ -74,8 +74,8 @@ contextFlags w =
     Context.kindSpecificFlags w ∷
     []
 
-unfoldable pub typeFlags : ℕ → List ℕ
-typeFlags w =
+unfoldable pub typeFlagNumbers : ℕ → List ℕ
+typeFlagNumbers w =
     1 ∷
     initializationNumber (Types.metadataInitialization w) ∷
     flagNumber (Types.hasImportInfo w) ∷
@@ -85,8 +85,8 @@ typeFlags w =
     flagNumber (Types.hasLayoutString w) ∷
     []
 
-unfoldable pub classFlags : ℕ → List ℕ
-classFlags w =
+unfoldable pub classFlagNumbers : ℕ → List ℕ
+classFlagNumbers w =
     1 ∷
     flagNumber (Types.classHasDefaultOverrideTable w) ∷
     flagNumber (Types.classIsActor w) ∷
@@ -98,8 +98,8 @@ classFlags w =
     flagNumber (Types.classHasVTable w) ∷
     []
 
-unfoldable pub conformanceFlags : ℕ → List ℕ
-conformanceFlags w =
+unfoldable pub conformanceFlagNumbers : ℕ → List ℕ
+conformanceFlagNumbers w =
     1 ∷
     referenceNumber (Conformance.typeReferenceKind w) ∷
     flagNumber (Conformance.isRetroactive w) ∷
@@ -118,16 +118,16 @@ fieldKindNumbers w =
     fieldKindNumber (Field.fieldKind w) ∷
     []
 
-unfoldable pub fieldFlags : ℕ → List ℕ
-fieldFlags w =
+unfoldable pub fieldFlagNumbers : ℕ → List ℕ
+fieldFlagNumbers w =
     1 ∷
     flagNumber (Field.isIndirectCase w) ∷
     flagNumber (Field.isVar w) ∷
     flagNumber (Field.isArtificial w) ∷
     []
 
-unfoldable pub methodFlags : ℕ → List ℕ
-methodFlags w =
+unfoldable pub methodFlagNumbers : ℕ → List ℕ
+methodFlagNumbers w =
     1 ∷
     methodNumber (Method.methodKind w) ∷
     flagNumber (Method.isInstance w) ∷

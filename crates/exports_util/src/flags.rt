@@ -1,7 +1,7 @@
 // The flag words, each accessor's answer as a number: what the comparison holds against the Rust's. A kind is its place in the enumeration, or 256 and
 // its number where no kind has it. The first number is always 1: every word has an answer.
 ghost use mathlib.Core.Path.{_≡_};
-ghost use Rattle.exports_util.specs.Flags.{flagNumber, kindNumber, initializationNumber, referenceNumber, fieldKindNumber, methodNumber, contextFlags, typeFlags, classFlags, conformanceFlags, fieldKindNumbers, fieldFlags, methodFlags};
+ghost use Rattle.exports_util.specs.Flags.{flagNumber, kindNumber, initializationNumber, referenceNumber, fieldKindNumber, methodNumber, contextFlagNumbers, typeFlagNumbers, classFlagNumbers, conformanceFlagNumbers, fieldKindNumbers, fieldFlagNumbers, methodFlagNumbers};
 use context::ConformanceFlags;
 use context::ContextDescriptorFlags;
 use context::ContextDescriptorKind;
@@ -103,7 +103,7 @@ fn method_number(kind: SwiftMethodKind) -> u64
 // 1, the kind, whether it is a type's, invertible protocols, unique, generic, the kind-specific half, and that half as a type's flags.
 #[no_mangle]
 pub extern "C" fn hodrupec_context_flags(word: u32, out: &mut [u64; 8]) -> u64
-    ensures { λ r. ⌜ (r ≡ 0) × (now (out .exit) ≡ contextFlags word) ⌝ }
+    ensures { λ r. ⌜ (r ≡ 0) × (now (out .exit) ≡ contextFlagNumbers word) ⌝ }
 {
     let flags = ContextDescriptorFlags(word);
     let kind = flags.kind();
@@ -124,7 +124,7 @@ pub extern "C" fn hodrupec_context_flags(word: u32, out: &mut [u64; 8]) -> u64
 // 1, the initialization, import info, bit 3 and its two meanings, layout string.
 #[no_mangle]
 pub extern "C" fn hodrupec_type_flags(word: u16, out: &mut [u64; 7]) -> u64
-    ensures { λ r. ⌜ (r ≡ 0) × (now (out .exit) ≡ typeFlags word) ⌝ }
+    ensures { λ r. ⌜ (r ≡ 0) × (now (out .exit) ≡ typeFlagNumbers word) ⌝ }
 {
     let flags = TypeContextDescriptorFlags(word);
     *out = [
@@ -143,7 +143,7 @@ pub extern "C" fn hodrupec_type_flags(word: u16, out: &mut [u64; 7]) -> u64
 // override table, vtable.
 #[no_mangle]
 pub extern "C" fn hodrupec_class_flags(word: u16, out: &mut [u64; 9]) -> u64
-    ensures { λ r. ⌜ (r ≡ 0) × (now (out .exit) ≡ classFlags word) ⌝ }
+    ensures { λ r. ⌜ (r ≡ 0) × (now (out .exit) ≡ classFlagNumbers word) ⌝ }
 {
     let flags = TypeContextDescriptorFlags(word);
     *out = [
@@ -164,7 +164,7 @@ pub extern "C" fn hodrupec_class_flags(word: u16, out: &mut [u64; 9]) -> u64
 // protocol, global actor isolation, conditional pack descriptors.
 #[no_mangle]
 pub extern "C" fn hodrupec_conformance_flags(word: u32, out: &mut [u64; 10]) -> u64
-    ensures { λ r. ⌜ (r ≡ 0) × (now (out .exit) ≡ conformanceFlags word) ⌝ }
+    ensures { λ r. ⌜ (r ≡ 0) × (now (out .exit) ≡ conformanceFlagNumbers word) ⌝ }
 {
     let flags = ConformanceFlags(word);
     *out = [
@@ -194,7 +194,7 @@ pub extern "C" fn hodrupec_field_kind(raw: u16, out: &mut [u64; 2]) -> u64
 // 1, indirect case, var, artificial.
 #[no_mangle]
 pub extern "C" fn hodrupec_field_flags(word: u32, out: &mut [u64; 4]) -> u64
-    ensures { λ r. ⌜ (r ≡ 0) × (now (out .exit) ≡ fieldFlags word) ⌝ }
+    ensures { λ r. ⌜ (r ≡ 0) × (now (out .exit) ≡ fieldFlagNumbers word) ⌝ }
 {
     let flags = FieldRecordFlags(word);
     *out = [
@@ -209,7 +209,7 @@ pub extern "C" fn hodrupec_field_flags(word: u32, out: &mut [u64; 4]) -> u64
 // 1, the kind, instance, dynamic, async, extended context, extra discriminator.
 #[no_mangle]
 pub extern "C" fn hodrupec_method_flags(word: u32, out: &mut [u64; 7]) -> u64
-    ensures { λ r. ⌜ (r ≡ 0) × (now (out .exit) ≡ methodFlags word) ⌝ }
+    ensures { λ r. ⌜ (r ≡ 0) × (now (out .exit) ≡ methodFlagNumbers word) ⌝ }
 {
     let flags = MethodDescriptorFlags(word);
     *out = [

@@ -14,8 +14,8 @@ use Rattle.field.specs.declared.iter.FieldDescriptor.{FieldDescriptor}
 use Rattle.field.specs.declared.iter.FieldStep.{FieldStep}
 
 -- what the 16 bytes of a header say, at an address
-abbrev pub descriptorOf : ℕ → List ℕ → FieldDescriptor
-descriptorOf a h =
+abbrev pub fieldDescriptorOf : ℕ → List ℕ → FieldDescriptor
+fieldDescriptorOf a h =
     record {
       address = a;
       «mangled_type_name_va» = relativeAddress a (signedIn 4 h 0);
@@ -26,16 +26,16 @@ descriptorOf a h =
     }
 
 -- the header at an offset of the section
-abbrev pub header : List ℕ → ℕ → List ℕ
-header fields at = take 16 (drop at fields)
+abbrev pub headerBytes : List ℕ → ℕ → List ℕ
+headerBytes fields at = take 16 (drop at fields)
 
 -- where the header and its records end
-abbrev pub endAt : List ℕ → ℕ → ℕ
-endAt fields at = at + (16 + unsignedIn 4 (header fields at) 12 * unsignedIn 2 (header fields at) 10)
+abbrev pub recordsEnd : List ℕ → ℕ → ℕ
+recordsEnd fields at = at + (16 + unsignedIn 4 (headerBytes fields at) 12 * unsignedIn 2 (headerBytes fields at) 10)
 
 -- no descriptor where the address of the superclass's offset, at 4, reaches 2^64
-abbrev pub headed : ℕ → List ℕ → Option FieldDescriptor
-headed a h = cond (leb (2 ^ 64) (a + 4)) none (some (descriptorOf a h))
+abbrev pub headerDescriptor : ℕ → List ℕ → Option FieldDescriptor
+headerDescriptor a h = cond (leb (2 ^ 64) (a + 4)) none (some (fieldDescriptorOf a h))
 
 -- a step from an offset on: a descriptor or none, and where the walk then stands
 pub record Step : Type 0 where
@@ -47,8 +47,8 @@ pub record Step : Type 0 where
 unfoldable pub fieldStep : List ℕ → ℕ → ℕ → Step
 fieldStep fields vmaddr at =
     cond (ltb (length fields) (at + 16)) (record { found = none; next = at })
-    (cond (ltb (length fields) (endAt fields at)) (record { found = none; next = at })
-    (record { found = headed ((vmaddr + at) % 2 ^ 64) (header fields at); next = endAt fields at }))
+    (cond (ltb (length fields) (recordsEnd fields at)) (record { found = none; next = at })
+    (record { found = headerDescriptor ((vmaddr + at) % 2 ^ 64) (headerBytes fields at); next = recordsEnd fields at }))
 
 -- descriptor `k` from an offset on: a list ends at the first step without a descriptor
 unfoldable pub descriptorFrom : List ℕ → ℕ → ℕ → ℕ → Option FieldDescriptor

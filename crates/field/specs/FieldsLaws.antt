@@ -17,7 +17,7 @@ use Rattle.context.specs.Field.{fieldKind}
 use Rattle.context.specs.declared.field.FieldDescriptorKind.{FieldDescriptorKind}
 use Rattle.runtime.specs.Reads.{andThen, run}
 use Rattle.field.specs.declared.iter.FieldDescriptor.{FieldDescriptor}
-use Rattle.field.specs.Fields.{descriptorOf, header, endAt, headed, Step, fieldStep, descriptorFrom, given, descriptorAt}
+use Rattle.field.specs.Fields.{fieldDescriptorOf, headerBytes, recordsEnd, headerDescriptor, Step, fieldStep, descriptorFrom, given, descriptorAt}
 
 -- ---- a header
 
@@ -32,13 +32,13 @@ module _ (a : ℕ) (h : List ℕ) where
         kind = kind;
         «field_record_size» = size;
         «num_fields» = count;
-      } ≡ descriptorOf a h
+      } ≡ fieldDescriptorOf a h
   descriptor-of name super size count kind en es ek ez ec = cc
 
-  pub not-headed : 2 ^ 64 ≤ a + 4 → none ≡ headed a h
+  pub not-headed : 2 ^ 64 ≤ a + 4 → none ≡ headerDescriptor a h
   not-headed w = simp (le-leb (2 ^ 64) (a + 4) w)
 
-  pub is-headed : a + 4 < 2 ^ 64 → some (descriptorOf a h) ≡ headed a h
+  pub is-headed : a + 4 < 2 ^ 64 → some (fieldDescriptorOf a h) ≡ headerDescriptor a h
   is-headed w = simp (lt-leb (2 ^ 64) (a + 4) w)
 
 -- ---- a step
@@ -49,29 +49,29 @@ module _ (fields : List ℕ) (vmaddr at : ℕ) where
   no-header l = simp (lt-ltb (length fields) (at + 16) l)
 
   module _ (fits : at + 16 ≤ length fields) where
-    overrun : length fields < endAt fields at → record { found = none; next = at } ≡ fieldStep fields vmaddr at
+    overrun : length fields < recordsEnd fields at → record { found = none; next = at } ≡ fieldStep fields vmaddr at
     unfolding fieldStep
-    overrun l = simp (le-ltb (length fields) (at + 16) fits, lt-ltb (length fields) (endAt fields at) l)
+    overrun l = simp (le-ltb (length fields) (at + 16) fits, lt-ltb (length fields) (recordsEnd fields at) l)
 
-    past : endAt fields at ≤ length fields
-        → record { found = headed ((vmaddr + at) % 2 ^ 64) (header fields at); next = endAt fields at } ≡ fieldStep fields vmaddr at
+    past : recordsEnd fields at ≤ length fields
+        → record { found = headerDescriptor ((vmaddr + at) % 2 ^ 64) (headerBytes fields at); next = recordsEnd fields at } ≡ fieldStep fields vmaddr at
     unfolding fieldStep
-    past l = simp (le-ltb (length fields) (at + 16) fits, le-ltb (length fields) (endAt fields at) l)
+    past l = simp (le-ltb (length fields) (at + 16) fits, le-ltb (length fields) (recordsEnd fields at) l)
 
     module _ (h : List ℕ) (part : h ≡ partOf fields (place at 16)) (count size : ℕ) (ec : count ≡ unsignedIn 4 h 12) (ez : size ≡ unsignedIn 2 h 10) where
-      is-header : h ≡ header fields at
+      is-header : h ≡ headerBytes fields at
       is-header = part ∙ part-in fields at 16 fits
 
-      is-end : at + (16 + count * size) ≡ endAt fields at
+      is-end : at + (16 + count * size) ≡ recordsEnd fields at
       is-end = rw (ec, ez, is-header)
 
       pub overruns : length fields < at + (16 + count * size) → record { found = none; next = at } ≡ fieldStep fields vmaddr at
       overruns l = overrun (rw is-end at l)
 
-      pub passes : (x : Option FieldDescriptor) (a : ℕ) → a ≡ (vmaddr + at) % 2 ^ 64 → x ≡ headed a h → at + (16 + count * size) ≤ length fields
+      pub passes : (x : Option FieldDescriptor) (a : ℕ) → a ≡ (vmaddr + at) % 2 ^ 64 → x ≡ headerDescriptor a h → at + (16 + count * size) ≤ length fields
           → record { found = x; next = at + (16 + count * size) } ≡ fieldStep fields vmaddr at
       passes x a ea ex l =
-          let f : x ≡ headed ((vmaddr + at) % 2 ^ 64) (header fields at) = ex ∙ rw (ea, is-header) in
+          let f : x ≡ headerDescriptor ((vmaddr + at) % 2 ^ 64) (headerBytes fields at) = ex ∙ rw (ea, is-header) in
           rw (f, is-end) (past (rw is-end at l))
 
 -- ---- stepping
@@ -88,7 +88,7 @@ module _ (fields : List ℕ) (vmaddr : ℕ) where
 
   -- a descriptor lies in the section, and the walk moves past its header
   moves : (at : ℕ) (d : FieldDescriptor) → foundAt at ≡ some d → Within at
-  moves at d e = go (decLt (length fields) (at + 16)) (decLt (length fields) (endAt fields at))
+  moves at d e = go (decLt (length fields) (at + 16)) (decLt (length fields) (recordsEnd fields at))
     where
       stays : record { found = none; next = at } ≡ fieldStep fields vmaddr at → Within at
       stays f =
@@ -96,11 +96,11 @@ module _ (fields : List ℕ) (vmaddr : ℕ) where
           let z : _≡_ {A = ℕ} 0 1 = cc in
           absurd (omega arith)
 
-      go : Dec (length fields < at + 16) → Dec (length fields < endAt fields at) → Within at
+      go : Dec (length fields < at + 16) → Dec (length fields < recordsEnd fields at) → Within at
       go (yes l) _ = stays (no-header fields vmaddr at l)
       go (no l) (yes m) = stays (overrun fields vmaddr at (omega arith) m)
       go (no l) (no m) =
-          let f : endAt fields at ≡ nextOf at = ap (λ (s : Step). s .next) (past fields vmaddr at (omega arith) (omega arith)) in
+          let f : recordsEnd fields at ≡ nextOf at = ap (λ (s : Step). s .next) (past fields vmaddr at (omega arith) (omega arith)) in
           (omega arith, omega arith)
 
   -- so a section has at most one descriptor for each 16 bytes

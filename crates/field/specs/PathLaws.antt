@@ -15,7 +15,7 @@ use Rattle.vtable.specs.Entries.{entrySize, Entry, entryAt, upTo, entry}
 use Rattle.vtable.specs.PathLaws.{ranges, entry-path, sampleImage, sampleSegments, highSegments}
 use Rattle.field.specs.declared.iter.FieldDescriptor.{FieldDescriptor}
 use Rattle.field.specs.Fields.{Step, fieldStep, descriptorFrom, given, descriptorAt}
-use Rattle.field.specs.Records.{recordLayout, fieldRecord, recordsBase, recordAt}
+use Rattle.field.specs.Records.{recordLayout, fieldRecord, recordsBase, descriptorRecord}
 use Rattle.field.specs.RecordsLaws.{record-of}
 
 module _ (image segments fields : List ℕ) (vmaddr : ℕ) where
@@ -30,9 +30,9 @@ module _ (image segments fields : List ℕ) (vmaddr : ℕ) where
 
   -- a record that is there: the 12 bytes of each record 0 to `k`
   pub record-path : (j k : ℕ) (d : FieldDescriptor) (e : Entry) → run image segments (descriptorAt fields vmaddr j) ≡ some d
-      → run image segments (recordAt fields vmaddr j k) ≡ some e
-      → path image segments (recordAt fields vmaddr j k) ≡ ranges segments (recordLayout (d .«field_record_size»)) (recordsBase (d .address)) k
-  unfolding recordAt
+      → run image segments (descriptorRecord fields vmaddr j k) ≡ some e
+      → path image segments (descriptorRecord fields vmaddr j k) ≡ ranges segments (recordLayout (d .«field_record_size»)) (recordsBase (d .address)) k
+  unfolding descriptorRecord
   record-path j k d e there is =
       path-bind image segments (λ x. fieldRecord (recordsBase (x .address)) (x .«field_record_size») (x .«num_fields») k) (descriptorAt fields vmaddr j)
       ∙ rw (descriptor-path j, there)
@@ -94,6 +94,8 @@ pub record Worked : Type 0 where
   pub base-last : recordsBase 18446744073709551599 ≡ 18446744073709551615
   pub base-zero : recordsBase 18446744073709551600 ≡ 0
   pub base-past : recordsBase 18446744073709551608 ≡ 0
+  -- a record that lies in the section and not in the image is none: records are read from the image
+  pub from-the-image : run [] [] (descriptorRecord (head 12 1 ++ sampleImage) 4096 0 0) ≡ none
   -- record 1 of size 0 is record 0; of size 11, 12 and 13 it is at 11, 12 and 13
   pub record-0 : second 0 ≡ answered 4096 (16 ∷ (4096 ∷ (67310089 ∷ [])))
   pub record-11 : second 11 ≡ answered 4107 (4 ∷ (6159 ∷ (69651 ∷ [])))
@@ -105,7 +107,7 @@ pub record Worked : Type 0 where
   pub no-record : high 18446744073709551608 ≡ none
 
 pub worked : Worked
-unfolding run bytesPlace within segmentsOf fileOffset decides inFile entry upTo entryAt bind unsignedIn signedIn littleAt signedAt bytesAt littleEndian twosComplement relativeAddress relativePointer fieldKind fieldStep descriptorFrom descriptorAt
+unfolding run bytesPlace within segmentsOf fileOffset decides inFile entry upTo entryAt bind unsignedIn signedIn littleAt signedAt bytesAt littleEndian twosComplement relativeAddress relativePointer fieldKind fieldStep descriptorFrom descriptorAt descriptorRecord
 worked =
     record {
       twelve = λ size. refl;
@@ -124,6 +126,7 @@ worked =
       base-last = refl;
       base-zero = refl;
       base-past = refl;
+      from-the-image = refl;
       record-0 = refl;
       record-11 = refl;
       record-12 = refl;

@@ -34,8 +34,8 @@ recordsOf d =
     record { «base_va» = recordsBase (d .address); count = d .«num_fields»; «entry_size» = d .«field_record_size»; cursor = 0 }
 
 -- record `k` of descriptor `j` of the section
-unfoldable pub recordAt : List ℕ → ℕ → ℕ → ℕ → Reads Entry
-recordAt fields vmaddr j k =
+unfoldable pub descriptorRecord : List ℕ → ℕ → ℕ → ℕ → Reads Entry
+descriptorRecord fields vmaddr j k =
     bind (descriptorAt fields vmaddr j) (λ d. fieldRecord (recordsBase (d .address)) (d .«field_record_size») (d .«num_fields») k)
 
 -- a walk over records is a walk over entries, with the record size

@@ -18,7 +18,7 @@ use Rattle.vtable.specs.ListLaws.{walkAt, Readable, stepped-entry, stepAfter as
 use Rattle.field.specs.declared.iter.FieldDescriptor.{FieldDescriptor}
 use Rattle.field.specs.declared.record.FieldRecordIter.{FieldRecordIter}
 use Rattle.field.specs.Fields.{descriptorAt}
-use Rattle.field.specs.Records.{recordLayout, fieldRecord, recordsBase, recordsOf, recordAt, entriesOf, recordsFrom, RecordStep, sized, recordStep}
+use Rattle.field.specs.Records.{recordLayout, fieldRecord, recordsBase, recordsOf, descriptorRecord, entriesOf, recordsFrom, RecordStep, sized, recordStep}
 
 pub base-wraps : (a : ℕ) → 2 ^ 64 ≤ a + 16 → 0 ≡ recordsBase a
 base-wraps a w = simp (le-leb (2 ^ 64) (a + 16) w)
@@ -117,9 +117,9 @@ module _ (image segments : List ℕ) where
 
     module _ (fields : List ℕ) (vmaddr j : ℕ) (there : run image segments (descriptorAt fields vmaddr j) ≡ some d) where
       -- as an item: record `k` of descriptor `j`
-      pub record-of : (k : ℕ) → run image segments (recordAt fields vmaddr j k) ≡ run image segments (fieldRecord base size count k)
-      unfolding recordAt
+      pub record-of : (k : ℕ) → run image segments (descriptorRecord fields vmaddr j k) ≡ run image segments (fieldRecord base size count k)
+      unfolding descriptorRecord
       record-of k = run-bind image segments (λ e. fieldRecord (recordsBase (e .address)) (e .«field_record_size») (e .«num_fields») k) (descriptorAt fields vmaddr j) ∙ rw there
 
-      pub listed-records : (n k : ℕ) → count ≤ n → getElem? (listed n (recordsOf d)) k ≡ run image segments (recordAt fields vmaddr j k)
+      pub listed-records : (n k : ℕ) → count ≤ n → getElem? (listed n (recordsOf d)) k ≡ run image segments (descriptorRecord fields vmaddr j k)
       listed-records n k c = listed-all n k c ∙ sym (record-of k)

@@ -3,7 +3,7 @@ ghost use mathlib.Core.Path.{_≡_};
 ghost use Prim.Native.Nat.{_+_, _^_, _<_};
 ghost use Rattle.util.specs.Cstr.{textOf};
 ghost use Rattle.runtime.specs.Reads.{textPlace};
-ghost use Rattle.field.specs.Fields.{descriptorOf, fieldStep, fieldStepOf};
+ghost use Rattle.field.specs.Fields.{fieldDescriptorOf, fieldStep, fieldStepOf};
 ghost use Rattle.field.specs.Records.{recordsOf};
 use crate::record::FieldRecordIter;
 use context::FieldDescriptorKind;
@@ -40,7 +40,7 @@ pub enum FieldStep {
 
 fn field_descriptor(header: &[u8], address: u64) -> FieldDescriptor
     requires { ⌜ address + 4 < 2 ^ 64 ⌝ }
-    ensures { λ r. ⌜ r ≡ descriptorOf address (now (header .entry)) ⌝ }
+    ensures { λ r. ⌜ r ≡ fieldDescriptorOf address (now (header .entry)) ⌝ }
 {
     FieldDescriptor {
         address,

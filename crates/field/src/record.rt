@@ -69,33 +69,30 @@ impl FieldRecordIter {
     pub fn next_near(self, image: &[u8], segments: &[u64], mapping: Mapping) -> FieldRecordStep
         ensures { λ r. ⌜ recordStepOf r ≡ recordStep (now (image .entry)) (withMapping mapping (now (segments .entry))) self ⌝ }
     {
-        let base_va = self.base_va;
-        let count = self.count;
-        let entry_size = self.entry_size;
-        let k = self.cursor;
-        if count <= k {
+        if self.count <= self.cursor {
             return FieldRecordStep::End;
         }
         let next = FieldRecordIter {
-            base_va,
-            count,
-            entry_size,
-            cursor: k + 1,
+            base_va: self.base_va,
+            count: self.count,
+            entry_size: self.entry_size,
+            cursor: self.cursor + 1,
         };
         let bytes = vtable::entry_bytes(
             image,
             segments,
             mapping,
-            base_va,
+            self.base_va,
             RECORD_SIZE,
-            entry_size,
-            k,
+            self.entry_size,
+            self.cursor,
         );
         if bytes.len() == 0 {
             return FieldRecordStep::Unreadable { next };
         }
+        let address = vtable::entry_address(self.base_va, self.entry_size, self.cursor);
         FieldRecordStep::Record {
-            record: field_record(bytes, vtable::entry_address(base_va, entry_size, k)),
+            record: field_record(bytes, address),
             next,
         }
     }

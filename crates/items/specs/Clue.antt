@@ -18,6 +18,7 @@ use Rattle.typedescriptor.specs.Row.{rowName, descriptor}
 use Rattle.typedescriptor.specs.Slots.{slotRow}
 use Rattle.items.specs.Keys.{Sections, Key, Answer}
 use Rattle.items.specs.Items.{mapReads, item}
+use Rattle.items.specs.Texts.{NameKey, descriptorName, slotNameAddress, nameOf, ClearOf}
 
 -- the u32 17, 0, 20, 0, 0, 0, 0
 abbrev head : List ℕ
@@ -63,9 +64,11 @@ pub record Worked : Type 0 where
   pub clear-below : (c : ℕ) → c < 28 → All (Clear c) (path image segments (item sections (Key.row 0)))
   pub clear-above : (c : ℕ) → 33 ≤ c → All (Clear c) (path image segments (item sections (Key.row 0)))
   pub not-clear : (c : ℕ) → 28 ≤ c → c < 33 → All (Clear c) (path image segments (item sections (Key.row 0))) → ⊥
+  -- by the name's address as well
+  pub name-not-clear : (c : ℕ) → 28 ≤ c → c < 33 → ClearOf image segments sections c (NameKey.descriptor 0) → ⊥
 
 pub worked : Worked
-unfolding run path bind bytesPlace within textOffset extent segmentsOf fileOffset decides inFile table following goesOn textAt textLength untilNul unsignedIn signedIn littleAt signedAt bytesAt littleEndian twosComplement relativeAddress relativePointer descriptor rowName slotRow mapReads item
+unfolding run path bind bytesPlace within textOffset extent segmentsOf fileOffset decides inFile table following goesOn textAt textLength untilNul unsignedIn signedIn littleAt signedAt bytesAt littleEndian twosComplement relativeAddress relativePointer descriptor rowName slotRow descriptorName slotNameAddress nameOf mapReads item
 worked =
     record {
       whole = refl;
@@ -79,4 +82,5 @@ worked =
       clear-below = λ c h. ((λ t. absurd (let z : _≡_ {A = ℕ} 0 1 = cc in omega arith)), ((λ t. inl (omega arith)), tt));
       clear-above = λ c h. ((λ t. absurd (let z : _≡_ {A = ℕ} 0 1 = cc in omega arith)), ((λ t. inr (omega arith)), tt));
       not-clear = λ c h g w. ⊎-elim (λ l. omega arith) (λ l. omega arith) (w .1 .0 refl);
+      name-not-clear = λ c h g w. ⊎-elim (λ l. omega arith) (λ l. omega arith) (w 0x101c refl 28 refl refl);
     }

@@ -3,14 +3,15 @@ use Prim.Native.Nat.{ℕ, zero, suc, _≤_, min}
 use native.Mathlib.Decide.{decLe}
 use native.Mathlib.Omega.{arith}
 use mathlib.Core.Path.{_≡_, refl, sym, ap, _∙_}
+use mathlib.Core.Logic.{inr}
 use mathlib.Core.List.{List, [], _∷_}
-use mathlib.Core.Bool.{Bool, true, false, cond}
+use mathlib.Core.Bool.{Bool, true, false, cond, and-eq-true-iff}
 use mathlib.Core.Option.{Option, some, none}
 use lib.ListN.{length, take, length-take}
 use lib.Seq.{take-all, take-take}
-use Rattle.runtime.specs.Reads.{run, bytesRange, path, All, every, Clear, endsBy}
+use Rattle.runtime.specs.Reads.{Reads, run, Range, bytesRange, path, All, every, Clear, endsBy}
 use Rattle.runtime.specs.ReadsLaws.{cut, local, rangeBytes}
-use Rattle.runtime.specs.PathLaws.{bytes-clear}
+use Rattle.runtime.specs.PathLaws.{bytes-clear, by-ends}
 use Rattle.typedescriptor.specs.Row.{TypeRow, descriptor}
 use Rattle.typedescriptor.specs.Slots.{slots, Found, found, rowsFrom, rows}
 use Rattle.items.specs.Keys.{Sections, Key, Answer, slotOf}
@@ -25,6 +26,18 @@ Claim image segments s c k =
     run (take c image) segments (item s k) ≡ cond (every (endsBy c) (path image segments (item s k))) (run image segments (item s k)) none
 
 -- ---- the theorem
+
+-- a text before the cut is clear of it
+ends-clear : (c : ℕ) (l : List Range) → every (endsBy c) l ≡ true → All (Clear c) l
+ends-clear c [] e = tt
+ends-clear c (r ∷ l) e =
+    let w = and-eq-true-iff (endsBy c r) (every (endsBy c) l) .0 e in
+    ((λ t. inr (by-ends c r (w .0))), ends-clear c l (w .1))
+
+-- so a program that reads nothing behind the cut gives the whole image's answer: no premise is needed
+pub kept-run : {A : Type 0} (image segments : List ℕ) (c : ℕ) (p : Reads A) → every (endsBy c) (path image segments p) ≡ true
+    → run (take c image) segments p ≡ run image segments p
+kept-run image segments c p t = cut image segments c p (ends-clear c (path image segments p) t) ∙ rw t
 
 module _ (image segments : List ℕ) (s : Sections) (c : ℕ) where
   -- for every item, under the premise for the texts on its own path
@@ -58,10 +71,9 @@ module _ (image segments : List ℕ) (s : Sections) (c : ℕ) where
       go true t f = (f, t)
       go false t f = let z : _≡_ {A = ℕ} 0 1 = cc in absurd (omega arith)
 
-  -- and what the whole one tells of bytes before the cut is not lost
-  pub kept : (k : Key) → All (Clear c) (path image segments (item s k)) → every (endsBy c) (path image segments (item s k)) ≡ true
-      → run (take c image) segments (item s k) ≡ run image segments (item s k)
-  kept k clear t = cut-item k clear ∙ rw t
+  -- and what the whole one tells of bytes before the cut is not lost: no premise is needed
+  pub kept : (k : Key) → every (endsBy c) (path image segments (item s k)) ≡ true → run (take c image) segments (item s k) ≡ run image segments (item s k)
+  kept k t = kept-run image segments c (item s k) t
 
   -- a cut at the image's end, or past it, changes nothing: no premise is needed
   pub cut-whole : (k : Key) → length image ≤ c → run (take c image) segments (item s k) ≡ run image segments (item s k)
@@ -92,13 +104,17 @@ abbrev pub keep : {A : Type 0} → (A → Bool) → List A → List A
 keep t [] = []
 keep t (a ∷ l) = cond (t a) (a ∷ keep t l) (keep t l)
 
-module _ (image segments : List ℕ) (s : Sections) (c : ℕ) (clear : (i : ℕ) → ClearOf image segments s c (NameKey.descriptor i)) where
-  -- a row whose path lies before the cut
-  abbrev pub rowEndsBy : Found → Bool
-  rowEndsBy f = every (endsBy c) (path image segments (rowOfSlot s (f .slot)))
+-- a row whose path lies before the cut
+abbrev pub rowEndsBy : List ℕ → List ℕ → Sections → ℕ → Found → Bool
+rowEndsBy image segments s c f = every (endsBy c) (path image segments (rowOfSlot s (f .slot)))
 
+-- the rows of the whole image whose paths lie before the cut
+unfoldable pub keptRows : List ℕ → List ℕ → Sections → ℕ → List Found
+keptRows image segments s c = keep (rowEndsBy image segments s c) (rows image segments (s .types) (s .typesStart))
+
+module _ (image segments : List ℕ) (s : Sections) (c : ℕ) (clear : (i : ℕ) → ClearOf image segments s c (NameKey.descriptor i)) where
   rows-from : (n i : ℕ)
-      → rowsFrom (take c image) segments (s .types) (s .typesStart) n i ≡ keep rowEndsBy (rowsFrom image segments (s .types) (s .typesStart) n i)
+      → rowsFrom (take c image) segments (s .types) (s .typesStart) n i ≡ keep (rowEndsBy image segments s c) (rowsFrom image segments (s .types) (s .typesStart) n i)
   unfolding rowsFrom
   rows-from zero i = refl
   rows-from (suc n) i = go (rows-from n (suc i)) (run image segments (rowOfSlot s i)) refl (every (endsBy c) (path image segments (rowOfSlot s i))) refl
@@ -107,10 +123,10 @@ module _ (image segments : List ℕ) (s : Sections) (c : ℕ) (clear : (i : ℕ)
           ≡ cond (every (endsBy c) (path image segments (rowOfSlot s i))) (run image segments (rowOfSlot s i)) none
       in-cut = cut image segments c (rowOfSlot s i) (row-clear image segments c s i (clear i))
 
-      go : rowsFrom (take c image) segments (s .types) (s .typesStart) n (suc i) ≡ keep rowEndsBy (rowsFrom image segments (s .types) (s .typesStart) n (suc i))
+      go : rowsFrom (take c image) segments (s .types) (s .typesStart) n (suc i) ≡ keep (rowEndsBy image segments s c) (rowsFrom image segments (s .types) (s .typesStart) n (suc i))
           → (x : Option TypeRow) → run image segments (rowOfSlot s i) ≡ x
           → (b : Bool) → every (endsBy c) (path image segments (rowOfSlot s i)) ≡ b
-          → rowsFrom (take c image) segments (s .types) (s .typesStart) (suc n) i ≡ keep rowEndsBy (rowsFrom image segments (s .types) (s .typesStart) (suc n) i)
+          → rowsFrom (take c image) segments (s .types) (s .typesStart) (suc n) i ≡ keep (rowEndsBy image segments s c) (rowsFrom image segments (s .types) (s .typesStart) (suc n) i)
       go further none e true t = let f : run (take c image) segments (rowOfSlot s i) ≡ none = in-cut ∙ rw (t, e) in rw (rowsFrom, f, e) further
       go further none e false t = let f : run (take c image) segments (rowOfSlot s i) ≡ none = in-cut ∙ rw t in rw (rowsFrom, f, e) further
       go further (some r) e true t =
@@ -119,6 +135,6 @@ module _ (image segments : List ℕ) (s : Sections) (c : ℕ) (clear : (i : ℕ)
       go further (some r) e false t = let f : run (take c image) segments (rowOfSlot s i) ≡ none = in-cut ∙ rw t in rw (rowsFrom, f, e, t) further
 
   -- the cut image's rows are, in order, those of the whole one whose paths lie before the cut: the same slots, addresses, flags and names
-  pub cut-rows : rows (take c image) segments (s .types) (s .typesStart) ≡ keep rowEndsBy (rows image segments (s .types) (s .typesStart))
-  unfolding rows
+  pub cut-rows : rows (take c image) segments (s .types) (s .typesStart) ≡ keptRows image segments s c
+  unfolding rows keptRows
   cut-rows = rows-from (slots (s .types)) 0

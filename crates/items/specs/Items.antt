@@ -13,10 +13,10 @@ use Rattle.typedescriptor.specs.Slots.{slotRow}
 use Rattle.typebody.specs.Body.{Body, slotBody}
 use Rattle.typebody.specs.Singleton.{Initialization, needing}
 use Rattle.typebody.specs.Items.{slotBlock, slotInit, slotPointer}
-use Rattle.typebody.specs.Offsets.{slotOffsets}
+use Rattle.fieldoffsets.specs.Offsets.{slotOffsets}
 use Rattle.vtable.specs.Entries.{Layout, method, override, defaultOverride, prespecialization, Entry, entry}
 use Rattle.field.specs.Fields.{descriptorAt}
-use Rattle.field.specs.Records.{recordAt}
+use Rattle.field.specs.Records.{descriptorRecord}
 use Rattle.parent.specs.Context.{Header}
 use Rattle.parent.specs.Chain.{contextsMost, headerAt}
 use Rattle.items.specs.Keys.{Sections, EntryKind, Key, Answer}
@@ -104,4 +104,4 @@ item s (Key.pointer i) = mapReads Answer.pointer (pointerOfSlot s i)
 item s (Key.offsets i m) = mapReads Answer.offsets (offsetsOfSlot s i m)
 item s (Key.context i k) = mapReads Answer.context (contextOfSlot s i k)
 item s (Key.fieldDescriptor j) = mapReads Answer.fieldDescriptor (descriptorAt (s .fields) (s .fieldsStart) j)
-item s (Key.fieldRecord j k) = mapReads Answer.fieldRecord (recordAt (s .fields) (s .fieldsStart) j k)
+item s (Key.fieldRecord j k) = mapReads Answer.fieldRecord (descriptorRecord (s .fields) (s .fieldsStart) j k)

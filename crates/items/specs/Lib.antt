@@ -3,6 +3,7 @@ pub mod CutLaws
 pub mod Items
 pub mod Keys
 pub mod ListedLaws
+pub mod Oak
 pub mod PathsLaws
 pub mod PremiseLaws
 pub mod ProgramLaws

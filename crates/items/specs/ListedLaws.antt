@@ -14,7 +14,7 @@ use borrow.Author.Tests.{lt-ltb, le-ltb}
 use Rattle.runtime.specs.Reads.{Reads, done, nothing, andThen, run, bind}
 use Rattle.runtime.specs.ReadsLaws.{run-bind}
 use Rattle.runtime.specs.PathLaws.{bytes-read}
-use Rattle.classtrailers.specs.Blocks.{Trailing, Row, table, rowAt, readHeader, recordAt, reached, blockIn, rowNumber, block, withBlock, blocksOf, blocks}
+use Rattle.classtrailers.specs.Blocks.{Trailing, Row, blockTable, rowAt, readHeader, recordAt, reached, blockIn, rowNumber, block, withBlock, blocksOf, blocks}
 use Rattle.classtrailers.specs.BlocksLaws.{stepped as steppedBlocks, stepped-blocks}
 use Rattle.classtrailers.specs.declared.block.Block.{Block}
 use Rattle.classtrailers.specs.declared.block.BlockKind.{BlockKind}
@@ -27,15 +27,15 @@ use Rattle.typebody.specs.Singleton.{needing, singletonInit, singletonPointer}
 use Rattle.typebody.specs.Items.{slotBlock, slotPointer, pointerOfBlock}
 use Rattle.typedescriptor.specs.PathLaws as Slot
 use Rattle.typebody.specs.PathLaws as Hung
-use Rattle.typebody.specs.Offsets.{fieldOffsets, Offsets, offsetsPlace, staticPlace, metadataAt, startOf}
-use Rattle.typebody.specs.OffsetsLaws as Vector
-use Rattle.typebody.specs.OffsetsLaws.{offsetList}
+use Rattle.fieldoffsets.specs.Offsets.{fieldOffsets, Offsets, offsetsPlace, staticPlace, metadataAt, blocksStart}
+use Rattle.fieldoffsets.specs.OffsetsLaws as Vector
+use Rattle.fieldoffsets.specs.OffsetsLaws.{offsetList}
 use Rattle.vtable.specs.Entries.{Layout, method, override, defaultOverride, prespecialization, Entry, entry, start}
 use Rattle.vtable.specs.ListLaws.{listed as listedEntries, listed-all}
 use Rattle.field.specs.declared.iter.FieldDescriptor.{FieldDescriptor}
 use Rattle.field.specs.Fields.{descriptorAt}
 use Rattle.field.specs.FieldsLaws.{listed as listedDescriptors, listed-all as descriptors-all}
-use Rattle.field.specs.Records.{recordsOf, recordAt as fieldRecordAt}
+use Rattle.field.specs.Records.{recordsOf, descriptorRecord}
 use Rattle.field.specs.RecordsLaws.{listed as steppedRecords, listed-records}
 use Rattle.parent.specs.Context.{Header, Context, withName}
 use Rattle.parent.specs.Chain.{contextsMost, headerAt, contextAt, chain}
@@ -178,7 +178,7 @@ blockKeys i [] = []
 blockKeys i (k ∷ ks) = Key.block i k ∷ blockKeys i ks
 
 abbrev pub kinds : List BlockKind
-kinds = map (λ (r : Row). r .kind) table
+kinds = map (λ (r : Row). r .kind) blockTable
 
 -- each kind is one of them
 pub kind-in : (k : BlockKind) → getElem? kinds (rowNumber k) ≡ some k
@@ -256,7 +256,7 @@ module _ (image segments : List ℕ) (s : Sections) (i : ℕ) (r : TypeRow) (is-
     unfolding staticPlace metadataAt slotPointer
     static-by =
         let its : run image segments (body (r .address) (r .flags)) ≡ some b = sym (Hung.slot-body image segments (s .types) (s .typesStart) i r the-row) ∙ the-body in
-        let metadata : run image segments (metadataAt (startOf (r .address) (r .flags) b)) ≡ run image segments (pointerOfSlot s i)
+        let metadata : run image segments (metadataAt (blocksStart (r .address) (r .flags) b)) ≡ run image segments (pointerOfSlot s i)
         = run-bind image segments pointerOfBlock (block (trailing (r .flags) b) (trailingStart (r .address) b) BlockKind.SingletonMetadataPointer)
         ∙ rw (sym (Hung.slot-block image segments (s .types) (s .typesStart) i r the-row b the-body BlockKind.SingletonMetadataPointer))
         (sym (run-bind image segments pointerOfBlock (blockOfSlot s i BlockKind.SingletonMetadataPointer))) in
@@ -457,7 +457,7 @@ module _ (image segments : List ℕ) (s : Sections) where
   module _ (j : ℕ) where
     -- no records without their descriptor
     pub no-record : (k : ℕ) → run image segments (item s (Key.fieldDescriptor j)) ≡ none → run image segments (item s (Key.fieldRecord j k)) ≡ none
-    unfolding item fieldRecordAt
+    unfolding item descriptorRecord
     no-record k e =
         map-none image segments _
         (bind-none image segments (descriptorAt (s .fields) (s .fieldsStart) j)
@@ -472,4 +472,4 @@ module _ (image segments : List ℕ) (s : Sections) where
         ap (Option·map Answer.fieldRecord)
         (listed-records image segments d (s .fields) (s .fieldsStart) j
         (un-map image segments Answer.fieldDescriptor (descriptorAt (s .fields) (s .fieldsStart) j) d (λ a f. cc) is-descriptor) n k h)
-        ∙ sym (run-map image segments Answer.fieldRecord (fieldRecordAt (s .fields) (s .fieldsStart) j k))
+        ∙ sym (run-map image segments Answer.fieldRecord (descriptorRecord (s .fields) (s .fieldsStart) j k))

@@ -23,13 +23,13 @@ use Rattle.typebody.specs.Body.{Body, ofStruct, bodySize, trailing, trailingSta
 use Rattle.typebody.specs.Singleton.{Initialization, needing, targets, singletonInit, singletonPointer}
 use Rattle.typedescriptor.specs.PathLaws as Slot
 use Rattle.typebody.specs.PathLaws as Hung
-use Rattle.typebody.specs.Offsets.{u32s, fieldOffsets}
-use Rattle.typebody.specs.OffsetsLaws as Vector
+use Rattle.fieldoffsets.specs.Offsets.{u32s, fieldOffsets}
+use Rattle.fieldoffsets.specs.OffsetsLaws as Vector
 use Rattle.vtable.specs.Entries.{Entry, entry}
 use Rattle.vtable.specs.PathLaws.{offsetIn, ranges, entry-path as own-entries}
 use Rattle.field.specs.declared.iter.FieldDescriptor.{FieldDescriptor}
 use Rattle.field.specs.Fields.{descriptorAt}
-use Rattle.field.specs.Records.{recordLayout, recordsBase, recordAt}
+use Rattle.field.specs.Records.{recordLayout, recordsBase, descriptorRecord}
 use Rattle.field.specs.PathLaws.{descriptor-path as no-bytes, record-path as own-records}
 use Rattle.parent.specs.Context.{Header}
 use Rattle.parent.specs.Chain.{contextsMost, headerAt, chain}
@@ -238,7 +238,7 @@ module _ (image segments : List ℕ) where
         → path image segments (item s (Key.fieldRecord j k)) ≡ ranges segments (recordLayout (d .«field_record_size»)) (recordsBase (d .address)) k
     unfolding item
     record-path k d e is-descriptor is-record =
-        path-map image segments Answer.fieldRecord (recordAt (s .fields) (s .fieldsStart) j k)
+        path-map image segments Answer.fieldRecord (descriptorRecord (s .fields) (s .fieldsStart) j k)
         ∙ own-records image segments (s .fields) (s .fieldsStart) j k d e
         (un-map image segments Answer.fieldDescriptor (descriptorAt (s .fields) (s .fieldsStart) j) d (λ a f. cc) is-descriptor)
-        (un-map image segments Answer.fieldRecord (recordAt (s .fields) (s .fieldsStart) j k) e (λ a f. cc) is-record)
+        (un-map image segments Answer.fieldRecord (descriptorRecord (s .fields) (s .fieldsStart) j k) e (λ a f. cc) is-record)

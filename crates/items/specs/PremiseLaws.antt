@@ -17,7 +17,7 @@ use Rattle.typedescriptor.specs.Row.{nameAddress, typeRow, rowName, descriptor}
 use Rattle.typedescriptor.specs.Slots.{slots, slotAddress, slotRow}
 use Rattle.items.specs.Keys.{Sections}
 use Rattle.items.specs.Items.{rowOfSlot}
-use Rattle.items.specs.Texts.{NameKey, descriptorName, slotName, nameOf, ClearAt, ClearOf}
+use Rattle.items.specs.Texts.{NameKey, descriptorName, slotNameAddress, nameOf, ClearAt, ClearOf}
 
 module _ (image segments : List ℕ) (c : ℕ) where
   pub text-on-path : {A : Type 0} (a : ℕ) (f : Place → List ℕ → A) → ClearAt image segments c a → All (Clear c) (path image segments (text a (λ p t. done (f p t))))
@@ -58,7 +58,7 @@ module _ (image segments : List ℕ) (c : ℕ) where
 
   -- a row's path is clear where the name of its slot's descriptor is
   pub row-clear : (s : Sections) (i : ℕ) → ClearOf image segments s c (NameKey.descriptor i) → All (Clear c) (path image segments (rowOfSlot s i))
-  unfolding path slotRow slotName nameOf
+  unfolding path slotRow slotNameAddress nameOf
   row-clear s i = go (ltb i (slots (s .types))) (eqb (unsignedIn 4 (s .types) (4 * i)) 0)
     where
       go : (b d : Bool) → ClearBy (cond b (cond d nothing (descriptorName (slotAddress (s .types) (s .typesStart) i))) nothing)
@@ -83,7 +83,7 @@ module _ (image segments : List ℕ) (c : ℕ) where
       go (some o) w v e = named (take 20 (drop o image)) (leb (2 ^ 64) (a + 8)) (w .1) v e
 
   pub clear-row : (s : Sections) (i : ℕ) → All (Clear c) (path image segments (rowOfSlot s i)) → ClearOf image segments s c (NameKey.descriptor i)
-  unfolding path run slotRow slotName nameOf
+  unfolding path run slotRow slotNameAddress nameOf
   clear-row s i = go (ltb i (slots (s .types))) (eqb (unsignedIn 4 (s .types) (4 * i)) 0)
     where
       go : (b d : Bool) → All (Clear c) (path image segments (cond b (cond d nothing (descriptor (slotAddress (s .types) (s .typesStart) i))) nothing))

@@ -18,11 +18,11 @@ use Rattle.classtrailers.specs.declared.block.BlockKind.{BlockKind}
 use Rattle.typebody.specs.Body.{Body, bodyBytes, bodyOfKind, body, slotBody, trailing, trailingStart}
 use Rattle.typebody.specs.Singleton.{initialization, slotTarget, needing, targets, singletonInit, singletonPointer}
 use Rattle.typebody.specs.Items.{slotBlock, slotInit, slotPointer, initOfBlock, pointerOfBlock}
-use Rattle.typebody.specs.Offsets.{vector, u32s, fieldOffsets, slotOffsets}
+use Rattle.fieldoffsets.specs.Offsets.{vector, u32s, fieldOffsets, slotOffsets}
 use Rattle.vtable.specs.Entries.{Layout, entrySize, entryOf, entryAddress, entryAt, upTo, entry}
 use Rattle.field.specs.Fields.{descriptorFrom, given, descriptorAt}
-use Rattle.field.specs.Records.{recordLayout, recordsBase, recordAt as fieldRecordAt}
-use Rattle.parent.specs.Context.{headed, header}
+use Rattle.field.specs.Records.{recordLayout, recordsBase, descriptorRecord}
+use Rattle.parent.specs.Context.{headerIn, header}
 use Rattle.parent.specs.Chain.{contextsMost, headerAt}
 use Rattle.items.specs.Keys.{Sections, EntryKind, Key, slotOf}
 use Rattle.items.specs.Items.{mapReads, tableKind, entryLayout, tableOf, entryOfSlot, contextOfSlot, item, rowOfSlot, bodyOfSlot, blockOfSlot, initOfSlot, pointerOfSlot, offsetsOfSlot}
@@ -206,7 +206,7 @@ module _ (image segments : List ℕ) (P : Range → Type 0) (onBytes : (o n : �
 
   -- contexts
   on-head : (a : ℕ) → On (header a)
-  unfolding header headed
+  unfolding header headerIn
   on-head a = on-cond (eqb a 0) on-nothing (on-bytes a 8 (λ h. on-cond (leb (2 ^ 64) (a + 4)) on-nothing (on-done _)))
 
   pub on-context : (k a : ℕ) → On (headerAt k a)
@@ -260,8 +260,8 @@ module _ (image segments : List ℕ) (P : Range → Type 0) (onBytes : (o n : �
   unfolding descriptorAt
   on-descriptor fields start j = on-given (descriptorFrom fields start 0 j)
 
-  pub on-record : (fields : List ℕ) (start j k : ℕ) → On (fieldRecordAt fields start j k)
-  unfolding fieldRecordAt
+  pub on-record : (fields : List ℕ) (start j k : ℕ) → On (descriptorRecord fields start j k)
+  unfolding descriptorRecord
   on-record fields start j k =
       on-bind (on-descriptor fields start j)
       (λ d. on-entry (recordLayout (d .«field_record_size»)) (recordsBase (d .address)) (d .«num_fields») k)

@@ -13,7 +13,7 @@ use Rattle.context.specs.Context.{contextKind, hasName}
 use Rattle.typedescriptor.specs.Row.{nameAddress}
 use Rattle.typedescriptor.specs.Slots.{slots, slotAddress}
 use Rattle.vtable.specs.Entries.{Entry}
-use Rattle.field.specs.Records.{recordAt}
+use Rattle.field.specs.Records.{descriptorRecord}
 use Rattle.parent.specs.Context.{Name, Header}
 use Rattle.items.specs.Keys.{Sections}
 use Rattle.items.specs.Items.{mapReads, contextOfSlot}
@@ -28,8 +28,8 @@ pub data NameKey : Type 0 where
 unfoldable pub descriptorName : ℕ → Reads ℕ
 descriptorName a = bytes a 20 (λ h. cond (leb (2 ^ 64) (a + 8)) nothing (done (nameAddress a h)))
 
-unfoldable pub slotName : Sections → ℕ → Reads ℕ
-slotName s i =
+unfoldable pub slotNameAddress : Sections → ℕ → Reads ℕ
+slotNameAddress s i =
     cond (ltb i (slots (s .types)))
     (cond (eqb (unsignedIn 4 (s .types) (4 * i)) 0) nothing (descriptorName (slotAddress (s .types) (s .typesStart) i))) nothing
 
@@ -46,9 +46,9 @@ recordName e = getD (e .words) 2 0
 
 -- the address at which the name of a key is looked up
 unfoldable pub nameOf : Sections → NameKey → Reads ℕ
-nameOf s (NameKey.descriptor i) = slotName s i
+nameOf s (NameKey.descriptor i) = slotNameAddress s i
 nameOf s (NameKey.context i k) = bind (contextOfSlot s i k) contextNameAt
-nameOf s (NameKey.field j k) = mapReads recordName (recordAt (s .fields) (s .fieldsStart) j k)
+nameOf s (NameKey.field j k) = mapReads recordName (descriptorRecord (s .fields) (s .fieldsStart) j k)
 
 -- a text at an address: its place in the image, and its bytes
 unfoldable pub lookup : ℕ → Reads Name

@@ -19,9 +19,10 @@ use Rattle.runtime.specs.ReadsLaws.{run-bind, cut}
 use Rattle.runtime.specs.PathLaws.{bytes-clear, path-text-zero}
 use Rattle.runtime.specs.FieldName.{inImage, inStrings, sectionText, orElse, fieldName}
 use Rattle.context.specs.Context.{contextKind, hasName}
+use Rattle.typebody.specs.Body.{Sizes, ofClass, superclassName}
 use Rattle.vtable.specs.Entries.{Entry}
 use Rattle.field.specs.declared.record.FieldRecord.{FieldRecord}
-use Rattle.field.specs.Records.{recordAt, ofRecord}
+use Rattle.field.specs.Records.{descriptorRecord, ofRecord}
 use Rattle.parent.specs.Context.{Name, Header, slotName, nameAt, name, contextName, withName}
 use Rattle.items.specs.Keys.{Sections}
 use Rattle.items.specs.Items.{contextOfSlot}
@@ -66,6 +67,11 @@ module _ (image segments : List ℕ) (c a : ℕ) (clear : ClearAt image segments
           → Option·map (λ (n : Name). n .place) (cond b (run image segments (lookup a)) none) ≡ cond b (Option·map (λ (n : Name). n .place) (run image segments (lookup a))) none
       go true = refl
       go false = refl
+
+  -- of a class's body
+  pub cut-superclass : (z : Sizes) (m f v : ℕ)
+      → superclassName (take c image) segments (some (ofClass a z m f v)) ≡ cond textEndsBy (superclassName image segments (some (ofClass a z m f v))) none
+  cut-superclass z m f v = cut-place
 
   -- a field's name: the image's, else the string section's
   pub cut-field-name : (strings : List ℕ) (start : ℕ)
@@ -141,7 +147,7 @@ pub record-name : (r : FieldRecord) → recordName (ofRecord r) ≡ r .«field_n
 record-name r = refl
 
 -- the premise on the listing's texts has each field record's name
-pub field-clear : (image segments : List ℕ) (c : ℕ) (s : Sections) (j k : ℕ) (e : Entry) → run image segments (recordAt (s .fields) (s .fieldsStart) j k) ≡ some e
+pub field-clear : (image segments : List ℕ) (c : ℕ) (s : Sections) (j k : ℕ) (e : Entry) → run image segments (descriptorRecord (s .fields) (s .fieldsStart) j k) ≡ some e
     → ClearOf image segments s c (NameKey.field j k) → ClearAt image segments c (recordName e)
 unfolding nameOf
-field-clear image segments c s j k e f clear = clear (recordName e) (run-map image segments recordName (recordAt (s .fields) (s .fieldsStart) j k) ∙ rw f)
+field-clear image segments c s j k e f clear = clear (recordName e) (run-map image segments recordName (descriptorRecord (s .fields) (s .fieldsStart) j k) ∙ rw f)

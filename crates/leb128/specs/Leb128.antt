@@ -31,12 +31,12 @@ unfoldable pub signedNumber : List ℕ → ℤ
 signedNumber e = twosComplement (7 * length e) (unsignedNumber e)
 
 -- a number in `k` + 1 bytes: its chunks of seven bits, each with the high bit but for the last. More bytes than it needs have zeros (or ones) above it.
-unfoldable pub encoded : ℕ → ℕ → List ℕ
-encoded zero n = n % 128 ∷ []
-encoded (suc k) n = (128 + n % 128) ∷ encoded k (n / 128)
+unfoldable pub lebBytes : ℕ → ℕ → List ℕ
+lebBytes zero n = n % 128 ∷ []
+lebBytes (suc k) n = (128 + n % 128) ∷ lebBytes k (n / 128)
 
 unfoldable pub encodedSigned : ℕ → ℤ → List ℕ
-encodedSigned k z = encoded k (modulo z (128 ^ suc k))
+encodedSigned k z = lebBytes k (modulo z (128 ^ suc k))
 
 -- the low 64 bits of the number
 abbrev pub word : List ℕ → ℕ

@@ -14,7 +14,7 @@ use borrow.Author.Tests.{le-leb, lt-ltb, le-ltb, eq-eqb}
 use Rattle.util.specs.LittleEndian.{twosComplement}
 use Rattle.util.specs.LittleEndianLaws.{twos-positive, twos-negative}
 use Rattle.util.specs.Pointer.{modulo}
-use Rattle.leb128.specs.Leb128.{encoding, unsignedNumber, signedNumber, word, encoded, encodedSigned, ulebOf, uleb128, signBits, slebOf, sleb128}
+use Rattle.leb128.specs.Leb128.{encoding, unsignedNumber, signedNumber, word, lebBytes, encodedSigned, ulebOf, uleb128, signBits, slebOf, sleb128}
 use Rattle.leb128.specs.Leb128Laws.{number-small, seven, half}
 
 -- ---- any encoding of up to ten bytes whose number fits 64 bits
@@ -78,29 +78,29 @@ sleb-exact e h f =
 
 -- ---- the standard's encodings
 
-encoded-length : (k n : ℕ) → length (encoded k n) ≡ suc k
-unfolding encoded
+encoded-length : (k n : ℕ) → length (lebBytes k n) ≡ suc k
+unfolding lebBytes
 encoded-length zero n = refl
 encoded-length (suc k) n = ap suc (encoded-length k (n / 128))
 
-encoding-encoded : (k n : ℕ) (rest : List ℕ) → encoding (encoded k n ++ rest) ≡ some (encoded k n)
-unfolding encoded encoding
+encoding-encoded : (k n : ℕ) (rest : List ℕ) → encoding (lebBytes k n ++ rest) ≡ some (lebBytes k n)
+unfolding lebBytes encoding
 encoding-encoded zero n rest = rw (lt-ltb (n % 128) 128 (omega arith))
 encoding-encoded (suc k) n rest = rw (le-ltb (128 + n % 128) 128 (omega arith), encoding-encoded k (n / 128) rest)
 
-number-encoded : (k n : ℕ) → n < 128 ^ suc k → unsignedNumber (encoded k n) ≡ n
-unfolding encoded unsignedNumber
+number-encoded : (k n : ℕ) → n < 128 ^ suc k → unsignedNumber (lebBytes k n) ≡ n
+unfolding lebBytes unsignedNumber
 number-encoded zero n h = omega arith
 number-encoded (suc k) n h =
     let p : 128 ^ suc (suc k) ≡ 128 ^ suc k * 128 = pow-suc 128 (suc k) in
     rw (number-encoded k (n / 128) (omega arith)) (omega arith)
 
 -- an unsigned number in up to ten bytes, with any bytes after them
-pub uleb-encoded : (k n : ℕ) (rest : List ℕ) → k < 10 → n < 128 ^ suc k → n < 2 ^ 64 → uleb128 (encoded k n ++ rest) ≡ some (n, suc k)
+pub uleb-encoded : (k n : ℕ) (rest : List ℕ) → k < 10 → n < 128 ^ suc k → n < 2 ^ 64 → uleb128 (lebBytes k n ++ rest) ≡ some (n, suc k)
 uleb-encoded k n rest h w l =
-    let e : unsignedNumber (encoded k n) ≡ n = number-encoded k n w in
+    let e : unsignedNumber (lebBytes k n) ≡ n = number-encoded k n w in
     rw (encoding-encoded k n rest)
-    (uleb-exact (encoded k n) (omega (arith, encoded-length k n)) (omega arith) ∙ rw (e, encoded-length k n))
+    (uleb-exact (lebBytes k n) (omega (arith, encoded-length k n)) (omega arith) ∙ rw (e, encoded-length k n))
 
 -- a signed one: `k` + 1 bytes have room for it
 abbrev pub Room : ℕ → ℤ → Type 0
@@ -123,9 +123,9 @@ signed-encoded k (negsuc n) h =
 pub sleb-encoded : (k : ℕ) (z : ℤ) (rest : List ℕ) → k < 10 → Room k z → Signed64 z → sleb128 (encodedSigned k z ++ rest) ≡ some (z, suc k)
 unfolding encodedSigned
 sleb-encoded k z rest h w l =
-    let e : signedNumber (encoded k (modulo z (128 ^ suc k))) ≡ z = signed-encoded k z w in
+    let e : signedNumber (lebBytes k (modulo z (128 ^ suc k))) ≡ z = signed-encoded k z w in
     rw (encoding-encoded k (modulo z (128 ^ suc k)) rest)
-    (sleb-exact (encoded k (modulo z (128 ^ suc k))) (omega (arith, encoded-length k (modulo z (128 ^ suc k)))) (rw e l) ∙ rw (e, encoded-length k (modulo z (128 ^ suc k))))
+    (sleb-exact (lebBytes k (modulo z (128 ^ suc k))) (omega (arith, encoded-length k (modulo z (128 ^ suc k)))) (rw e l) ∙ rw (e, encoded-length k (modulo z (128 ^ suc k))))
 
 -- ---- the standard's examples (its figures of unsigned and signed encodings)
 
@@ -148,19 +148,19 @@ signed-examples = (refl, refl, refl, refl, refl)
 -- ---- the smallest inputs on which darwinscope departs from its own comment (docs/DIFFERENCES.md)
 
 -- 2^64 in ten bytes is read as 0, and 0 in twelve bytes is not read
-two-to-64 : (unsignedNumber (encoded 9 (2 ^ 64)) ≡ 2 ^ 64) × (uleb128 (encoded 9 (2 ^ 64)) ≡ some (0, 10))
-unfolding encoded encoding unsignedNumber ulebOf
+two-to-64 : (unsignedNumber (lebBytes 9 (2 ^ 64)) ≡ 2 ^ 64) × (uleb128 (lebBytes 9 (2 ^ 64)) ≡ some (0, 10))
+unfolding lebBytes encoding unsignedNumber ulebOf
 two-to-64 = (refl, refl)
 
-zero-in-twelve : (unsignedNumber (encoded 11 0) ≡ 0) × (uleb128 (encoded 11 0) ≡ none)
-unfolding encoded encoding unsignedNumber ulebOf
+zero-in-twelve : (unsignedNumber (lebBytes 11 0) ≡ 0) × (uleb128 (lebBytes 11 0) ≡ none)
+unfolding lebBytes encoding unsignedNumber ulebOf
 zero-in-twelve = (refl, refl)
 
 -- 2^63 in ten bytes is read as -2^63, and 0 in twelve bytes is not read
 two-to-63 : (signedNumber (encodedSigned 9 (pos (2 ^ 63))) ≡ pos (2 ^ 63)) × (sleb128 (encodedSigned 9 (pos (2 ^ 63))) ≡ some (negsuc (2 ^ 63 - 1), 10))
-unfolding encoded encodedSigned encoding unsignedNumber signedNumber slebOf twosComplement
+unfolding lebBytes encodedSigned encoding unsignedNumber signedNumber slebOf twosComplement
 two-to-63 = (refl, refl)
 
 signed-zero-in-twelve : (signedNumber (encodedSigned 11 (pos 0)) ≡ pos 0) × (sleb128 (encodedSigned 11 (pos 0)) ≡ none)
-unfolding encoded encodedSigned encoding unsignedNumber signedNumber slebOf twosComplement
+unfolding lebBytes encodedSigned encoding unsignedNumber signedNumber slebOf twosComplement
 signed-zero-in-twelve = (refl, refl)

@@ -7,19 +7,19 @@ ghost use Rattle.refusal.specs.Refusal.{answered};
 ghost use Rattle.util.specs.Cstr.{place, partOf};
 ghost use Rattle.bundle.specs.Open.{bundleMost};
 ghost use Rattle.printing.specs.Lines.{lineText};
-ghost use Rattle.printing.specs.Printed.{pendingOf, printStep, printed, linesMost, taken};
+ghost use Rattle.printer.specs.Printed.{pendingOf, printStep, printed, linesMost, taken};
 ghost use Rattle.list.specs.Input.{Came};
 use bundle::BUNDLE_BYTES;
-use bundle::Broken;
-use bundle::Rule;
-use bundle::SEGMENT_NUMBERS;
+use bundle_parts::SEGMENT_NUMBERS;
+use bundle_rules::Broken;
+use bundle_rules::Rule;
 use libc::STDERR_FILENO;
 use libc::STDIN_FILENO;
 use libc::STDOUT_FILENO;
+use printer::LINES;
+use printer::PrintStep;
+use printer::Printer;
 use printing::LINE_BYTES;
-use printing::LINES;
-use printing::PrintStep;
-use printing::Printer;
 
 // One byte more than any bundle has, so that a longer input shows.
 const INPUT_BYTES: usize = BUNDLE_BYTES + 1;
@@ -78,7 +78,7 @@ fn print_listing(bytes: &[u8]) -> Written
     ensures { λ r. ⌜ r .lines ≡ length (printed (now (bytes .entry))) ⌝ }
 {
     let mut numbers = [0u64; SEGMENT_NUMBERS];
-    let first = printing::start(bytes);
+    let first = printer::start(bytes);
     let count = first.segments(bytes, &mut numbers);
     print_lines(bytes, &numbers[..count], first)
 }
@@ -100,7 +100,7 @@ fn say_rule(rule: Rule) {
 
 // Why a bundle is refused with 2, and at which byte.
 fn say_broken(bytes: &[u8]) {
-    match bundle::broken_rule(bytes) {
+    match bundle_rules::broken_rule(bytes) {
         Broken::At { rule, at } => {
             say(b"list: refused 2: ");
             say_rule(rule);

@@ -32,7 +32,7 @@ pub record Checked : Type 0 where
   pub at-end : (s : List ℕ) → textAt s (length s) ≡ some (place (length s) 0)
   pub past-end : (s : List ℕ) → textAt s (suc (length s)) ≡ none
   -- generic sizes, and where the tables of a class lie
-  pub blocks : Blocks.Checked
+  pub blocks : Blocks.CheckedBlocks
 
 pub checked : Checked
 unfolding relativePointer segmentsOf fileOffset decides inFile table following goesOn textAt textLength untilNul
@@ -49,5 +49,5 @@ checked =
       too-high = refl;
       at-end = λ s. simp (le-leb (length s) (length s) (omega arith)) (rw drop-length);
       past-end = λ s. simp (lt-leb (suc (length s)) (length s) (omega arith));
-      blocks = Blocks.checked;
+      blocks = Blocks.checked-blocks;
     }

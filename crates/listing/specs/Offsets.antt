@@ -1,7 +1,7 @@
 -- The answer of the calls over field offsets: docs/SPECIFICATION.md, "Refusals" and "Field offsets".
 use mathlib.Core.Option.{Option}
 use Rattle.refusal.specs.Refusal.{Guarded, answered, refused, refusalNumber}
-use Rattle.typebody.specs.Offsets.{Offsets, offsetsOf}
+use Rattle.fieldoffsets.specs.Offsets.{Offsets, offsetsOf}
 use Rattle.listing.specs.declared.offsets.OffsetsAnswer.{OffsetsAnswer}
 
 abbrev pub offsetsAnswer : OffsetsAnswer → Guarded (Option Offsets)

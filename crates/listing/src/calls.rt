@@ -7,12 +7,12 @@ ghost use Rattle.util.specs.Buffer.{overwritten};
 ghost use Rattle.typedescriptor.specs.Row.{rowOf};
 ghost use Rattle.typedescriptor.specs.Slots.{nextRow};
 ghost use Rattle.parent.specs.Chain.{chainStep};
-ghost use Rattle.parent.specs.Name.{nameAnswer, lengthOf};
+ghost use Rattle.qualifiedname.specs.Name.{nameAnswer, lengthOf};
 ghost use Rattle.listing.specs.Calls.{guarded, rowAnswer, contextAnswer};
 use parent::ParentChain;
 use parent::ParentContext;
 use parent::ParentStep;
-use parent::QualifiedName;
+use qualifiedname::QualifiedName;
 use refusal::Refusal;
 use typedescriptor::Row;
 use typedescriptor::TypeIter;
@@ -77,5 +77,5 @@ pub fn joined_name(image: &[u8], segments: &[u64], row: Row, buffer: &mut [u8]) 
     if segments.len() % 4 != 0 {
         return QualifiedName::Refused(Refusal::RaggedSegments);
     }
-    parent::qualified_name(image, segments, row, buffer)
+    qualifiedname::qualified_name(image, segments, row, buffer)
 }

@@ -5,62 +5,29 @@ ghost use Rattle.vtable.specs.Entries.{method, override, defaultOverride, presp
 ghost use Rattle.listing.specs.Calls.{guarded};
 ghost use Rattle.listing.specs.Entries.{methodAnswer, overrideAnswer, defaultOverrideAnswer, prespecializationAnswer};
 use refusal::Refusal;
-use vtable::DefaultOverrideEntry;
 use vtable::DefaultOverrideStep;
 use vtable::EntryCursor;
 use vtable::MethodStep;
-use vtable::OverrideEntry;
 use vtable::OverrideStep;
-use vtable::PrespecializationEntry;
 use vtable::PrespecializationStep;
-use vtable::VTableEntry;
 
-// What a step gives: an entry, or that there is one that cannot be read, each with the walk from there on; or the end.
 pub enum NextMethod {
-    Entry {
-        entry: VTableEntry,
-        next: EntryCursor,
-    },
-    Unreadable {
-        next: EntryCursor,
-    },
-    End,
+    Step(MethodStep),
     Refused(Refusal),
 }
 
 pub enum NextOverride {
-    Entry {
-        entry: OverrideEntry,
-        next: EntryCursor,
-    },
-    Unreadable {
-        next: EntryCursor,
-    },
-    End,
+    Step(OverrideStep),
     Refused(Refusal),
 }
 
 pub enum NextDefaultOverride {
-    Entry {
-        entry: DefaultOverrideEntry,
-        next: EntryCursor,
-    },
-    Unreadable {
-        next: EntryCursor,
-    },
-    End,
+    Step(DefaultOverrideStep),
     Refused(Refusal),
 }
 
 pub enum NextPrespecialization {
-    Entry {
-        entry: PrespecializationEntry,
-        next: EntryCursor,
-    },
-    Unreadable {
-        next: EntryCursor,
-    },
-    End,
+    Step(PrespecializationStep),
     Refused(Refusal),
 }
 
@@ -71,11 +38,7 @@ pub fn next_method(image: &[u8], segments: &[u64], cursor: EntryCursor) -> NextM
     if segments.len() % 4 != 0 {
         return NextMethod::Refused(Refusal::RaggedSegments);
     }
-    match cursor.next_method(image, segments) {
-        MethodStep::Entry { entry, next } => NextMethod::Entry { entry, next },
-        MethodStep::Unreadable { next } => NextMethod::Unreadable { next },
-        MethodStep::End => NextMethod::End,
-    }
+    NextMethod::Step(cursor.next_method(image, segments))
 }
 
 pub fn next_override(image: &[u8], segments: &[u64], cursor: EntryCursor) -> NextOverride
@@ -84,11 +47,7 @@ pub fn next_override(image: &[u8], segments: &[u64], cursor: EntryCursor) -> Nex
     if segments.len() % 4 != 0 {
         return NextOverride::Refused(Refusal::RaggedSegments);
     }
-    match cursor.next_override(image, segments) {
-        OverrideStep::Entry { entry, next } => NextOverride::Entry { entry, next },
-        OverrideStep::Unreadable { next } => NextOverride::Unreadable { next },
-        OverrideStep::End => NextOverride::End,
-    }
+    NextOverride::Step(cursor.next_override(image, segments))
 }
 
 pub fn next_default_override(
@@ -101,11 +60,7 @@ pub fn next_default_override(
     if segments.len() % 4 != 0 {
         return NextDefaultOverride::Refused(Refusal::RaggedSegments);
     }
-    match cursor.next_default_override(image, segments) {
-        DefaultOverrideStep::Entry { entry, next } => NextDefaultOverride::Entry { entry, next },
-        DefaultOverrideStep::Unreadable { next } => NextDefaultOverride::Unreadable { next },
-        DefaultOverrideStep::End => NextDefaultOverride::End,
-    }
+    NextDefaultOverride::Step(cursor.next_default_override(image, segments))
 }
 
 pub fn next_prespecialization(
@@ -118,12 +73,5 @@ pub fn next_prespecialization(
     if segments.len() % 4 != 0 {
         return NextPrespecialization::Refused(Refusal::RaggedSegments);
     }
-    match cursor.next_prespecialization(image, segments) {
-        PrespecializationStep::Entry { entry, next } => NextPrespecialization::Entry {
-            entry,
-            next,
-        },
-        PrespecializationStep::Unreadable { next } => NextPrespecialization::Unreadable { next },
-        PrespecializationStep::End => NextPrespecialization::End,
-    }
+    NextPrespecialization::Step(cursor.next_prespecialization(image, segments))
 }

@@ -18,16 +18,8 @@ use field::FieldStep;
 use refusal::Refusal;
 use runtime::FieldName;
 
-// What a step gives: a record, or that there is one that cannot be read, each with the walk from there on; or the end.
 pub enum NextFieldRecord {
-    Record {
-        record: FieldRecord,
-        next: FieldRecordIter,
-    },
-    Unreadable {
-        next: FieldRecordIter,
-    },
-    End,
+    Step(FieldRecordStep),
     Refused(Refusal),
 }
 
@@ -50,11 +42,7 @@ pub fn next_field_record(image: &[u8], segments: &[u64], walk: FieldRecordIter) 
     if segments.len() % 4 != 0 {
         return NextFieldRecord::Refused(Refusal::RaggedSegments);
     }
-    match walk.next(image, segments) {
-        FieldRecordStep::Record { record, next } => NextFieldRecord::Record { record, next },
-        FieldRecordStep::Unreadable { next } => NextFieldRecord::Unreadable { next },
-        FieldRecordStep::End => NextFieldRecord::End,
-    }
+    NextFieldRecord::Step(walk.next(image, segments))
 }
 
 // The name of a record's field: the image's text, else that of the string section, whose first byte is at `strings_va`.

@@ -1,12 +1,12 @@
-// The byte offsets of a struct's fields. One of them, by its number, is `typebody::field_offset`: it takes no segments.
+// The byte offsets of a struct's fields. One of them, by its number, is `fieldoffsets::field_offset`: it takes no segments.
 ghost use mathlib.Core.Path.{_≡_};
 ghost use Rattle.refusal.specs.Refusal.{answered};
 ghost use Rattle.typebody.specs.Body.{bodyOf};
-ghost use Rattle.typebody.specs.Offsets.{offsetsPlace, staticPlace};
+ghost use Rattle.fieldoffsets.specs.Offsets.{offsetsPlace, staticPlace};
 ghost use Rattle.listing.specs.Calls.{guarded};
 ghost use Rattle.listing.specs.Offsets.{offsetsAnswer};
+use fieldoffsets::FieldOffsets;
 use refusal::Refusal;
-use typebody::FieldOffsets;
 use typebody::TypeBody;
 use typedescriptor::Row;
 
@@ -27,7 +27,7 @@ pub fn field_offsets(
     if segments.len() % 4 != 0 {
         return OffsetsAnswer::Refused(Refusal::RaggedSegments);
     }
-    OffsetsAnswer::Offsets(typebody::field_offsets(image, segments, body, metadata_va))
+    OffsetsAnswer::Offsets(fieldoffsets::field_offsets(image, segments, body, metadata_va))
 }
 
 // The same of a row, by the metadata that its singleton pointer refers to.
@@ -37,5 +37,10 @@ pub fn static_field_offsets(image: &[u8], segments: &[u64], row: Row) -> Offsets
     if segments.len() % 4 != 0 {
         return OffsetsAnswer::Refused(Refusal::RaggedSegments);
     }
-    OffsetsAnswer::Offsets(typebody::static_field_offsets(image, segments, row.address, row.flags))
+    OffsetsAnswer::Offsets(fieldoffsets::static_field_offsets(
+        image,
+        segments,
+        row.address,
+        row.flags,
+    ))
 }

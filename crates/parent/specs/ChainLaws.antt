@@ -14,8 +14,6 @@ use Rattle.runtime.specs.ReadsLaws.{run-bind}
 use Rattle.parent.specs.Context.{Header, header, Context, withName, contextRead}
 use Rattle.parent.specs.Chain.{contextsMost, headerAt, contextAt, chain, Step, chainStep}
 use Rattle.parent.specs.ContextLaws.{chain-full, chain-ends, chain-goes-on}
-use Rattle.parent.specs.Name.{isThere}
-use Rattle.parent.specs.Walk.{deeper}
 
 module _ (image segments : List ℕ) where
   -- the chain by what the first header reads
@@ -31,38 +29,6 @@ module _ (image segments : List ℕ) where
   pub next-by : (k a : ℕ) (x : Option Header) → run image segments (header a) ≡ x → run image segments (headerAt (suc k) a) ≡ andThen x (λ h. run image segments (headerAt k (h .parent)))
   unfolding headerAt
   next-by k a x e = rw (run-bind image segments (λ h. headerAt k (h .parent)) (header a), e)
-
-  -- more than `n` contexts can be read exactly if context `n` can
-  pub deeper-is : (n a : ℕ) → deeper image segments n a ≡ isThere (run image segments (headerAt n a))
-  unfolding headerAt chain
-  deeper-is zero a = go (run image segments (header a)) refl
-    where
-      go : (x : Option Header) → run image segments (header a) ≡ x → deeper image segments 0 a ≡ isThere (run image segments (header a))
-      go none e = rw (chain-by 0 a none e, e)
-      go (some h) e = rw (chain-by 0 a (some h) e, e)
-  deeper-is (suc n) a = go (run image segments (header a)) refl (λ b. deeper-is n b)
-    where
-      go : (x : Option Header) → run image segments (header a) ≡ x → ((b : ℕ) → deeper image segments n b ≡ isThere (run image segments (headerAt n b)))
-          → deeper image segments (suc n) a ≡ isThere (run image segments (headerAt (suc n) a))
-      go none e ih = rw (chain-by (suc n) a none e, next-by n a none e) (lt-leb (suc (suc n)) 0 (omega arith))
-      go (some h) e ih = rw (chain-by (suc n) a (some h) e, next-by n a (some h) e, leb·suc-suc) (ih (h .parent))
-
-  -- where there are no more, those are all
-  pub not-deeper : (n a : ℕ) → deeper image segments n a ≡ false → chain image segments (suc n) a ≡ chain image segments n a
-  unfolding chain
-  not-deeper zero a e = go (run image segments (header a)) refl
-    where
-      go : (x : Option Header) → run image segments (header a) ≡ x → chain image segments 1 a ≡ []
-      go none f = chain-by 0 a none f
-      go (some h) f = let z : true ≡ false = rw (chain-by 0 a (some h) f) at e in let y : _≡_ {A = ℕ} 0 1 = cc in absurd (omega arith)
-  not-deeper (suc n) a e = go (run image segments (header a)) refl (λ b. not-deeper n b)
-    where
-      go : (x : Option Header) → run image segments (header a) ≡ x → ((b : ℕ) → deeper image segments n b ≡ false → chain image segments (suc n) b ≡ chain image segments n b)
-          → chain image segments (suc (suc n)) a ≡ chain image segments (suc n) a
-      go none f ih = chain-by (suc n) a none f ∙ sym (chain-by n a none f)
-      go (some h) f ih =
-          let g : deeper image segments n (h .parent) ≡ false = rw (chain-by (suc n) a (some h) f, leb·suc-suc) at e in
-          chain-by (suc n) a (some h) f ∙ ap (λ (l : List Context). withName image segments h ∷ l) (ih (h .parent) g) ∙ sym (chain-by n a (some h) f)
 
   -- context `k` of the chain is what its program reads
   pub chain-at : (n k a : ℕ) → k < n → getElem? (chain image segments n a) k ≡ contextAt image segments k a

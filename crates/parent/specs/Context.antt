@@ -28,14 +28,14 @@ pub record Header : Type 0 where
   pub parent : ℕ
 
 -- the header has 8 bytes: flags at 0, the parent's offset at 4, whose slot has to lie below 2^64
-unfoldable pub headed : ℕ → List ℕ → Reads Header
-headed a h =
+unfoldable pub headerIn : ℕ → List ℕ → Reads Header
+headerIn a h =
     cond (leb (2 ^ 64) (a + 4)) nothing
     (done (record { address = a; flags = unsignedIn 4 h 0; parent = relativeAddress (a + 4) (signedIn 4 h 4) }))
 
 -- address 0 is no context
 unfoldable pub header : ℕ → Reads Header
-header a = cond (eqb a 0) nothing (bytes a 8 (headed a))
+header a = cond (eqb a 0) nothing (bytes a 8 (headerIn a))
 
 -- the name's offset is a read of its own, at the address + 8; offset 0 is no name
 unfoldable pub slotName : ℕ → List ℕ → Reads Name

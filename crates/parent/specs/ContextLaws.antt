@@ -18,7 +18,7 @@ use Rattle.segment.specs.Mapping.{withMapping, Mapped}
 use Rattle.segment.specs.declared.segment.Mapping.{Mapping}
 use Rattle.runtime.specs.CallsLaws.{text-within, bytes-nowhere, read-nothing, run-bytes, run-no-bytes, run-text, run-no-text, run-mapped}
 use Rattle.context.specs.Context.{contextKind, hasName}
-use Rattle.parent.specs.Context.{Name, Header, headed, header, slotName, nameAt, name, contextName, Context, withName, contextRead, nameRead, Inside}
+use Rattle.parent.specs.Context.{Name, Header, headerIn, header, slotName, nameAt, name, contextName, Context, withName, contextRead, nameRead, Inside}
 use Rattle.parent.specs.Chain.{chainStep}
 
 -- ---- the name
@@ -71,19 +71,19 @@ module _ (image segments : List ℕ) (a : ℕ) where
   module _ (z : a ≡ 0 → ⊥) (h : List ℕ) (e : h ≡ bytesRead image segments a 8) where
     pub no-header : length h < 8 → none ≡ run image segments (header a)
     unfolding header
-    no-header l = simp (ne-eqb a 0 z) (sym (run-no-bytes image segments a 8 (headed a) h e l))
+    no-header l = simp (ne-eqb a 0 z) (sym (run-no-bytes image segments a 8 (headerIn a) h e l))
 
-    read-header : 8 ≤ length h → run image segments (header a) ≡ run image segments (headed a h)
+    read-header : 8 ≤ length h → run image segments (header a) ≡ run image segments (headerIn a h)
     unfolding header
-    read-header l = simp (ne-eqb a 0 z) (run-bytes image segments a 8 (headed a) h e (omega arith) l)
+    read-header l = simp (ne-eqb a 0 z) (run-bytes image segments a 8 (headerIn a) h e (omega arith) l)
 
     pub parent-wraps : 8 ≤ length h → 2 ^ 64 ≤ a + 4 → none ≡ run image segments (header a)
-    unfolding headed run
+    unfolding headerIn run
     parent-wraps l w = rw (read-header l) (simp (le-leb (2 ^ 64) (a + 4) w))
 
     pub header-at : (f q : ℕ) → f ≡ unsignedIn 4 h 0 → q ≡ relativeAddress (a + 4) (signedIn 4 h 4) → 8 ≤ length h → a + 4 < 2 ^ 64
         → some (record { address = a; flags = f; parent = q }) ≡ run image segments (header a)
-    unfolding headed run
+    unfolding headerIn run
     header-at f q ef eq l w = rw (read-header l, ef, eq) (simp (lt-leb (2 ^ 64) (a + 4) w))
 
   pub no-context : none ≡ run image segments (header a) → none ≡ contextRead image segments a

@@ -2,8 +2,4 @@ pub mod Chain
 pub mod ChainLaws
 pub mod Context
 pub mod ContextLaws
-pub mod Name
-pub mod NameLaws
 pub mod PathLaws
-pub mod Walk
-pub mod WalkLaws

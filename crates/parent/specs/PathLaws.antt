@@ -15,7 +15,7 @@ use Rattle.runtime.specs.Reads.{Reads, done, nothing, bytes, text, run, Range, 
 use Rattle.runtime.specs.ReadsLaws.{path-bind}
 use Rattle.runtime.specs.PathLaws.{path-bytes, bytes-read, text-read, path-found}
 use Rattle.context.specs.Context.{contextKind, hasName}
-use Rattle.parent.specs.Context.{Name, Header, headed, header, slotName, nameAt, name, Context, withName, contextRead}
+use Rattle.parent.specs.Context.{Name, Header, headerIn, header, slotName, nameAt, name, Context, withName, contextRead}
 use Rattle.parent.specs.Chain.{headerAt, chain}
 use Rattle.parent.specs.ChainLaws.{chain-by, next-by}
 
@@ -48,13 +48,13 @@ record HeaderFound (image segments : List ℕ) (a : ℕ) (h : Header) : Type 0 w
 
 module _ (image segments : List ℕ) (a : ℕ) where
   header-found : (h : Header) → run image segments (header a) ≡ some h → HeaderFound image segments a h
-  unfolding header headed run path
+  unfolding header headerIn run path
   header-found h e =
-      let p : header a ≡ bytes a 8 (headed a) = unless image segments h (bytes a 8 (headed a)) (eqb a 0) e in
-      let w = bytes-read image segments a h 8 (headed a) (ap (run image segments) (sym p) ∙ e) in
+      let p : header a ≡ bytes a 8 (headerIn a) = unless image segments h (bytes a 8 (headerIn a)) (eqb a 0) e in
+      let w = bytes-read image segments a h 8 (headerIn a) (ap (run image segments) (sym p) ∙ e) in
       let bs : List ℕ = take 8 (drop (w .offset) image) in
       let told : Header = record { address = a; flags = unsignedIn 4 bs 0; parent = relativeAddress (a + 4) (signedIn 4 bs 4) } in
-      let q : headed a bs ≡ done told = unless image segments h (done told) (leb (2 ^ 64) (a + 4)) (w .goes) in
+      let q : headerIn a bs ≡ done told = unless image segments h (done told) (leb (2 ^ 64) (a + 4)) (w .goes) in
       let f : some told ≡ some h = ap (run image segments) (sym q) ∙ w .goes in
       record {
         offset = w .offset;
@@ -62,7 +62,7 @@ module _ (image segments : List ℕ) (a : ℕ) where
         address = cc;
         reads =
             ap (path image segments) p
-            ∙ path-bytes image segments a 8 (headed a) (w .offset) (w .at) (w .inside)
+            ∙ path-bytes image segments a 8 (headerIn a) (w .offset) (w .at) (w .inside)
             ∙ ap (λ (r : Reads Header). bytesRange (w .offset) 8 ∷ path image segments r) q;
       }
 

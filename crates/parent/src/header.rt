@@ -1,11 +1,9 @@
 ghost use mathlib.Core.Path.{_≡_};
 ghost use Rattle.segment.specs.Mapping.{withMapping};
 ghost use Rattle.runtime.specs.Reads.{run};
-ghost use Rattle.parent.specs.Walk.{ContextLocated};
 ghost use Rattle.parent.specs.Context.{header, headerOf, contextRead, contextOf, nameAt, nameRead, Inside};
 ghost use Rattle.context.specs.Context.{contextKind, hasName};
 use context::ContextDescriptorFlags;
-use segment::Around;
 use segment::Mapping;
 use util::Text;
 
@@ -26,16 +24,6 @@ pub enum ContextRead {
 pub enum HeaderRead {
     Header { flags: u32, parent: u64 },
     Nothing,
-}
-
-// What is in the file around the context at an address. Where that is nothing, there is no context.
-pub fn locate_context(segments: &[u64], descriptor_va: u64) -> Around
-    ensures { λ r. ⌜ ContextLocated (now (segments .entry)) «descriptor_va» r ⌝ }
-{
-    if descriptor_va == 0 {
-        return Around::Nothing;
-    }
-    segment::locate(segments, descriptor_va)
 }
 
 // The header at an address. There is none at address 0, nor at or above 2^64 - 4.

@@ -8,7 +8,7 @@ use lib.Dec.{eqb}
 use Rattle.refusal.specs.Refusal.{Guarded, answered, refused, refusalNumber}
 use Rattle.typedescriptor.specs.Row.{TypeRow}
 use Rattle.typedescriptor.specs.Slots.{Found, nextRow, rows}
-use Rattle.parent.specs.Name.{nameAnswer}
+use Rattle.qualifiedname.specs.Name.{nameAnswer}
 use Rattle.printing.specs.Digits.{hex, decimal}
 use Rattle.printing.specs.declared.lines.Lister.{Lister}
 use Rattle.printing.specs.declared.lines.NextLine.{NextLine}

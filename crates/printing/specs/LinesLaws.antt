@@ -19,8 +19,8 @@ use Rattle.typedescriptor.specs.Slots.{Found, nextRow}
 use Rattle.refusal.specs.Refusal.{Guarded, answered, refused, mapped, answerOf}
 use Rattle.listing.specs.Calls.{guarded}
 use Rattle.listing.specs.CallsLaws.{ragged, whole}
-use Rattle.parent.specs.Name.{nameAnswer, qualifiedName}
-use Rattle.parent.specs.NameLaws.{name-length}
+use Rattle.qualifiedname.specs.Name.{nameAnswer, qualifiedName}
+use Rattle.qualifiedname.specs.NameLaws.{name-length}
 use Rattle.printing.specs.DigitsLaws.{decimal-none, decimal-one, decimal-more, decimal-length}
 use Rattle.printing.specs.Lines.{nameBytes, lineBytes, space, newline, kindWord, refusedText, refusedLine, textOr, nameText, rowLine, endLine, Line, lineText, lineStep}
 use Rattle.printing.specs.declared.lines.Lister.{Lister}

@@ -12,7 +12,7 @@ ghost use Rattle.printing.specs.Digits.{digit, hex, decimal};
 ghost use Rattle.printing.specs.Lines.{nameBytes, lineBytes, space, kindWord, refusedText, refusedLine, nameText, rowLine, endLine, lineStep, lineAnswer, lineText};
 use crate::digits::digit_of;
 use crate::digits::hex_digits;
-use parent::QualifiedName;
+use qualifiedname::QualifiedName;
 use refusal::Refusal;
 use typedescriptor::Row;
 use typedescriptor::TypeIter;
@@ -120,7 +120,7 @@ fn put_name(image: &[u8], segments: &[u64], row: Row, line: &mut [u8], at: usize
     requires { ⌜ at + nameBytes ≤ length (now line) ⌝ }
     ensures { λ r. ⌜ Put (now (line .entry)) at (nameText (now (image .entry)) (now (segments .entry)) (rowOf (now (image .entry)) row)) r (now (line .exit)) ⌝ }
 {
-    match parent::qualified_name(image, segments, row, &mut line[at..at + NAME_BYTES]) {
+    match qualifiedname::qualified_name(image, segments, row, &mut line[at..at + NAME_BYTES]) {
         QualifiedName::Length(n) => at + n,
         QualifiedName::Refused(refusal) => put_refused(refusal, line, at),
     }

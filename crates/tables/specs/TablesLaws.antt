@@ -1,11 +1,11 @@
--- What the code finds of a table is its listing: where an entry lies (`no-place`, `a-place`), its numbers in the list (`set-put`, `set-more`), and
--- entry after entry (`Going`). A listing is the entries that stepping gives, as numbers (`listing-listed`).
+-- What the code finds of a table is `tableFrom`: where an entry lies (`no-place`, `a-place`), its numbers in the list (`set-put`, `set-more`), the
+-- entries of a run (`Ran`), and run after run (`Going`). The table is the entries that stepping gives, as numbers (`table-listed`).
 use Prim.Native.Nat.{ℕ, zero, suc, _+_, _-_, _*_, _/_, _%_, _^_, _≤_, _<_}
-use native.Mathlib.Nat.{mul-le-mul-left, mul-div-le, mul-zero, mul-suc, mod-eq-of-lt, le-antisymm, div-le-self, zero-add}
+use native.Mathlib.Nat.{mul-le-mul-left, mul-div-le, mul-zero, mul-suc, mul-add, mod-eq-of-lt, le-antisymm, le-trans, div-le-self, div-eq-of-lt, div-eq-sub-div, zero-add}
 use native.Mathlib.Decide.{decLe, decLt}
 use native.Mathlib.Numerals.{add-one}
 use native.Mathlib.Omega.{arith}
-use mathlib.Core.Path.{_≡_, refl, sym, ap, _∙_}
+use mathlib.Core.Path.{_≡_, refl, sym, ap, subst, _∙_}
 use mathlib.Core.List.{List, [], _∷_, _++_, append-assoc, append-nil}
 use mathlib.Core.Bool.{Bool, true, false, cond}
 use mathlib.Core.Option.{Option, some, none}
@@ -14,26 +14,26 @@ use lib.Seq.{set-split, take-at, drop-at, drop-drop, length-take-le}
 use borrow.Author.Tests.{le-leb, lt-leb, lt-ltb, le-ltb}
 use Rattle.util.specs.LittleEndian.{signedIn}
 use Rattle.util.specs.Pointer.{relativeAddress}
-use Rattle.util.specs.Cstr.{place, partOf}
-use Rattle.util.specs.CstrLaws.{part-in}
 use Rattle.util.specs.Buffer.{pasted, atStart, overwritten, Put}
-use Rattle.util.specs.BufferLaws.{put-then, put-length}
+use Rattle.util.specs.BufferLaws.{put-none, put-then, put-length}
 use Rattle.segment.specs.Segments.{segmentsOf, fileOffset}
-use Rattle.segment.specs.Mapping.{Located}
+use Rattle.segment.specs.Mapping.{Located, Has}
 use Rattle.segment.specs.declared.segment.Mapping.{Mapping}
 use Rattle.segment.specs.declared.segment.Around.{Around}
 use Rattle.refusal.specs.Refusal.{Guarded, answered, refused, mapped, answerOf}
 use Rattle.listing.specs.Calls.{guarded}
 use Rattle.listing.specs.CallsLaws.{ragged, whole}
 use Rattle.runtime.specs.Reads.{bytesPlace, run}
-use Rattle.runtime.specs.CallsLaws.{bytes-at, bytes-within}
+use Rattle.runtime.specs.CallsLaws.{bytes-at, bytes-past, bytes-nowhere, bytes-within}
 use Rattle.vtable.specs.Entries.{Word, Layout, Entry, entrySize, entryOf, entryAddress, entryAt, Step, entryStep, wordAt, wordsFrom}
 use Rattle.vtable.specs.EntriesLaws.{step-end, step-gives}
 use Rattle.vtable.specs.ListLaws.{walkAt, listed}
 use Rattle.vtable.specs.declared.cursor.EntryCursor.{EntryCursor}
-use Rattle.tables.specs.declared.entry.Words.{Words}
+use Rattle.tables.specs.declared.list.Words.{Words}
+use Rattle.tables.specs.declared.list.Listed.{Listed}
+use Rattle.tables.specs.declared.calls.TableAnswer.{TableAnswer}
 use Rattle.tables.specs.declared.window.Window.{Window}
-use Rattle.tables.specs.Tables.{entryNumbers, Listing, Counts, ended, before, listing, width, counts, numbersOf, first, shape, entryPlace, Within, Opens, wordsIn}
+use Rattle.tables.specs.Tables.{entryNumbers, WholeTable, Counts, ended, entryThen, tableFrom, tableIn, width, counts, tableNumbers, tableAnswer, bufferWith, GivesTable, first, shape, entryPlace, Opens, wordsIn, runNumbers, PutRun, Lists}
 
 -- ---- where an entry lies
 
@@ -57,17 +57,57 @@ module _ (image segments : List ℕ) (size a : ℕ) where
           absurd (omega arith)
       go (no w) = (omega arith, bytes-within image segments a size o (simp (lt-leb (2 ^ 64) (a + (size - 4)) (omega arith)) at e))
 
-module _ (image segments : List ℕ) (size : ℕ) (w : Window) where
-  pub closed-opens : w .length ≡ 0 → Opens image segments size w
-  closed-opens e = record { place = λ a h l. absurd (omega arith) }
+-- how far entries go on: in a mapping, in the image, below 2^64
+on-mapping : (n entryThen last : ℕ) → entryThen < n → last ≤ n - entryThen - 1 → last < n - entryThen
+on-mapping n entryThen last h l = omega arith
 
-  pub mapping-opens : (v : ℕ) (m : Mapping) → Located segments v (Around.Mapping m) → Within image m size w → Opens image segments size w
-  mapping-opens v m f i =
-      record {
-        place = λ a h l.
-            let o : fileOffset (segmentsOf segments) a ≡ some (w .place + (a - w .start)) = f .2 .offset a (i .has a h l) ∙ ap some (sym (i .place a h l)) in
-            place-as image segments size a _ (omega (arith, i .below a h l)) (bytes-at image segments a size _ (sym o) (i .inside a h l));
-      }
+on-image : (n from entryThen size last : ℕ) → from ≤ n → entryThen ≤ n - from → size ≤ n - (from + entryThen) → last ≤ n - (from + entryThen) - size → from + entryThen + last + size ≤ n
+on-image n from entryThen size last f b s l = omega arith
+
+on-words : (a size last : ℕ) → a + (size - 4) < 2 ^ 64 → last ≤ 18446744073709551615 - (size - 4) - a → a + last + (size - 4) < 2 ^ 64
+on-words a size last w l = omega arith
+
+module _ (image segments : List ℕ) (size a : ℕ) (w : a + (size - 4) < 2 ^ 64) where
+  pub opens-one : (o : ℕ) → some o ≡ bytesPlace image segments a size → Opens image segments size a (Window.At o 0)
+  opens-one o e i h =
+      let eo : o + i ≡ o = omega arith in
+      let ea : a + i ≡ a = omega arith in
+      rw (eo, ea) (place-as image segments size a (some o) w e)
+
+  pub opens-none : none ≡ bytesPlace image segments a size → Opens image segments size a Window.Nothing
+  opens-none e = place-as image segments size a none w e
+
+  pub opens-nowhere : Located segments a Around.Nothing → Opens image segments size a Window.Nothing
+  opens-nowhere f = opens-none (bytes-nowhere image segments a size f)
+
+  module _ (m : Mapping) (f : Located segments a (Around.Mapping m)) where
+    pub opens-past : length image < m .fileoff + (a - m .vmaddr) + size → Opens image segments size a Window.Nothing
+    opens-past h = opens-none (bytes-past image segments a size _ (sym (f .2 .offset a (f .1))) h)
+
+    abbrev past : ℕ
+    past = a - m .vmaddr
+
+    pub opens-all : (u last : ℕ) → m .fileoff ≤ length image → past ≤ length image - m .fileoff → size ≤ length image - (m .fileoff + past)
+        → (u ≤ length image - (m .fileoff + past) - size) × (u ≤ 18446744073709551615 - (size - 4) - a) → (last ≤ m .size - past - 1) × (last ≤ u)
+        → Opens image segments size a (Window.At (m .fileoff + past) last)
+    opens-all u last hf hp hs hu hl i h =
+        let reach : last < m .size - past = on-mapping (m .size) past last (omega (arith, f .1 .from, f .1 .to)) (hl .0) in
+        let inside = on-image (length image) (m .fileoff) past size last hf hp hs (le-trans (hl .1) (hu .0)) in
+        let below = on-words a size last w (le-trans (hl .1) (hu .1)) in
+        let has : Has m (a + i) = record { from = omega (arith, f .1 .from); to = omega (arith, f .1 .from, f .1 .to) } in
+        let far : m .fileoff + (a + i - m .vmaddr) ≡ m .fileoff + past + i = omega (arith, f .1 .from) in
+        let e : fileOffset (segmentsOf segments) (a + i) ≡ some (m .fileoff + past + i) = f .2 .offset (a + i) has ∙ ap some far in
+        place-as image segments size (a + i) (some (m .fileoff + past + i)) (omega (arith, below)) (bytes-at image segments (a + i) size (m .fileoff + past + i) (sym e) (omega (arith, inside)))
+
+module _ (image segments : List ℕ) (size a o last : ℕ) (w : Opens image segments size a (Window.At o last)) where
+  pub opens-here : some o ≡ entryPlace image segments size a
+  opens-here =
+      let eo : o + 0 ≡ o = omega arith in
+      let ea : a + 0 ≡ a = omega arith in
+      rw (eo, ea) at (w 0 (omega arith))
+
+  pub opens-last : (a + last + (size - 4) < 2 ^ 64) × (o + last + size ≤ length image)
+  opens-last = place-in image segments size (a + last) (o + last) (w last (omega arith))
 
 module _ (image segments : List ℕ) (l : Layout) (base k : ℕ) where
   pub no-place : none ≡ entryPlace image segments (entrySize l) (entryAddress l base k) → none ≡ run image segments (entryAt l base k)
@@ -111,13 +151,19 @@ module _ (numbered : Bool) where
   shape-stride (suc zero) stride = refl
   shape-stride (suc (suc n)) stride = refl
 
+-- more than two pointers are two
+shape-least : (numbered : Bool) (more r stride : ℕ) → (more ≤ 2 → r ≡ more) × (2 ≤ more → r ≡ 2) → shape numbered r stride ≡ shape numbered more stride
+shape-least numbered zero r stride e = ap (λ (n : ℕ). shape numbered n stride) (e .0 (omega arith))
+shape-least numbered (suc zero) r stride e = ap (λ (n : ℕ). shape numbered n stride) (e .0 (omega arith))
+shape-least numbered (suc (suc n)) r stride e = ap (λ (n : ℕ). shape numbered n stride) (e .1 (omega arith))
+
 words-long : (ws : List Word) (a o : ℕ) (h : List ℕ) → length (wordsFrom ws a o h) ≡ length ws
 words-long [] a o h = refl
 words-long (w ∷ ws) a o h = ap suc (words-long ws a (o + 4) h)
 
--- the last word of an entry lies below 2^64
-pub below-word : (a x more : ℕ) → a ≡ x % 2 ^ 64 → x + (4 + 4 * more - 4) < 2 ^ 64 → a + 4 * more < 2 ^ 64
-below-word a x more e h =
+-- the last word of an entry lies below 2^64, also of one that starts so much further on
+pub below-word : (a x more last : ℕ) → a ≡ x % 2 ^ 64 → x + last + (4 + 4 * more - 4) < 2 ^ 64 → a + last + 4 * more < 2 ^ 64
+below-word a x more last e h =
     let f : a ≡ x = e ∙ mod-eq-of-lt (omega arith) in
     omega arith
 
@@ -140,10 +186,10 @@ words-are numbered (suc (suc n)) a s t h w m l es et e1 e2 e3 = cc (e1, later-wo
 
 -- ---- its numbers in the list
 
-set-put : (b : List ℕ) (at x : ℕ) → at < length b → Put b at (x ∷ []) (at + 1) (set b at x)
+pub set-put : (b : List ℕ) (at x : ℕ) → at < length b → Put b at (x ∷ []) (at + 1) (set b at x)
 set-put b at x h = record { ends = refl; holds = set-split b at x h ∙ ap (λ (n : ℕ). take at b ++ (x ∷ drop n b)) (sym (add-one at)) }
 
-set-more : (b p b′ : List ℕ) (at n x : ℕ) → Put b at p (at + n) b′ → length p ≡ n → at + n < length b → Put b at (p ++ (x ∷ [])) (at + (n + 1)) (set b′ (at + n) x)
+pub set-more : (b p b′ : List ℕ) (at n x : ℕ) → Put b at p (at + n) b′ → length p ≡ n → at + n < length b → Put b at (p ++ (x ∷ [])) (at + (n + 1)) (set b′ (at + n) x)
 set-more b p b′ at n x u e h =
     let same : length b′ ≡ length b = put-length b p b′ at (at + n) u (omega arith) in
     let next : at + (n + 1) ≡ at + n + 1 = omega arith in
@@ -172,57 +218,118 @@ module _ (b : List ℕ) (at a : ℕ) (w : Words) where
 
 -- an entry's numbers are those of its words
 pub put-words : (b b′ bytes s : List ℕ) (at a more n o : ℕ) (numbered : Bool) (w : Words) → b′ ≡ pasted b at (a ∷ wordsIn more w)
-    → wordsIn more w ≡ wordsFrom (shape numbered more 0 .words) a 0 bytes → bytes ≡ partOf s (place o n) → o + n ≤ length s
+    → wordsIn more w ≡ wordsFrom (shape numbered more 0 .words) a 0 bytes → bytes ≡ take (o + n - o) (drop o s)
     → b′ ≡ pasted b at (entryNumbers (entryOf (shape numbered more 0) a (take n (drop o s))))
-put-words b b′ bytes s at a more n o numbered w eb ew ep h = eb ∙ ap (λ (x : List ℕ). pasted b at (a ∷ x)) (ew ∙ ap (wordsFrom (shape numbered more 0 .words) a 0) (ep ∙ part-in s o n h))
+put-words b b′ bytes s at a more n o numbered w eb ew ep =
+    let len : o + n - o ≡ n = omega arith in
+    eb ∙ ap (λ (x : List ℕ). pasted b at (a ∷ x)) (ew ∙ ap (wordsFrom (shape numbered more 0 .words) a 0) (ep ∙ ap (λ (j : ℕ). take j (drop o s)) len))
 
--- ---- entry after entry
+-- ---- the entries of a run
+
+run-length : (image : List ℕ) (l : Layout) (o a n : ℕ) → length (runNumbers image l o a n) ≡ width l * n
+run-length image l o a zero = sym (mul-zero (width l))
+run-length image l o a (suc n) =
+    length-append (runNumbers image l o a n) _ ∙ omega (arith, run-length image l o a n, mul-suc (width l) n, words-long (l .words) (a + l .stride * n) 0 (take (entrySize l) (drop (o + l .stride * n) image)))
+
+module _ (image : List ℕ) (numbered : Bool) (more stride o last a most : ℕ) (b₀ : List ℕ) (at : ℕ) where
+  abbrev run-shape : Layout
+  run-shape = shape numbered more stride
+
+  -- so many are put
+  pub record Ran (n : ℕ) (b : List ℕ) : Type 0 where
+    pub few : n ≤ most
+    pub within : (i : ℕ) → i < n → stride * i ≤ last
+    pub long : length b ≡ length b₀
+    pub put : Put b₀ at (runNumbers image run-shape o a n) (at + (2 + more) * n) b
+
+  pub ran-none : Ran 0 b₀
+  ran-none =
+      let z : at + (2 + more) * 0 ≡ at = omega (arith, mul-zero (2 + more)) in
+      record { few = omega arith; within = λ i h. absurd (omega arith); long = refl; put = rw z (put-none b₀ at) }
+
+  module _ (small : more ≤ 2) (room : at + (2 + more) * most ≤ length b₀) (n : ℕ) (b : List ℕ) (g : Ran n b) where
+    so-long : length (runNumbers image run-shape o a n) ≡ (2 + more) * n
+    so-long = omega (arith, g .put .ends)
+
+    inside : at + length (runNumbers image run-shape o a n) ≤ length b₀
+    inside = omega (arith, so-long, mul-le-mul-left (2 + more) (g .few))
+
+    -- one more fits
+    pub run-fits : n < most → at + (2 + more) * n + (2 + more) ≤ length b
+    run-fits h =
+        let next : (2 + more) * suc n ≤ (2 + more) * most = mul-le-mul-left (2 + more) h in
+        omega (arith, next, mul-suc (2 + more) n, g .long)
+
+    pub ran-on : (past : ℕ) (b′ : List ℕ) → n < most → past ≡ stride * n → past ≤ last
+        → b′ ≡ pasted b (at + (2 + more) * n) (entryNumbers (entryOf (shape numbered more 0) (a + past) (take (4 + 4 * more) (drop (o + past) image)))) → Ran (n + 1) b′
+    ran-on past b′ h e near eb =
+        let x : List ℕ = entryNumbers (entryOf run-shape (a + run-shape .stride * n) (take (entrySize run-shape) (drop (o + run-shape .stride * n) image))) in
+        let far : run-shape .stride * n ≡ past = ap (λ (j : ℕ). j * n) (shape-stride numbered more stride) ∙ sym e in
+        let same : b′ ≡ pasted b (at + (2 + more) * n) x = eb ∙ rw (far, shape-size numbered more stride small, shape-words numbered more stride) in
+        let wide : length x ≡ 2 + more = ap suc (words-long (run-shape .words) _ 0 _) ∙ shape-width numbered more stride small in
+        let next : at + (2 + more) * suc n ≡ at + (2 + more) * n + length x = omega (arith, wide, mul-suc (2 + more) n) in
+        let put : Put b₀ at (runNumbers image run-shape o a n ++ x) (at + (2 + more) * suc n) b′ =
+        put-then b₀ (runNumbers image run-shape o a n) x b b′ at (at + (2 + more) * n) _ (g .put) (record { ends = next; holds = same }) inside in
+        record {
+          few = omega arith;
+          within = λ i l. elim (decLt i n) [ yes k ↦ g .within i k | no k ↦ let same-i : i ≡ n = omega arith in omega (arith, ap (λ (j : ℕ). stride * j) same-i) ];
+          long = put-length b x b′ (at + (2 + more) * n) _ (record { ends = next; holds = same }) (omega (arith, wide, run-fits h)) ∙ g .long;
+          put = rw (add-one n) put;
+        }
+
+    pub far-on : (past : ℕ) → past ≡ stride * n → past + stride ≡ stride * (n + 1)
+    far-on past e = omega (arith, e, ap (λ (j : ℕ). stride * j) (add-one n), mul-suc stride n)
+
+    pub ran-puts : (0 < most → 0 < n) → PutRun image run-shape o last a most b₀ at n b
+    ran-puts any = record { few = g .few; any = any; within = λ i h. rw (shape-stride numbered more stride) (g .within i h); holds = g .put .holds }
+
+-- ---- run after run
 
 module _ (image segments : List ℕ) (l : Layout) (base count : ℕ) where
-  abbrev left : ℕ → ℕ → Listing
-  left n k = listing image segments l n (walkAt base count k)
+  abbrev left : ℕ → ℕ → WholeTable
+  left n k = tableFrom image segments l n (walkAt base count k)
 
-  listing-end : (n k : ℕ) → count ≤ k → left n k ≡ ended 0
-  unfolding listing
-  listing-end zero k h = simp (le-ltb k count h)
-  listing-end (suc n) k h = rw (listing, sym (step-end image segments l (walkAt base count k) h))
+  from-end : (n k : ℕ) → count ≤ k → left n k ≡ ended 0
+  unfolding tableFrom
+  from-end zero k h = simp (le-ltb k count h)
+  from-end (suc n) k h = rw (tableFrom, sym (step-end image segments l (walkAt base count k) h))
 
-  listing-full : (k : ℕ) → k < count → left 0 k ≡ ended 1
-  unfolding listing
-  listing-full k h = simp (lt-ltb k count h)
+  from-full : (k : ℕ) → k < count → left 0 k ≡ ended 1
+  unfolding tableFrom
+  from-full k h = simp (lt-ltb k count h)
 
-  listing-none : (n k : ℕ) → k < count → none ≡ run image segments (entryAt l base k) → left (suc n) k ≡ ended 2
-  unfolding listing
-  listing-none n k h e = rw (listing, sym (step-gives image segments l (walkAt base count k) none e h))
+  from-none : (n k : ℕ) → k < count → none ≡ run image segments (entryAt l base k) → left (suc n) k ≡ ended 2
+  unfolding tableFrom
+  from-none n k h e = rw (tableFrom, sym (step-gives image segments l (walkAt base count k) none e h))
 
-  listing-some : (n k : ℕ) (x : Entry) → k < count → some x ≡ run image segments (entryAt l base k) → left (suc n) k ≡ before x (left n (k + 1))
-  unfolding listing
-  listing-some n k x h e = rw (listing, sym (step-gives image segments l (walkAt base count k) (some x) e h))
+  from-some : (n k : ℕ) (x : Entry) → k < count → some x ≡ run image segments (entryAt l base k) → left (suc n) k ≡ entryThen x (left n (k + 1))
+  unfolding tableFrom
+  from-some n k x h e = rw (tableFrom, sym (step-gives image segments l (walkAt base count k) (some x) e h))
 
   -- some entries are listed, and a walk stands at the next one
-  abbrev after : List ℕ → ℕ → Listing → Listing
+  abbrev after : List ℕ → ℕ → WholeTable → WholeTable
   after t n r = record { numbers = t ++ r .numbers; entries = n + r .entries; stop = r .stop }
 
-  after-none : (r : Listing) → r ≡ after [] 0 r
+  after-none : (r : WholeTable) → r ≡ after [] 0 r
   after-none r = ap (λ (n : ℕ). record { numbers = r .numbers; entries = n; stop = r .stop }) (omega arith)
 
-  after-before : (t : List ℕ) (n : ℕ) (x : Entry) (r : Listing) → after t n (before x r) ≡ after (t ++ entryNumbers x) (n + 1) r
+  after-before : (t : List ℕ) (n : ℕ) (x : Entry) (r : WholeTable) → after t n (entryThen x r) ≡ after (t ++ entryNumbers x) (n + 1) r
   after-before t n x r =
       let e : n + suc (r .entries) ≡ n + 1 + r .entries = omega arith in
       let f : t ++ (entryNumbers x ++ r .numbers) ≡ (t ++ entryNumbers x) ++ r .numbers = sym (append-assoc t (entryNumbers x) (r .numbers)) in
       cc
 
-  before-after : (x : Entry) (t : List ℕ) (n : ℕ) (r : Listing) → before x (after t n r) ≡ after (entryNumbers x ++ t) (suc n) r
+  before-after : (x : Entry) (t : List ℕ) (n : ℕ) (r : WholeTable) → entryThen x (after t n r) ≡ after (entryNumbers x ++ t) (suc n) r
   before-after x t n r =
       let e : suc (n + r .entries) ≡ suc n + r .entries = omega arith in
       let f : entryNumbers x ++ (t ++ r .numbers) ≡ (entryNumbers x ++ t) ++ r .numbers = sym (append-assoc (entryNumbers x) t (r .numbers)) in
       cc
 
   none-listed : (k : ℕ) → left 0 k .numbers ≡ []
-  unfolding listing
+  unfolding tableFrom
   none-listed k = refl
 
-  -- where the list was full, a listing from the entry after its last gives the others
+  -- where the list was full, the table from the entry after its last gives the others
   pub going-on : (n m k : ℕ) → left n k .stop ≡ 1 → left (n + m) k ≡ after (left n k .numbers) n (left m (n + k))
   going-on zero m k e =
       let no-numbers = none-listed k in
@@ -230,23 +337,23 @@ module _ (image segments : List ℕ) (l : Layout) (base count : ℕ) where
   going-on (suc n) m k e = go (going-on n m (k + 1)) (decLt k count)
     where
       never : (s : ℕ) → left (suc n) k ≡ ended s → (s ≡ 1 → ⊥) → left (suc n + m) k ≡ after (left (suc n) k .numbers) (suc n) (left m (suc n + k))
-      never s f z = absurd (z (sym (ap (λ (r : Listing). r .stop) f) ∙ e))
+      never s f z = absurd (z (sym (ap (λ (r : WholeTable). r .stop) f) ∙ e))
 
       given : (left n (k + 1) .stop ≡ 1 → left (n + m) (k + 1) ≡ after (left n (k + 1) .numbers) n (left m (n + (k + 1)))) → k < count
           → (y : Option Entry) → y ≡ run image segments (entryAt l base k) → left (suc n + m) k ≡ after (left (suc n) k .numbers) (suc n) (left m (suc n + k))
-      given ih h none f = never 2 (listing-none n k h f) (λ z. omega arith)
+      given ih h none f = never 2 (from-none n k h f) (λ z. omega arith)
       given ih h (some x) f =
-          let first : left (suc n) k ≡ before x (left n (k + 1)) = listing-some n k x h f in
-          let rest = ih (sym (ap (λ (r : Listing). r .stop) first) ∙ e) in
+          let first : left (suc n) k ≡ entryThen x (left n (k + 1)) = from-some n k x h f in
+          let rest = ih (sym (ap (λ (r : WholeTable). r .stop) first) ∙ e) in
           let next : n + (k + 1) ≡ suc n + k = omega arith in
           let sum : suc n + m ≡ suc (n + m) = omega arith in
-          ap (λ (j : ℕ). left j k) sum ∙ listing-some (n + m) k x h f ∙ ap (before x) rest ∙ before-after x (left n (k + 1) .numbers) n _
-          ∙ rw (ap (λ (r : Listing). r .numbers) first, next)
+          ap (λ (j : ℕ). left j k) sum ∙ from-some (n + m) k x h f ∙ ap (entryThen x) rest ∙ before-after x (left n (k + 1) .numbers) n _
+          ∙ rw (ap (λ (r : WholeTable). r .numbers) first, next)
 
       go : (left n (k + 1) .stop ≡ 1 → left (n + m) (k + 1) ≡ after (left n (k + 1) .numbers) n (left m (n + (k + 1)))) → Dec (k < count)
           → left (suc n + m) k ≡ after (left (suc n) k .numbers) (suc n) (left m (suc n + k))
       go ih (yes h) = given ih h (run image segments (entryAt l base k)) refl
-      go ih (no h) = never 0 (listing-end (suc n) k (omega arith)) (λ z. omega arith)
+      go ih (no h) = never 0 (from-end (suc n) k (omega arith)) (λ z. omega arith)
 
   module _ (b₀ : List ℕ) (k₀ : ℕ) where
     abbrev most : ℕ
@@ -276,33 +383,33 @@ module _ (image segments : List ℕ) (l : Layout) (base count : ℕ) where
     module _ (k n : ℕ) (b : List ℕ) (g : Going k n b) where
       -- no more: what the call gives back, and what the list holds
       stops : (s : ℕ) → left (most - n) k ≡ ended s
-          → (record { entries = n; stop = s } ≡ counts (left most k₀)) × (b ≡ atStart (numbersOf (left most k₀)) b₀)
+          → (record { entries = n; stop = s } ≡ counts (left most k₀)) × (b ≡ atStart (tableNumbers (left most k₀)) b₀)
       stops s e =
           let len : length (take (width l * n) b) ≡ width l * n = length-take-le (width l * n) b (omega (arith, fits-in n (g .few), g .long)) in
           let all : left most k₀ ≡ after (take (width l * n) b) n (ended s) = g .goes ∙ ap (after (take (width l * n) b) n) e in
           rw (all, append-nil, len) (ap (λ (j : ℕ). record { entries = j; stop = s }) (omega arith), sym (take-append-drop (width l * n) b) ∙ ap (λ (x : List ℕ). take (width l * n) b ++ x) (g .rest))
 
-      pub stops-end : count ≤ k → (record { entries = n; stop = 0 } ≡ counts (left most k₀)) × (b ≡ atStart (numbersOf (left most k₀)) b₀)
-      stops-end h = stops 0 (listing-end (most - n) k h)
+      pub stops-end : count ≤ k → (record { entries = n; stop = 0 } ≡ counts (left most k₀)) × (b ≡ atStart (tableNumbers (left most k₀)) b₀)
+      stops-end h = stops 0 (from-end (most - n) k h)
 
       pub stops-full : n ≡ most → (s : ℕ) → (k < count → s ≡ 1) × (count ≤ k → s ≡ 0)
-          → (record { entries = n; stop = s } ≡ counts (left most k₀)) × (b ≡ atStart (numbersOf (left most k₀)) b₀)
+          → (record { entries = n; stop = s } ≡ counts (left most k₀)) × (b ≡ atStart (tableNumbers (left most k₀)) b₀)
       stops-full e s f = go (decLt k count)
         where
           none-left : most - n ≡ 0
           none-left = omega arith
 
-          go : Dec (k < count) → (record { entries = n; stop = s } ≡ counts (left most k₀)) × (b ≡ atStart (numbersOf (left most k₀)) b₀)
-          go (yes h) = stops s (ap (λ (j : ℕ). left j k) none-left ∙ listing-full k h ∙ ap ended (sym (f .0 h)))
-          go (no h) = stops s (listing-end (most - n) k (omega arith) ∙ ap ended (sym (f .1 (omega arith))))
+          go : Dec (k < count) → (record { entries = n; stop = s } ≡ counts (left most k₀)) × (b ≡ atStart (tableNumbers (left most k₀)) b₀)
+          go (yes h) = stops s (ap (λ (j : ℕ). left j k) none-left ∙ from-full k h ∙ ap ended (sym (f .0 h)))
+          go (no h) = stops s (from-end (most - n) k (omega arith) ∙ ap ended (sym (f .1 (omega arith))))
 
       module _ (h : k < count) (m : n < most) where
         one-left : most - n ≡ suc (most - (n + 1))
         one-left = omega arith
 
         pub stops-none : none ≡ run image segments (entryAt l base k)
-            → (record { entries = n; stop = 2 } ≡ counts (left most k₀)) × (b ≡ atStart (numbersOf (left most k₀)) b₀)
-        stops-none e = stops 2 (ap (λ (j : ℕ). left j k) one-left ∙ listing-none (most - (n + 1)) k h e)
+            → (record { entries = n; stop = 2 } ≡ counts (left most k₀)) × (b ≡ atStart (tableNumbers (left most k₀)) b₀)
+        stops-none e = stops 2 (ap (λ (j : ℕ). left j k) one-left ∙ from-none (most - (n + 1)) k h e)
 
         pub goes-on : (x : Entry) (b′ : List ℕ) → some x ≡ run image segments (entryAt l base k) → length (entryNumbers x) ≡ width l
             → b′ ≡ pasted b (width l * n) (entryNumbers x) → Going (k + 1) (n + 1) b′
@@ -317,13 +424,47 @@ module _ (image segments : List ℕ) (l : Layout) (base count : ℕ) where
             let front : take (width l * (n + 1)) b′ ≡ take at b ++ t = ap (take (width l * (n + 1))) split ∙ take-at (take at b ++ t) _ _ both in
             let back : drop (width l * (n + 1)) b′ ≡ drop (at + length t) b = ap (drop (width l * (n + 1))) split ∙ drop-at (take at b ++ t) _ _ both in
             let last : at + length t ≡ width l * (n + 1) = omega (arith, next, w) in
-            let step : left (most - n) k ≡ before x (left (most - (n + 1)) (k + 1)) = ap (λ (j : ℕ). left j k) one-left ∙ listing-some (most - (n + 1)) k x h e in
+            let step : left (most - n) k ≡ entryThen x (left (most - (n + 1)) (k + 1)) = ap (λ (j : ℕ). left j k) one-left ∙ from-some (most - (n + 1)) k x h e in
             record {
               few = omega arith;
               long = put-length b t b′ at (at + length t) (record { ends = refl; holds = eb }) inside ∙ g .long;
               rest = back ∙ sym (drop-drop (length t) at b) ∙ ap (drop (length t)) (g .rest) ∙ drop-drop (length t) at b₀ ∙ ap (λ (j : ℕ). drop j b₀) last;
               goes = g .goes ∙ ap (after (take at b) n) step ∙ after-before (take at b) n x _ ∙ ap (λ (s : List ℕ). after s (n + 1) (left (most - (n + 1)) (k + 1))) (sym front);
             }
+
+    -- a run of entries
+    module _ (k n : ℕ) (b : List ℕ) (g : Going k n b) (o : ℕ) where
+      abbrev with-run : ℕ → List ℕ
+      with-run r = pasted b (width l * n) (runNumbers image l o (entryAddress l base k) r)
+
+      pub goes-along : (r : ℕ) → n + r ≤ most → k + r ≤ count
+          → ((i : ℕ) → i < r → some (o + l .stride * i) ≡ entryPlace image segments (entrySize l) (entryAddress l base k + l .stride * i)) → Going (k + r) (n + r) (with-run r)
+      goes-along zero m h f =
+          let ek : k + 0 ≡ k = omega arith in
+          let en : n + 0 ≡ n = omega arith in
+          rw (ek, en, ← put-none b (width l * n) .holds) g
+      goes-along (suc r) m h f =
+          let x : Entry = entryOf l (entryAddress l base k + l .stride * r) (take (entrySize l) (drop (o + l .stride * r) image)) in
+          let there : entryAddress l base k + l .stride * r ≡ entryAddress l base (k + r) = omega (arith, mul-add (l .stride) k r) in
+          let is : some x ≡ run image segments (entryAt l base (k + r)) =
+          ap (λ (z : ℕ). some (entryOf l z (take (entrySize l) (drop (o + l .stride * r) image)))) there
+          ∙ a-place image segments l base (k + r) (o + l .stride * r) (f r (omega arith) ∙ ap (entryPlace image segments (entrySize l)) there) in
+          let so-far : length (runNumbers image l o (entryAddress l base k) r) ≡ width l * r = run-length image l o (entryAddress l base k) r in
+          let at : width l * (n + r) ≡ width l * n + length (runNumbers image l o (entryAddress l base k) r) = omega (arith, mul-add (width l) n r, so-far) in
+          let inside : width l * n + length (runNumbers image l o (entryAddress l base k) r) ≤ length b = omega (arith, at, g .long, fits-in (n + r) (omega arith)) in
+          let put : with-run (suc r) ≡ pasted (with-run r) (width l * (n + r)) (entryNumbers x) =
+          sym (put-then b (runNumbers image l o (entryAddress l base k) r) (entryNumbers x) (with-run r) _ (width l * n) (width l * (n + r)) _ (record { ends = at; holds = refl }) (record { ends = refl; holds = refl }) inside .holds) in
+          let ek : k + suc r ≡ k + r + 1 = omega arith in
+          let en : n + suc r ≡ n + r + 1 = omega arith in
+          rw (ek, en)
+          (goes-on (k + r) (n + r) (with-run r) (goes-along r (omega arith) (omega arith) (λ i j. f i (omega arith))) (omega arith) (omega arith) x (with-run (suc r)) is (ap suc (words-long (l .words) _ 0 _)) put)
+
+-- so many entries more fit
+pub room-for : (b : List ℕ) (w n r : ℕ) → n + r ≤ length b / w → w * n + w * r ≤ length b
+room-for b w n r h = omega (arith, mul-add w n r, mul-le-mul-left w h, mul-div-le (length b) w)
+
+pub room-few : (b : List ℕ) (w n : ℕ) → n ≤ length b / w → n ≤ length b
+room-few b w n h = omega (arith, h, div-le-self (length b) w)
 
 -- ---- the same by the shape's numbers, as the code has them
 
@@ -340,18 +481,12 @@ module _ (image segments : List ℕ) (numbered : Bool) (more stride base count :
   below : (n : ℕ) → n < length b₀ / (2 + more) → n < length b₀ / width l
   below n h = rw wide h
 
-  pub room-for : (n : ℕ) → n < length b₀ / (2 + more) → (2 + more) * n + (2 + more) ≤ length b₀
-  room-for n h = rw wide at (fits image segments l base count b₀ k₀ n (below n h))
-
-  pub room-few : (n : ℕ) → n < length b₀ / (2 + more) → n < length b₀
-  room-few n h = omega (arith, h, div-le-self (length b₀) (2 + more))
-
   by-size : (k : ℕ) (x : Option ℕ) → x ≡ entryPlace image segments (4 + 4 * more) (at k) → x ≡ entryPlace image segments (entrySize l) (entryAddress l base k)
   by-size k x e = rw (shape-size numbered more stride small, shape-stride numbered more stride) e
 
   module _ (k n : ℕ) (b : List ℕ) (g : Going image segments l base count b₀ k₀ k n b) where
     abbrev Done : ℕ → Type 0
-    Done s = (record { entries = n; stop = s } ≡ counts (listing image segments l (length b₀ / width l) (walkAt base count k₀))) × (b ≡ atStart (numbersOf (listing image segments l (length b₀ / width l) (walkAt base count k₀))) b₀)
+    Done s = Lists (tableFrom image segments l (length b₀ / width l) (walkAt base count k₀)) b₀ (record { entries = n; stop = s }) b
 
     pub table-full : (s : ℕ) → length b₀ / (2 + more) ≤ n → (k < count → s ≡ 1) × (count ≤ k → s ≡ 0) → Done s
     table-full s h f = stops-full image segments l base count b₀ k₀ k n b g (le-antisymm (g .few) (rw wide h)) s f
@@ -372,42 +507,81 @@ module _ (image segments : List ℕ) (numbered : Bool) (more stride base count :
           eb ∙ rw (wide, shape-size numbered more stride small, shape-stride numbered more stride, same, shape-words numbered more stride) in
           goes-on image segments l base count b₀ k₀ k n b g h (below n m) x b′ is (ap suc (words-long (l .words) (entryAddress l base k) 0 _)) put
 
+    pub table-run : (o last a most r : ℕ) (b′ : List ℕ) → Opens image segments (4 + 4 * more) (at k) (Window.At o last) → a ≡ at k % 2 ^ 64 → most ≤ count - k
+        → most ≤ length b₀ / (2 + more) - n → k < count → PutRun image l o last a most b ((2 + more) * n) r b′ → Going image segments l base count b₀ k₀ (k + r) (n + r) b′
+    table-run o last a most r b′ w ea mc mr h p =
+        let here = place-in image segments (4 + 4 * more) (at k) o (opens-here image segments (4 + 4 * more) (at k) o last w) .0 in
+        let same : a ≡ entryAddress l base k = ea ∙ mod-eq-of-lt (omega arith) ∙ ap (λ (j : ℕ). base + j * k) (sym (shape-stride numbered more stride)) in
+        let put : b′ ≡ pasted b (width l * n) (runNumbers image l o (entryAddress l base k) r) = p .holds ∙ rw (wide, same) in
+        let far : (i : ℕ) → i < r → some (o + l .stride * i) ≡ entryPlace image segments (entrySize l) (entryAddress l base k + l .stride * i) =
+        λ i j. rw (shape-size numbered more stride small, shape-stride numbered more stride) (w (stride * i) (rw (shape-stride numbered more stride) at (p .within i j))) in
+        let few : length b₀ / (2 + more) ≡ length b₀ / width l = rw wide in
+        rw put (goes-along image segments l base count b₀ k₀ k n b g o r (omega (arith, p .few, g .few, few)) (omega (arith, p .few)) far)
+
+  -- a single entry
+  abbrev only : WholeTable
+  only = tableFrom image segments l (length b₀ / width l) (walkAt base count k₀)
+
+  module _ (h : k₀ + 1 ≡ count) where
+    pub one-full : length b₀ < 2 + more → Lists only b₀ (record { entries = 0; stop = 1 }) b₀
+    one-full m =
+        table-full k₀ 0 b₀ (start-going image segments l base count b₀ k₀) 1 (omega (arith, div-eq-of-lt m)) ((λ _. refl), λ z. absurd (omega arith))
+
+    module _ (m : 2 + more ≤ length b₀) where
+      one-fits : 0 < length b₀ / (2 + more)
+      one-fits = omega (arith, div-eq-sub-div {m = 2 + more} {n = length b₀} (omega arith) m)
+
+      pub one-none : none ≡ entryPlace image segments (4 + 4 * more) (at k₀) → Lists only b₀ (record { entries = 0; stop = 2 }) b₀
+      one-none e = table-none k₀ 0 b₀ (start-going image segments l base count b₀ k₀) (omega arith) one-fits e
+
+      pub one-some : (o last a : ℕ) (b′ : List ℕ) → Opens image segments (4 + 4 * more) (at k₀) (Window.At o last) → a ≡ at k₀ % 2 ^ 64
+          → b′ ≡ pasted b₀ 0 (entryNumbers (entryOf (shape numbered more 0) a (take (4 + 4 * more) (drop o image)))) → Lists only b₀ (record { entries = 1; stop = 0 }) b′
+      one-some o last a b′ w ea eb =
+          stops-end image segments l base count b₀ k₀ (k₀ + 1) 1 b′
+          (table-some k₀ 0 b₀ (start-going image segments l base count b₀ k₀) (omega arith) one-fits o a b′ (opens-here image segments (4 + 4 * more) (at k₀) o last w) ea (rw (mul-zero (2 + more)) eb))
+          (omega arith)
+
+-- a shape with more pointers than two is that with two
+pub lists-least : (image segments : List ℕ) (numbered : Bool) (more r stride : ℕ) (c : EntryCursor) (b b′ : List ℕ) (x : Listed) → (more ≤ 2 → r ≡ more) × (2 ≤ more → r ≡ 2)
+    → Lists (tableIn image segments (shape numbered r stride) c (length b)) b x b′ → Lists (tableIn image segments (shape numbered more stride) c (length b)) b x b′
+lists-least image segments numbered more r stride c b b′ x e h = subst (λ (l : Layout). Lists (tableIn image segments l c (length b)) b x b′) (shape-least numbered more r stride e) h
+
 -- ---- the calls
 
-module _ (segments : List ℕ) (r : Listing) (b : List ℕ) where
-  abbrev G : Guarded Listing
-  G = guarded segments (answered r)
+module _ (segments : List ℕ) (t : WholeTable) (b : List ℕ) where
+  abbrev G : Guarded WholeTable
+  G = guarded segments (answered t)
 
-  pub table-ragged : (length segments % 4 ≡ 0 → ⊥) → (refused 1 ≡ mapped counts G) × (b ≡ overwritten b (answerOf (mapped numbersOf G)))
-  table-ragged h = rw (sym (ragged segments (answered r) h)) (refl, refl)
+  pub table-ragged : (x : TableAnswer) → refused 1 ≡ tableAnswer x → (length segments % 4 ≡ 0 → ⊥) → GivesTable G b x b
+  table-ragged x e h = record { answers = sym e ∙ ap (mapped counts) (ragged segments (answered t) h); holds = ap (λ (g : Guarded WholeTable). bufferWith g b) (ragged segments (answered t) h) }
 
-  pub table-whole : (x : Counts) (b′ : List ℕ) → (x ≡ counts r) × (b′ ≡ atStart (numbersOf r) b) → length segments % 4 ≡ 0
-      → (answered x ≡ mapped counts G) × (b′ ≡ overwritten b (answerOf (mapped numbersOf G)))
-  table-whole x b′ e h = rw (sym (whole segments (answered r) h)) (ap answered (e .0), e .1)
+  pub table-whole : (x : Listed) (b′ : List ℕ) → Lists t b x b′ → length segments % 4 ≡ 0 → GivesTable G b (TableAnswer.Listed x) b′
+  table-whole x b′ e h =
+      record { answers = ap answered (e .0) ∙ ap (mapped counts) (whole segments (answered t) h); holds = e .1 ∙ ap (λ (g : Guarded WholeTable). bufferWith g b) (whole segments (answered t) h) }
 
--- ---- what a listing says
+-- ---- what a table says
 
 -- the numbers of the entries that stepping gives
 abbrev pub numbersIn : List Entry → List ℕ
 numbersIn [] = []
 numbersIn (e ∷ es) = entryNumbers e ++ numbersIn es
 
--- a listing of at most so many entries is what so many steps list, entry by entry
+-- a table of at most so many entries is what so many steps list, entry by entry
 module _ (image segments : List ℕ) (l : Layout) where
   abbrev Told : ℕ → EntryCursor → Type 0
   Told n c =
-      (listing image segments l n c .numbers ≡ numbersIn (listed image segments l n c))
-      × (listing image segments l n c .entries ≡ length (listed image segments l n c))
+      (tableFrom image segments l n c .numbers ≡ numbersIn (listed image segments l n c))
+      × (tableFrom image segments l n c .entries ≡ length (listed image segments l n c))
 
-  pub listing-listed : (n : ℕ) (c : EntryCursor) → Told n c
-  unfolding listing listed
-  listing-listed zero c = (refl, refl)
-  listing-listed (suc n) c = go (listing-listed n) (entryStep image segments l c) refl
+  pub table-listed : (n : ℕ) (c : EntryCursor) → Told n c
+  unfolding tableFrom listed
+  table-listed zero c = (refl, refl)
+  table-listed (suc n) c = go (table-listed n) (entryStep image segments l c) refl
     where
       found : ((c : EntryCursor) → Told n c) → (s : Step) → entryStep image segments l c ≡ some s → (y : Option Entry) → s .found ≡ y → Told (suc n) c
-      found ih s t none e = rw (listing, listed, t, e) (refl, refl)
-      found ih s t (some x) e = rw (listing, listed, t, e) (ap (λ (m : List ℕ). entryNumbers x ++ m) (ih (s .next) .0), ap suc (ih (s .next) .1))
+      found ih s t none e = rw (tableFrom, listed, t, e) (refl, refl)
+      found ih s t (some x) e = rw (tableFrom, listed, t, e) (ap (λ (m : List ℕ). entryNumbers x ++ m) (ih (s .next) .0), ap suc (ih (s .next) .1))
 
       go : ((c : EntryCursor) → Told n c) → (x : Option Step) → entryStep image segments l c ≡ x → Told (suc n) c
-      go ih none t = rw (listing, listed, t) (refl, refl)
+      go ih none t = rw (tableFrom, listed, t) (refl, refl)
       go ih (some s) t = found ih s t (s .found) refl

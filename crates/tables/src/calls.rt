@@ -1,12 +1,7 @@
 // The calls, by the kind of the table.
-ghost use mathlib.Core.Path.{_≡_};
-ghost use lib.ListN.{length};
-ghost use Rattle.refusal.specs.Refusal.{answered, mapped, answerOf};
-ghost use Rattle.util.specs.Buffer.{overwritten};
 ghost use Rattle.vtable.specs.Entries.{method, override, defaultOverride, prespecialization};
 ghost use Rattle.field.specs.Records.{recordLayout, entriesOf};
-ghost use Rattle.listing.specs.Calls.{guarded};
-ghost use Rattle.tables.specs.Tables.{tableIn, counts, numbersOf, tableAnswer};
+ghost use Rattle.tables.specs.Tables.{shape, guardedTable, GivesTable};
 use crate::list::Listed;
 use crate::list::list_entries;
 use field::FieldRecordIter;
@@ -18,6 +13,24 @@ pub enum TableAnswer {
     Refused(Refusal),
 }
 
+// By the shape of an entry: is its first word a number, how many pointers follow, how many bytes are from one entry to the next.
+fn table(
+    image: &[u8],
+    segments: &[u64],
+    cursor: EntryCursor,
+    numbered: bool,
+    more: u32,
+    stride: u32,
+    buffer: &mut [u64],
+) -> TableAnswer
+    ensures { λ r. ⌜ GivesTable (guardedTable (now (image .entry)) (now (segments .entry)) (shape numbered more stride) cursor (now (buffer .entry))) (now (buffer .entry)) r (now (buffer .exit)) ⌝ }
+{
+    if segments.len() % 4 != 0 {
+        return TableAnswer::Refused(Refusal::RaggedSegments);
+    }
+    TableAnswer::Listed(list_entries(image, segments, cursor, numbered, more, stride, buffer))
+}
+
 // Three numbers for each method: its address, its flags, its implementation's address.
 pub fn methods(
     image: &[u8],
@@ -25,13 +38,9 @@ pub fn methods(
     cursor: EntryCursor,
     buffer: &mut [u64],
 ) -> TableAnswer
-    ensures { λ r. ⌜ tableAnswer r ≡ mapped counts (guarded (now (segments .entry)) (answered (tableIn (now (image .entry)) (now (segments .entry)) method cursor (length (now (buffer .entry)))))) ⌝ }
-    ensures { λ _. ⌜ now (buffer .exit) ≡ overwritten (now (buffer .entry)) (answerOf (mapped numbersOf (guarded (now (segments .entry)) (answered (tableIn (now (image .entry)) (now (segments .entry)) method cursor (length (now (buffer .entry)))))))) ⌝ }
+    ensures { λ r. ⌜ GivesTable (guardedTable (now (image .entry)) (now (segments .entry)) method cursor (now (buffer .entry))) (now (buffer .entry)) r (now (buffer .exit)) ⌝ }
 {
-    if segments.len() % 4 != 0 {
-        return TableAnswer::Refused(Refusal::RaggedSegments);
-    }
-    TableAnswer::Listed(list_entries(image, segments, cursor, true, 1, 8, buffer))
+    table(image, segments, cursor, true, 1, 8, buffer)
 }
 
 // Four for each override: its address, those of the class, the method and the implementation.
@@ -41,13 +50,9 @@ pub fn overrides(
     cursor: EntryCursor,
     buffer: &mut [u64],
 ) -> TableAnswer
-    ensures { λ r. ⌜ tableAnswer r ≡ mapped counts (guarded (now (segments .entry)) (answered (tableIn (now (image .entry)) (now (segments .entry)) override cursor (length (now (buffer .entry)))))) ⌝ }
-    ensures { λ _. ⌜ now (buffer .exit) ≡ overwritten (now (buffer .entry)) (answerOf (mapped numbersOf (guarded (now (segments .entry)) (answered (tableIn (now (image .entry)) (now (segments .entry)) override cursor (length (now (buffer .entry)))))))) ⌝ }
+    ensures { λ r. ⌜ GivesTable (guardedTable (now (image .entry)) (now (segments .entry)) override cursor (now (buffer .entry))) (now (buffer .entry)) r (now (buffer .exit)) ⌝ }
 {
-    if segments.len() % 4 != 0 {
-        return TableAnswer::Refused(Refusal::RaggedSegments);
-    }
-    TableAnswer::Listed(list_entries(image, segments, cursor, false, 2, 12, buffer))
+    table(image, segments, cursor, false, 2, 12, buffer)
 }
 
 // Three for each default override: its address, those of the method and the implementation.
@@ -57,13 +62,9 @@ pub fn default_overrides(
     cursor: EntryCursor,
     buffer: &mut [u64],
 ) -> TableAnswer
-    ensures { λ r. ⌜ tableAnswer r ≡ mapped counts (guarded (now (segments .entry)) (answered (tableIn (now (image .entry)) (now (segments .entry)) defaultOverride cursor (length (now (buffer .entry)))))) ⌝ }
-    ensures { λ _. ⌜ now (buffer .exit) ≡ overwritten (now (buffer .entry)) (answerOf (mapped numbersOf (guarded (now (segments .entry)) (answered (tableIn (now (image .entry)) (now (segments .entry)) defaultOverride cursor (length (now (buffer .entry)))))))) ⌝ }
+    ensures { λ r. ⌜ GivesTable (guardedTable (now (image .entry)) (now (segments .entry)) defaultOverride cursor (now (buffer .entry))) (now (buffer .entry)) r (now (buffer .exit)) ⌝ }
 {
-    if segments.len() % 4 != 0 {
-        return TableAnswer::Refused(Refusal::RaggedSegments);
-    }
-    TableAnswer::Listed(list_entries(image, segments, cursor, false, 1, 8, buffer))
+    table(image, segments, cursor, false, 1, 8, buffer)
 }
 
 // Two for each prespecialization: its address, and that of the metadata.
@@ -73,13 +74,9 @@ pub fn prespecializations(
     cursor: EntryCursor,
     buffer: &mut [u64],
 ) -> TableAnswer
-    ensures { λ r. ⌜ tableAnswer r ≡ mapped counts (guarded (now (segments .entry)) (answered (tableIn (now (image .entry)) (now (segments .entry)) prespecialization cursor (length (now (buffer .entry)))))) ⌝ }
-    ensures { λ _. ⌜ now (buffer .exit) ≡ overwritten (now (buffer .entry)) (answerOf (mapped numbersOf (guarded (now (segments .entry)) (answered (tableIn (now (image .entry)) (now (segments .entry)) prespecialization cursor (length (now (buffer .entry)))))))) ⌝ }
+    ensures { λ r. ⌜ GivesTable (guardedTable (now (image .entry)) (now (segments .entry)) prespecialization cursor (now (buffer .entry))) (now (buffer .entry)) r (now (buffer .exit)) ⌝ }
 {
-    if segments.len() % 4 != 0 {
-        return TableAnswer::Refused(Refusal::RaggedSegments);
-    }
-    TableAnswer::Listed(list_entries(image, segments, cursor, false, 0, 4, buffer))
+    table(image, segments, cursor, false, 0, 4, buffer)
 }
 
 // Four for each record: its address, its flags, the addresses of the type's name and of the field's.
@@ -89,16 +86,12 @@ pub fn field_records(
     walk: FieldRecordIter,
     buffer: &mut [u64],
 ) -> TableAnswer
-    ensures { λ r. ⌜ tableAnswer r ≡ mapped counts (guarded (now (segments .entry)) (answered (tableIn (now (image .entry)) (now (segments .entry)) (recordLayout (walk .«entry_size»)) (entriesOf walk) (length (now (buffer .entry)))))) ⌝ }
-    ensures { λ _. ⌜ now (buffer .exit) ≡ overwritten (now (buffer .entry)) (answerOf (mapped numbersOf (guarded (now (segments .entry)) (answered (tableIn (now (image .entry)) (now (segments .entry)) (recordLayout (walk .«entry_size»)) (entriesOf walk) (length (now (buffer .entry)))))))) ⌝ }
+    ensures { λ r. ⌜ GivesTable (guardedTable (now (image .entry)) (now (segments .entry)) (recordLayout (walk .«entry_size»)) (entriesOf walk) (now (buffer .entry))) (now (buffer .entry)) r (now (buffer .exit)) ⌝ }
 {
-    if segments.len() % 4 != 0 {
-        return TableAnswer::Refused(Refusal::RaggedSegments);
-    }
     let cursor = EntryCursor {
         base_va: walk.base_va,
         count: walk.count,
         next: walk.cursor,
     };
-    TableAnswer::Listed(list_entries(image, segments, cursor, true, 2, walk.entry_size, buffer))
+    table(image, segments, cursor, true, 2, walk.entry_size, buffer)
 }

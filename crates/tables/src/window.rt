@@ -1,15 +1,14 @@
-// Entries that lie one after the other in the image, found without a walk over the segments for each.
+// Where an entry lies in the image, and how far on from it entries lie there one after the other, by one walk over the segments.
 ghost use mathlib.Core.Path.{_≡_};
-ghost use Prim.Native.Nat.{_≤_};
-ghost use Rattle.tables.specs.Tables.{Within, Opens};
+ghost use Prim.Native.Nat.{_+_, _-_, _*_, _^_, _≤_, _<_};
+ghost use Rattle.tables.specs.Tables.{Opens};
+use runtime::Bytes;
 use segment::Around;
-use segment::Mapping;
 
-// The entries that start at `length` addresses from `start` on; the first of these addresses is at `place` of the image.
-pub struct Window {
-    pub start: u64,
-    pub length: u64,
-    pub place: usize,
+// An entry at an address is at `place`, and one that starts at most `last` bytes further on is as far from there.
+pub enum Window {
+    At { place: usize, last: u64 },
+    Nothing,
 }
 
 fn least(a: u64, b: u64) -> u64
@@ -18,62 +17,74 @@ fn least(a: u64, b: u64) -> u64
     if a < b { a } else { b }
 }
 
-fn closed() -> Window
-    ensures { λ r. ⌜ r .length ≡ 0 ⌝ }
+// Of one entry alone.
+fn window_of_one(image: &[u8], segments: &[u64], address: u64, size: usize) -> Window
+    requires { ⌜ address + (size - 4) < 2 ^ 64 ⌝ }
+    ensures { λ r. ⌜ Opens (now (image .entry)) (now (segments .entry)) size address r ⌝ }
 {
-    Window {
-        start: 0,
-        length: 0,
-        place: 0,
+    match runtime::find_bytes(image, segments, address, size) {
+        Bytes::At(place) => Window::At { place, last: 0 },
+        Bytes::Nothing => Window::Nothing,
     }
 }
 
-// Of a mapping's addresses those at which `size` bytes lie in the image and below 2^64.
-fn window_in(image: &[u8], mapping: Mapping, size: usize) -> Window
-    requires { ⌜ (4 ≤ size) × (size ≤ 12) ⌝ }
-    ensures { λ r. ⌜ Within (now (image .entry)) mapping size r ⌝ }
-{
-    if mapping.fileoff > image.len() as u64 {
-        return closed();
-    }
-    let place = mapping.fileoff as usize;
-    let left = image.len() - place;
-    if left < size {
-        return closed();
-    }
-    let above = u64::MAX - mapping.vmaddr;
-    if above < size as u64 {
-        return closed();
-    }
-    Window {
-        start: mapping.vmaddr,
-        length: least(
-            mapping.size,
-            least((left - size) as u64 + 1, above - size as u64),
-        ),
-        place,
-    }
-}
-
-// Around an address.
-fn window_at(image: &[u8], segments: &[u64], address: u64, size: usize) -> Window
-    requires { ⌜ (4 ≤ size) × (size ≤ 12) ⌝ }
-    ensures { λ r. ⌜ Opens (now (image .entry)) (now (segments .entry)) size r ⌝ }
+// With all that is in the file from the entry's address on.
+fn window_of_all(image: &[u8], segments: &[u64], address: u64, size: usize) -> Window
+    requires { ⌜ (4 ≤ size) × (address + (size - 4) < 2 ^ 64) ⌝ }
+    ensures { λ r. ⌜ Opens (now (image .entry)) (now (segments .entry)) size address r ⌝ }
 {
     match segment::locate(segments, address) {
-        Around::Mapping(mapping) => window_in(image, mapping, size),
-        Around::Nothing => closed(),
+        Around::Mapping(mapping) => {
+            let before = address - mapping.vmaddr;
+            let from = mapping.fileoff as usize;
+            if image.len() < from {
+                return Window::Nothing;
+            }
+            if image.len() - from < before as usize {
+                return Window::Nothing;
+            }
+            let place = from + before as usize;
+            let left = image.len() - place;
+            if left < size {
+                return Window::Nothing;
+            }
+            let above = u64::MAX - (size - 4) as u64 - address;
+            Window::At {
+                place,
+                last: least(
+                    mapping.size - before - 1,
+                    least((left - size) as u64, above),
+                ),
+            }
+        }
+        Around::Nothing => Window::Nothing,
     }
 }
 
-// For a table of so many entries. A window costs as much as looking some entries up one by one, so a short table has none.
-pub fn window_over(image: &[u8], segments: &[u64], address: u64, size: usize, count: u32) -> Window
-    requires { ⌜ (4 ≤ size) × (size ≤ 12) ⌝ }
-    ensures { λ r. ⌜ Opens (now (image .entry)) (now (segments .entry)) size r ⌝ }
+// Of entry `k`, with `more` words after its first. The window of one entry takes less time than that of all.
+pub fn window_at(
+    image: &[u8],
+    segments: &[u64],
+    base_va: u64,
+    stride: u32,
+    k: u32,
+    more: u32,
+    alone: bool,
+) -> Window
+    ensures { λ r. ⌜ Opens (now (image .entry)) (now (segments .entry)) (4 + 4 * more) («base_va» + stride * k) r ⌝ }
 {
-    if count < 4 {
-        closed()
+    let size = 4 + 4 * (more as usize);
+    let before = (stride as u64) * (k as u64);
+    if u64::MAX - base_va < before {
+        return Window::Nothing;
+    }
+    let address = base_va + before;
+    if u64::MAX - address < (size - 4) as u64 {
+        return Window::Nothing;
+    }
+    if alone {
+        window_of_one(image, segments, address, size)
     } else {
-        window_at(image, segments, address, size)
+        window_of_all(image, segments, address, size)
     }
 }

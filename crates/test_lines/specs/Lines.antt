@@ -52,21 +52,38 @@ unfoldable pub hexNumber : List ℕ → Option ℕ
 hexNumber s = cond (ltb 0 (length s) && allDigits s && ltb (hexValue 0 s) (2 ^ 64)) (some (hexValue 0 s)) none
 
 -- the byte of each pair of digits, the high digit first
-unfoldable pub pairBytes : List ℕ → List ℕ
-pairBytes [] = []
-pairBytes (h ∷ []) = []
-pairBytes (h ∷ (l ∷ s)) = (digitOf h * 16 + digitOf l) ∷ pairBytes s
+unfoldable pub digitPairs : List ℕ → List ℕ
+digitPairs [] = []
+digitPairs (h ∷ []) = []
+digitPairs (h ∷ (l ∷ s)) = (digitOf h * 16 + digitOf l) ∷ digitPairs s
 
 -- the bytes of a text: at least one pair of digits, and only pairs; `-` (45) alone stands for no bytes
 unfoldable pub hexBytes : List ℕ → Option (List ℕ)
 hexBytes s =
     cond (equals s (45 ∷ [])) (some [])
-    (cond (ltb 0 (length s) && eqb (length s % 2) 0 && allDigits s) (some (pairBytes s)) none)
+    (cond (ltb 0 (length s) && eqb (length s % 2) 0 && allDigits s) (some (digitPairs s)) none)
 
 -- bytes, if a buffer has room for them
 unfoldable pub fitting : List ℕ → Option (List ℕ) → Option (List ℕ)
 fitting out none = none
 fitting out (some t) = cond (leb (length t) (length out)) (some t) none
+
+-- the numbers of the fields `from`, `from` + `step` and so on, at most `n`: up to the first that is no number
+unfoldable pub numbersIn : List ℕ → ℕ → ℕ → ℕ → List ℕ
+numbersIn s from step zero = []
+numbersIn s from step (suc n) = elim (hexNumber (fieldOf s from)) [ none ↦ [] | some v ↦ v ∷ numbersIn s (from + step) step n ]
+
+-- a list's count is in the field `from`, and its numbers are in the fields after that: those that are written to a list of `room` numbers, and their
+-- count, if there are so many
+unfoldable pub listNumbers : List ℕ → ℕ → ℕ → List ℕ
+listNumbers s from room = elim (hexNumber (fieldOf s from)) [ none ↦ [] | some n ↦ cond (leb n room) (numbersIn s (from + 1) 1 n) [] ]
+
+unfoldable pub listCount : List ℕ → ℕ → ℕ → Option ℕ
+listCount s from room =
+    elim (hexNumber (fieldOf s from)) [
+      | none ↦ none
+      | some n ↦ cond (leb n room && eqb (length (numbersIn s (from + 1) 1 n)) n) (some n) none
+    ]
 
 -- what an answer tells: the number that was read, or how many bytes or numbers were
 abbrev pub numberOf : Number → Option ℕ

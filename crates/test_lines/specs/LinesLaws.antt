@@ -5,14 +5,14 @@ use native.Mathlib.Numerals.{add-one}
 use native.Mathlib.Decide.{decLe, ℕ-discrete}
 use native.Mathlib.Omega.{arith}
 use mathlib.Core.Path.{_≡_, refl, sym, _∙_, ap}
-use mathlib.Core.List.{List, [], _∷_, _++_}
-use mathlib.Core.Bool.{true, false, _&&_, and-false, and-eq-true-iff}
+use mathlib.Core.List.{List, [], _∷_, _++_, append-assoc}
+use mathlib.Core.Bool.{true, false, cond, _&&_, and-false, and-eq-true-iff}
 use mathlib.Core.Option.{Option, some, none, Option·map}
-use lib.ListN.{length, take, drop, getD, set, length-drop, drop-of-length-le}
-use lib.Seq.{drop-cons, drop-drop, paste-suc, take-length}
+use lib.ListN.{length, take, drop, getD, set, length-drop, length-set, take-append-drop, drop-of-length-le}
+use lib.Seq.{drop-cons, drop-drop, length-take-le, paste-suc, take-length}
 use lib.Dec.{leb, ltb, eqb}
 use borrow.Author.Tests.{le-leb, lt-leb, lt-ltb, le-ltb, ltb-true, eq-eqb, ne-eqb, eqb-true}
-use Rattle.test_lines.specs.Lines.{span, findFrom, fieldOf, firstOf, equals, digitOf, allDigits, hexValue, hexNumber, pairBytes, hexBytes, fitting}
+use Rattle.test_lines.specs.Lines.{span, findFrom, fieldOf, firstOf, equals, digitOf, allDigits, hexValue, hexNumber, digitPairs, hexBytes, fitting, numbersIn, listNumbers, listCount}
 use Rattle.util.specs.Buffer.{overwritten}
 
 span-most : (stop : ℕ) (s : List ℕ) → span stop s ≤ length s
@@ -183,14 +183,14 @@ module _ (s : List ℕ) where
   unfolding hexNumber
   number-read v h d e l = rw (lt-ltb 0 (length s) h, ← d, e, lt-ltb v (2 ^ 64) l)
 
-pub pairs-length : (s : List ℕ) → length (pairBytes s) ≡ length s / 2
-unfolding pairBytes
+pub pairs-length : (s : List ℕ) → length (digitPairs s) ≡ length s / 2
+unfolding digitPairs
 pairs-length [] = refl
 pairs-length (h ∷ []) = refl
 pairs-length (h ∷ (l ∷ s)) = omega (arith, pairs-length s)
 
-pub pairs-each : (s : List ℕ) (n : ℕ) → n < length s / 2 → getD (pairBytes s) n 0 ≡ digitOf (getD s (2 * n) 0) * 16 + digitOf (getD s (2 * n + 1) 0)
-unfolding pairBytes
+pub pairs-each : (s : List ℕ) (n : ℕ) → n < length s / 2 → getD (digitPairs s) n 0 ≡ digitOf (getD s (2 * n) 0) * 16 + digitOf (getD s (2 * n + 1) 0)
+unfolding digitPairs
 pairs-each [] n h = absurd (omega arith)
 pairs-each (x ∷ []) n h = absurd (omega arith)
 pairs-each (x ∷ (y ∷ s)) zero h = refl
@@ -204,16 +204,16 @@ pair-byte s n e h = omega (arith, digits-each s (2 * n) e (omega arith), digits-
 
 -- the first `n` pairs are written to the buffer `out`
 module _ (s out : List ℕ) (n : ℕ) where
-  pub pairs-next : (b : List ℕ) (v : ℕ) → b ≡ take n (pairBytes s) ++ drop n out → v ≡ digitOf (getD s (2 * n) 0) * 16 + digitOf (getD s (2 * n + 1) 0) → n < length s / 2 → n < length out
-      → set b n v ≡ take (n + 1) (pairBytes s) ++ drop (n + 1) out
+  pub pairs-next : (b : List ℕ) (v : ℕ) → b ≡ take n (digitPairs s) ++ drop n out → v ≡ digitOf (getD s (2 * n) 0) * 16 + digitOf (getD s (2 * n + 1) 0) → n < length s / 2 → n < length out
+      → set b n v ≡ take (n + 1) (digitPairs s) ++ drop (n + 1) out
   pairs-next b v e w h k =
-      let size : n < length (pairBytes s) = omega (arith, pairs-length s) in
-      let turn : set (take n (pairBytes s) ++ drop n out) n (getD (pairBytes s) n 0) ≡ take (suc n) (pairBytes s) ++ drop (suc n) out =
-      simp zero-add at (paste-suc out 0 (pairBytes s) n 0 (omega arith) size) in
+      let size : n < length (digitPairs s) = omega (arith, pairs-length s) in
+      let turn : set (take n (digitPairs s) ++ drop n out) n (getD (digitPairs s) n 0) ≡ take (suc n) (digitPairs s) ++ drop (suc n) out =
+      simp zero-add at (paste-suc out 0 (digitPairs s) n 0 (omega arith) size) in
       rw (e, w, ← pairs-each s n h, add-one) turn
 
-  pub pairs-written : n ≡ length s / 2 → take n (pairBytes s) ++ drop n out ≡ pairBytes s ++ drop (length (pairBytes s)) out
-  pairs-written e = let size : n ≡ length (pairBytes s) = e ∙ sym (pairs-length s) in rw (size, take-length)
+  pub pairs-written : n ≡ length s / 2 → take n (digitPairs s) ++ drop n out ≡ digitPairs s ++ drop (length (digitPairs s)) out
+  pairs-written e = let size : n ≡ length (digitPairs s) = e ∙ sym (pairs-length s) in rw (size, take-length)
 
 module _ (s : List ℕ) where
   pub bytes-dash : true ≡ equals s (45 ∷ []) → some [] ≡ hexBytes s
@@ -233,7 +233,7 @@ module _ (s : List ℕ) where
     unfolding hexBytes
     bytes-other h = rw (← n, ← h, and-false)
 
-    pub bytes-read : 0 < length s → length s % 2 ≡ 0 → true ≡ allDigits s → some (pairBytes s) ≡ hexBytes s
+    pub bytes-read : 0 < length s → length s % 2 ≡ 0 → true ≡ allDigits s → some (digitPairs s) ≡ hexBytes s
     unfolding hexBytes
     bytes-read l e h = rw (← n, ← h, lt-ltb 0 (length s) l, eq-eqb (length s % 2) 0 e)
 
@@ -254,3 +254,146 @@ module _ (out : List ℕ) (x : Option (List ℕ)) where
 -- what a buffer got, as its count and its bytes
 pub answered : (out : List ℕ) (x y : Option (List ℕ)) → x ≡ y → (Option·map length x ≡ Option·map length y) × (overwritten out x ≡ overwritten out y)
 answered out x y e = (ap (Option·map length) e, ap (overwritten out) e)
+
+-- ---- the numbers of fields
+
+-- a field past the line's end is empty
+field-beyond : (s : List ℕ) (n : ℕ) → length s < n → [] ≡ fieldOf s n
+unfolding fieldOf
+field-beyond s zero h = absurd (omega arith)
+field-beyond [] (suc n) h = no-field (suc n)
+field-beyond (b ∷ s) (suc n) h = field-beyond (drop (suc (span 32 (b ∷ s))) (b ∷ s)) n (rw length-drop (omega arith))
+
+-- so one that is a number is not
+pub number-within : (s : List ℕ) (n v : ℕ) → some v ≡ hexNumber (fieldOf s n) → n ≤ length s
+number-within s n v e = go (decLe n (length s))
+  where
+    go : Dec (n ≤ length s) → n ≤ length s
+    go (yes h) = h
+    go (no h) =
+        let f : _≡_ {A = Option ℕ} none (some v) = number-empty [] refl ∙ ap hexNumber (field-beyond s n (omega arith)) ∙ sym e in
+        let z : _≡_ {A = ℕ} 0 1 = cc in
+        absurd (omega arith)
+
+-- the numbers from a field on, where it is known what the field is
+numbers-by : (s : List ℕ) (at step m : ℕ) (x : Option ℕ) → x ≡ hexNumber (fieldOf s at)
+    → numbersIn s at step (suc m) ≡ (elim x as (λ _. List ℕ) [ none ↦ [] | some v ↦ v ∷ numbersIn s (at + step) step m ])
+unfolding numbersIn
+numbers-by s at step m x e = ap (λ (y : Option ℕ). elim y as (λ _. List ℕ) [ none ↦ [] | some v ↦ v ∷ numbersIn s (at + step) step m ]) (sym e)
+
+-- `n` of the numbers `l` are written to the list `out₀`, and field `at` is read next
+pub record Reading (s : List ℕ) (step : ℕ) (l out₀ out : List ℕ) (at n : ℕ) : Type 0 where
+  pub given : n ≤ length l
+  pub fits : n ≤ length out₀
+  pub long : length out ≡ length out₀
+  pub rest : drop n l ≡ numbersIn s at step (length out₀ - n)
+  pub written : out ≡ take n l ++ drop n out₀
+
+pub reading-starts : (s : List ℕ) (from step : ℕ) (out : List ℕ) → Reading s step (numbersIn s from step (length out)) out out from 0
+reading-starts s from step out =
+    record { given = omega arith; fits = omega arith; long = refl; rest = ap (numbersIn s from step) (omega arith); written = refl }
+
+module _ (s : List ℕ) (step : ℕ) (l out₀ out : List ℕ) (at n : ℕ) (g : Reading s step l out₀ out at n) where
+  all-given : drop n l ≡ [] → n ≡ length l
+  all-given e = omega (arith, g .given, rw length-drop at (ap length e))
+
+  all-written : n ≡ length l → out ≡ l ++ drop (length l) out₀
+  all-written e = g .written ∙ rw (e, take-length)
+
+  pub reading-ends : length out₀ ≤ n → (true ≡ eqb (length l) (length out₀)) × (out ≡ l ++ drop (length l) out₀)
+  unfolding numbersIn
+  reading-ends h =
+      let z : length out₀ - n ≡ 0 = omega arith in
+      let e : n ≡ length l = all-given (g .rest ∙ rw z) in
+      (sym (eq-eqb (length l) (length out₀) (omega (arith, g .fits))), all-written e)
+
+  module _ (h : n < length out₀) where
+    split : length out₀ - n ≡ suc (length out₀ - (n + 1))
+    split = omega arith
+
+    pub reading-stops : none ≡ hexNumber (fieldOf s at) → (false ≡ eqb (length l) (length out₀)) × (out ≡ l ++ drop (length l) out₀)
+    reading-stops f =
+        let e : n ≡ length l = all-given (g .rest ∙ rw split (numbers-by s at step (length out₀ - (n + 1)) none f)) in
+        (sym (ne-eqb (length l) (length out₀) (λ (q : length l ≡ length out₀). omega arith)), all-written e)
+
+    pub reading-next : (v : ℕ) → some v ≡ hexNumber (fieldOf s at) → Reading s step l out₀ (set out n v) (at + step) (n + 1)
+    reading-next v f =
+        let r : drop n l ≡ v ∷ numbersIn s (at + step) step (length out₀ - (n + 1)) = g .rest ∙ rw split (numbers-by s at step (length out₀ - (n + 1)) (some v) f) in
+        let size : n < length l = omega (arith, rw length-drop at (ap length r)) in
+        let cons : getD l n 0 ∷ drop (suc n) l ≡ v ∷ numbersIn s (at + step) step (length out₀ - (n + 1)) = sym (drop-cons l n 0 size) ∙ r in
+        let one : n + 1 ≡ suc n = omega arith in
+        let value : v ≡ getD l n 0 = cc in
+        let left : drop (suc n) l ≡ numbersIn s (at + step) step (length out₀ - (n + 1)) = cc in
+        let turn : set (take n l ++ drop n out₀) n (getD l n 0) ≡ take (suc n) l ++ drop (suc n) out₀ = simp zero-add at (paste-suc out₀ 0 l n 0 (omega arith) size) in
+        record {
+          given = omega arith;
+          fits = omega arith;
+          long = simp length-set (g .long);
+          rest = ap (λ (k : ℕ). drop k l) one ∙ left;
+          written = rw (g .written, value, add-one) turn;
+        }
+
+-- ---- lists
+
+numbers-most : (s : List ℕ) (at step n : ℕ) → length (numbersIn s at step n) ≤ n
+unfolding numbersIn
+numbers-most s at step zero = omega arith
+numbers-most s at step (suc n) = go (hexNumber (fieldOf s at)) (numbers-most s (at + step) step n)
+  where
+    go : (x : Option ℕ) → length (numbersIn s (at + step) step n) ≤ n
+        → length {A = ℕ} (elim x as (λ _. List ℕ) [ none ↦ [] | some v ↦ v ∷ numbersIn s (at + step) step n ]) ≤ suc n
+    go none h = omega arith
+    go (some v) h = omega arith
+
+-- what stands behind `k` elements of the first `n`, and behind those
+part-rest : (k n : ℕ) (l : List ℕ) → k ≤ n → drop k (take n l) ++ drop n l ≡ drop k l
+part-rest zero n l h = take-append-drop n l
+part-rest (suc k) zero l h = absurd (omega arith)
+part-rest (suc k) (suc n) [] h = refl
+part-rest (suc k) (suc n) (x ∷ l) h = part-rest k n l (omega arith)
+
+module _ (s : List ℕ) (from : ℕ) (out : List ℕ) where
+  abbrev Listed : Option ℕ → List ℕ → Type 0
+  Listed x out′ = (x ≡ listCount s from (length out)) × (out′ ≡ listNumbers s from (length out) ++ drop (length (listNumbers s from (length out))) out)
+
+  -- by what the field of the count is
+  abbrev countBy : Option ℕ → Option ℕ
+  countBy x =
+      elim x as (λ _. Option ℕ) [
+        | none ↦ none
+        | some n ↦ cond (leb n (length out) && eqb (length (numbersIn s (from + 1) 1 n)) n) (some n) none
+      ]
+
+  abbrev numbersBy : Option ℕ → List ℕ
+  numbersBy x = elim x as (λ _. List ℕ) [ none ↦ [] | some n ↦ cond (leb n (length out)) (numbersIn s (from + 1) 1 n) [] ]
+
+  listed-by : (x y : Option ℕ) (out′ : List ℕ) → x ≡ hexNumber (fieldOf s from) → y ≡ countBy x
+      → out′ ≡ numbersBy x ++ drop (length (numbersBy x)) out → Listed y out′
+  unfolding listCount listNumbers
+  listed-by x y out′ e ey eo = (ey ∙ ap countBy e, eo ∙ ap (λ (x : Option ℕ). numbersBy x ++ drop (length (numbersBy x)) out) e)
+
+  pub list-none : none ≡ hexNumber (fieldOf s from) → Listed none out
+  list-none e = listed-by none none out e refl refl
+
+  module _ (n : ℕ) (e : some n ≡ hexNumber (fieldOf s from)) where
+    pub list-long : length out < n → Listed none out
+    list-long h = listed-by (some n) none out e (simp (lt-leb n (length out) h)) (simp (lt-leb n (length out) h))
+
+    module _ (h : n ≤ length out) (b l : List ℕ) (el : l ≡ numbersIn s (from + 1) 1 (length (take n out))) (eb : b ≡ l ++ drop (length l) (take n out)) where
+      pub part-long : n ≡ length (take n out)
+      part-long = sym (length-take-le n out h)
+
+      few : length l ≤ n
+      few = omega (arith, numbers-most s (from + 1) 1 (length (take n out)), part-long, ap length el)
+
+      whole : b ++ drop n out ≡ l ++ drop (length l) out
+      whole = rw (eb, append-assoc l (drop (length l) (take n out)) (drop n out), part-rest (length l) n out few)
+
+      is-list : l ≡ numbersIn s (from + 1) 1 n
+      is-list = el ∙ ap (numbersIn s (from + 1) 1) (sym part-long)
+
+      pub list-all : true ≡ eqb (length l) (length (take n out)) → Listed (some n) (b ++ drop n out)
+      list-all t = listed-by (some n) (some n) _ e (simp (le-leb n (length out) h) (rw (← is-list, part-long) (rw (← t)))) (simp (le-leb n (length out) h) (rw (← is-list) whole))
+
+      pub list-part : false ≡ eqb (length l) (length (take n out)) → Listed none (b ++ drop n out)
+      list-part t = listed-by (some n) none _ e (simp (le-leb n (length out) h) (rw (← is-list, part-long) (rw (← t)))) (simp (le-leb n (length out) h) (rw (← is-list) whole))

@@ -3,9 +3,11 @@ ghost use Prim.Native.Nat.{_≤_, _/_};
 ghost use mathlib.Core.Path.{_≡_};
 ghost use mathlib.Core.Bool.{true};
 ghost use mathlib.Core.Option.{some, Option·map};
+ghost use lib.Dec.{eqb};
 ghost use lib.ListN.{length};
-ghost use Rattle.test_lines.specs.Lines.{digitOf, allDigits, hexNumber, pairBytes, hexBytes, fitting, numberOf, countOf};
+ghost use Rattle.test_lines.specs.Lines.{digitOf, allDigits, hexNumber, digitPairs, hexBytes, fitting, numbersIn, listNumbers, listCount, numberOf, countOf};
 ghost use Rattle.util.specs.Buffer.{overwritten};
+use crate::line::field;
 use crate::line::same;
 
 // The number of a text.
@@ -78,7 +80,7 @@ fn all_digits(s: &[u8]) -> bool
 // Writes the byte of each pair of digits to the buffer's start.
 fn write_pairs(s: &[u8], out: &mut [u8])
     requires { ⌜ (allDigits (now s) ≡ true) × (length (now s) / 2 ≤ length (now out)) ⌝ }
-    ensures { λ _. ⌜ now (out .exit) ≡ overwritten (now (out .entry)) (some (pairBytes (now (s .entry)))) ⌝ }
+    ensures { λ _. ⌜ now (out .exit) ≡ overwritten (now (out .entry)) (some (digitPairs (now (s .entry)))) ⌝ }
 {
     let count = s.len() / 2;
     let mut n = 0;
@@ -113,4 +115,41 @@ pub fn parse_bytes(s: &[u8], out: &mut [u8]) -> Count
     }
     write_pairs(s, out);
     Count::Of(count)
+}
+
+// Reads the numbers of the fields `from`, `from` + `step` and so on, as many as the list is long, and gives back whether all are numbers. Those
+// before the first that is none are written.
+pub fn parse_numbers(line: &[u8], from: usize, step: u32, out: &mut [u64]) -> bool
+    ensures { λ r. ⌜ r ≡ eqb (length (numbersIn (now (line .entry)) from step (length (now (out .entry))))) (length (now (out .entry))) ⌝ }
+    ensures { λ _. ⌜ now (out .exit) ≡ overwritten (now (out .entry)) (some (numbersIn (now (line .entry)) from step (length (now (out .entry))))) ⌝ }
+{
+    let mut at = from;
+    let mut n = 0;
+    while n < out.len() {
+        let Number::Value(value) = parse_number(field(line, at)) else {
+            return false;
+        };
+        out[n] = value;
+        n += 1;
+        at += step as usize;
+    }
+    true
+}
+
+// Reads a list: its count is the field `from`, and its numbers are the fields after that. A count that is larger than `out` is long is refused.
+pub fn parse_list(line: &[u8], from: usize, out: &mut [u64]) -> Count
+    ensures { λ r. ⌜ countOf r ≡ listCount (now (line .entry)) from (length (now (out .entry))) ⌝ }
+    ensures { λ _. ⌜ now (out .exit) ≡ overwritten (now (out .entry)) (some (listNumbers (now (line .entry)) from (length (now (out .entry))))) ⌝ }
+{
+    let Number::Value(count) = parse_number(field(line, from)) else {
+        return Count::Bad;
+    };
+    let n = count as usize;
+    if out.len() < n {
+        return Count::Bad;
+    }
+    if parse_numbers(line, from + 1, 1, &mut out[..n]) {
+        return Count::Of(n);
+    }
+    Count::Bad
 }

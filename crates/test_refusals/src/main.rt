@@ -23,10 +23,10 @@ use listing::NextRow;
 use listing::PointerAnswer;
 use listing::TextAnswer;
 use parent::ParentChain;
-use parent::QualifiedName;
 use printing::LINE_BYTES;
 use printing::Lister;
 use printing::NextLine;
+use qualifiedname::QualifiedName;
 use refusal::Refusal;
 use typebody::ClassBody;
 use typebody::ClassSizes;
@@ -37,7 +37,11 @@ use typebody::TypeBody;
 use typedescriptor::Row;
 use typedescriptor::TypeIter;
 use util::Text;
+use vtable::DefaultOverrideStep;
 use vtable::EntryCursor;
+use vtable::MethodStep;
+use vtable::OverrideStep;
+use vtable::PrespecializationStep;
 
 fn number(n: u64) {
     io::write_all(1, b" ");
@@ -205,31 +209,56 @@ fn try_blocks(image: &[u8], segments: &[u64]) {
     }
 }
 
-// The descriptor's bytes as the first entry of each kind of table: its last word.
+// The last word of an entry of each kind of table.
+fn method_word(step: MethodStep) {
+    match step {
+        MethodStep::Entry { entry, next: _ } => number(entry.impl_va),
+        MethodStep::Unreadable { next: _ } => unreadable(),
+        MethodStep::End => end(),
+    }
+}
+
+fn override_word(step: OverrideStep) {
+    match step {
+        OverrideStep::Entry { entry, next: _ } => number(entry.impl_va),
+        OverrideStep::Unreadable { next: _ } => unreadable(),
+        OverrideStep::End => end(),
+    }
+}
+
+fn default_override_word(step: DefaultOverrideStep) {
+    match step {
+        DefaultOverrideStep::Entry { entry, next: _ } => number(entry.impl_va),
+        DefaultOverrideStep::Unreadable { next: _ } => unreadable(),
+        DefaultOverrideStep::End => end(),
+    }
+}
+
+fn prespecialization_word(step: PrespecializationStep) {
+    match step {
+        PrespecializationStep::Entry { entry, next: _ } => number(entry.metadata_va),
+        PrespecializationStep::Unreadable { next: _ } => unreadable(),
+        PrespecializationStep::End => end(),
+    }
+}
+
+// The descriptor's bytes as the first entry of each kind of table.
 fn try_tables(image: &[u8], segments: &[u64]) {
     let cursor = EntryCursor::new(0x1000, 1);
     match listing::next_method(image, segments, cursor) {
-        NextMethod::Entry { entry, next } => number(entry.impl_va),
-        NextMethod::Unreadable { next } => unreadable(),
-        NextMethod::End => end(),
+        NextMethod::Step(step) => method_word(step),
         NextMethod::Refused(refusal) => refused(refusal),
     }
     match listing::next_override(image, segments, cursor) {
-        NextOverride::Entry { entry, next } => number(entry.impl_va),
-        NextOverride::Unreadable { next } => unreadable(),
-        NextOverride::End => end(),
+        NextOverride::Step(step) => override_word(step),
         NextOverride::Refused(refusal) => refused(refusal),
     }
     match listing::next_default_override(image, segments, cursor) {
-        NextDefaultOverride::Entry { entry, next } => number(entry.impl_va),
-        NextDefaultOverride::Unreadable { next } => unreadable(),
-        NextDefaultOverride::End => end(),
+        NextDefaultOverride::Step(step) => default_override_word(step),
         NextDefaultOverride::Refused(refusal) => refused(refusal),
     }
     match listing::next_prespecialization(image, segments, cursor) {
-        NextPrespecialization::Entry { entry, next } => number(entry.metadata_va),
-        NextPrespecialization::Unreadable { next } => unreadable(),
-        NextPrespecialization::End => end(),
+        NextPrespecialization::Step(step) => prespecialization_word(step),
         NextPrespecialization::Refused(refusal) => refused(refusal),
     }
 }

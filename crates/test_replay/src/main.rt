@@ -2,7 +2,7 @@
 //
 // A line is
 //   input IMAGE TYPES_ADDRESS TYPES STRINGS_ADDRESS STRINGS COUNT SEGMENT_NUMBER.. COUNT ADDRESS..
-// with one space between. The two counts are decimal, all other numbers and the bytes lowercase hexadecimal; `-` stands for no bytes.
+// with one space between. All numbers and the bytes are lowercase hexadecimal; `-` stands for no bytes.
 // Its answers are
 //   row SLOT ADDRESS FLAGS PARENT NAME_PLACE NAME_LENGTH    for each row, in order, followed by
 //   context ADDRESS FLAGS NAME_PLACE NAME_LENGTH            its first 8 contexts, the innermost first; `-` for a missing name
@@ -20,64 +20,14 @@ use listing::NextContext;
 use listing::NextRow;
 use parent::ParentChain;
 use parent::ParentContext;
-use parent::QualifiedName;
+use qualifiedname::QualifiedName;
 use refusal::Refusal;
 use runtime::FieldName;
 use segment::FileOffset;
 use test_lines::Count;
-use test_lines::Number;
 use typedescriptor::Row;
 use typedescriptor::TypeIter;
 use util::Text;
-
-// The lists of numbers in a line.
-
-// A decimal number, at most a few thousand.
-fn parse_count(s: &[u8]) -> Count {
-    if s.len() == 0 {
-        return Count::Bad;
-    }
-    let mut count: u64 = 0;
-    let mut i = 0;
-    while i < s.len() {
-        let d = test_lines::digit(s[i]);
-        if d > 9 {
-            return Count::Bad;
-        }
-        if count > 1000 {
-            return Count::Bad;
-        }
-        count = count * 10 + d;
-        i += 1;
-    }
-    Count::Of(count as usize)
-}
-
-// The numbers of a list: its count is the field `from`, and they are the fields after that.
-fn parse_list(line: &[u8], from: usize, out: &mut [u64]) -> Count {
-    if from > 1000 {
-        return Count::Bad;
-    }
-    let Count::Of(count) = parse_count(test_lines::field(line, from)) else {
-        return Count::Bad;
-    };
-    if out.len() < count {
-        return Count::Bad;
-    }
-    if count > 1000 {
-        return Count::Bad;
-    }
-    let mut n = 0;
-    while n < count {
-        let Number::Value(value) = test_lines::parse_number(test_lines::field(line, from + 1 + n))
-        else {
-            return Count::Bad;
-        };
-        out[n] = value;
-        n += 1;
-    }
-    Count::Of(n)
-}
 
 // Parts of lines.
 
@@ -331,12 +281,12 @@ fn run_lists(
 ) {
     let mut segments = [0u64; 64];
     let mut addresses = [0u64; 64];
-    let Count::Of(numbers) = parse_list(line, 6, &mut segments) else {
+    let Count::Of(numbers) = test_lines::parse_list(line, 6, &mut segments) else {
         bad_line();
         return;
     };
     let next = std::num::wrapping_add_usize(7, numbers);
-    let Count::Of(given) = parse_list(line, next, &mut addresses) else {
+    let Count::Of(given) = test_lines::parse_list(line, next, &mut addresses) else {
         bad_line();
         return;
     };
@@ -383,15 +333,12 @@ fn answer_line(line: &[u8]) {
         bad_line();
         return;
     }
-    let Number::Value(types_va) = test_lines::parse_number(test_lines::field(line, 2)) else {
+    let mut addresses = [0u64; 2];
+    if !test_lines::parse_numbers(line, 2, 2, &mut addresses) {
         bad_line();
         return;
-    };
-    let Number::Value(strings_va) = test_lines::parse_number(test_lines::field(line, 4)) else {
-        bad_line();
-        return;
-    };
-    run_line(line, types_va, strings_va);
+    }
+    run_line(line, addresses[0], addresses[1]);
 }
 
 fn answer_lines(input: &[u8]) {

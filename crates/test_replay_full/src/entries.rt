@@ -12,145 +12,125 @@ use listing::NextDefaultOverride;
 use listing::NextMethod;
 use listing::NextOverride;
 use listing::NextPrespecialization;
-use vtable::DefaultOverrideEntry;
+use refusal::Refusal;
+use vtable::DefaultOverrideStep;
 use vtable::EntryCursor;
-use vtable::OverrideEntry;
-use vtable::PrespecializationEntry;
-use vtable::VTableEntry;
+use vtable::MethodStep;
+use vtable::OverrideStep;
+use vtable::PrespecializationStep;
 
 // How many entries of each kind are read at a row's own address.
 const AT_ROW: u32 = 5;
 
-fn method_line(entry: VTableEntry) {
-    word(b"method");
-    three(entry.address, entry.flags as u64, entry.impl_va);
+// The kinds of tables.
+pub enum Kind {
+    Method,
+    Override,
+    DefaultOverride,
+    Prespecialization,
 }
 
-fn override_line(entry: OverrideEntry) {
-    word(b"override");
-    number_field(entry.address);
-    three(entry.class_va, entry.method_va, entry.impl_va);
+// Where a walk goes on once a line is written, or that it is over.
+pub enum Written {
+    Next(EntryCursor),
+    Over,
 }
 
-fn default_override_line(entry: DefaultOverrideEntry) {
-    word(b"default");
-    three(entry.address, entry.method_va, entry.impl_va);
+fn passed(next: EntryCursor) -> Written {
+    unreadable();
+    Written::Next(next)
 }
 
-fn prespecialization_line(entry: PrespecializationEntry) {
-    word(b"metadata");
-    two(entry.address, entry.metadata_va);
+fn ended() -> Written {
+    done();
+    Written::Over
 }
 
-pub fn methods(image: &[u8], segments: &[u64], base_va: u64, count: u32) {
-    let mut cursor = EntryCursor::new(base_va, count);
-    let mut shown: u32 = 0;
-    while shown < SHOWN {
-        let step = listing::next_method(image, segments, cursor);
-        match step {
-            NextMethod::Entry { entry, next } => {
-                method_line(entry);
-                cursor = next;
-                shown += 1;
-            }
-            NextMethod::Unreadable { next } => {
-                unreadable();
-                cursor = next;
-                shown += 1;
-            }
-            NextMethod::End => {
-                done();
-                return;
-            }
-            NextMethod::Refused(refusal) => {
-                refused(refusal);
-                return;
-            }
+fn stopped(refusal: Refusal) -> Written {
+    refused(refusal);
+    Written::Over
+}
+
+fn method_line(step: MethodStep) -> Written {
+    match step {
+        MethodStep::Entry { entry, next } => {
+            word(b"method");
+            three(entry.address, entry.flags as u64, entry.impl_va);
+            Written::Next(next)
         }
+        MethodStep::Unreadable { next } => passed(next),
+        MethodStep::End => ended(),
     }
-    after_shown(count);
 }
 
-pub fn overrides(image: &[u8], segments: &[u64], base_va: u64, count: u32) {
-    let mut cursor = EntryCursor::new(base_va, count);
-    let mut shown: u32 = 0;
-    while shown < SHOWN {
-        let step = listing::next_override(image, segments, cursor);
-        match step {
-            NextOverride::Entry { entry, next } => {
-                override_line(entry);
-                cursor = next;
-                shown += 1;
-            }
-            NextOverride::Unreadable { next } => {
-                unreadable();
-                cursor = next;
-                shown += 1;
-            }
-            NextOverride::End => {
-                done();
-                return;
-            }
-            NextOverride::Refused(refusal) => {
-                refused(refusal);
-                return;
-            }
+fn override_line(step: OverrideStep) -> Written {
+    match step {
+        OverrideStep::Entry { entry, next } => {
+            word(b"override");
+            number_field(entry.address);
+            three(entry.class_va, entry.method_va, entry.impl_va);
+            Written::Next(next)
         }
+        OverrideStep::Unreadable { next } => passed(next),
+        OverrideStep::End => ended(),
     }
-    after_shown(count);
 }
 
-pub fn default_overrides(image: &[u8], segments: &[u64], base_va: u64, count: u32) {
-    let mut cursor = EntryCursor::new(base_va, count);
-    let mut shown: u32 = 0;
-    while shown < SHOWN {
-        let step = listing::next_default_override(image, segments, cursor);
-        match step {
-            NextDefaultOverride::Entry { entry, next } => {
-                default_override_line(entry);
-                cursor = next;
-                shown += 1;
-            }
-            NextDefaultOverride::Unreadable { next } => {
-                unreadable();
-                cursor = next;
-                shown += 1;
-            }
-            NextDefaultOverride::End => {
-                done();
-                return;
-            }
-            NextDefaultOverride::Refused(refusal) => {
-                refused(refusal);
-                return;
-            }
+fn default_override_line(step: DefaultOverrideStep) -> Written {
+    match step {
+        DefaultOverrideStep::Entry { entry, next } => {
+            word(b"default");
+            three(entry.address, entry.method_va, entry.impl_va);
+            Written::Next(next)
         }
+        DefaultOverrideStep::Unreadable { next } => passed(next),
+        DefaultOverrideStep::End => ended(),
     }
-    after_shown(count);
 }
 
-pub fn prespecializations(image: &[u8], segments: &[u64], base_va: u64, count: u32) {
+fn prespecialization_line(step: PrespecializationStep) -> Written {
+    match step {
+        PrespecializationStep::Entry { entry, next } => {
+            word(b"metadata");
+            two(entry.address, entry.metadata_va);
+            Written::Next(next)
+        }
+        PrespecializationStep::Unreadable { next } => passed(next),
+        PrespecializationStep::End => ended(),
+    }
+}
+
+fn entry_line(image: &[u8], segments: &[u64], kind: Kind, cursor: EntryCursor) -> Written {
+    match kind {
+        Kind::Method => match listing::next_method(image, segments, cursor) {
+            NextMethod::Step(step) => method_line(step),
+            NextMethod::Refused(refusal) => stopped(refusal),
+        },
+        Kind::Override => match listing::next_override(image, segments, cursor) {
+            NextOverride::Step(step) => override_line(step),
+            NextOverride::Refused(refusal) => stopped(refusal),
+        },
+        Kind::DefaultOverride => match listing::next_default_override(image, segments, cursor) {
+            NextDefaultOverride::Step(step) => default_override_line(step),
+            NextDefaultOverride::Refused(refusal) => stopped(refusal),
+        },
+        Kind::Prespecialization => match listing::next_prespecialization(image, segments, cursor) {
+            NextPrespecialization::Step(step) => prespecialization_line(step),
+            NextPrespecialization::Refused(refusal) => stopped(refusal),
+        },
+    }
+}
+
+pub fn entries(image: &[u8], segments: &[u64], kind: Kind, base_va: u64, count: u32) {
     let mut cursor = EntryCursor::new(base_va, count);
     let mut shown: u32 = 0;
     while shown < SHOWN {
-        let step = listing::next_prespecialization(image, segments, cursor);
-        match step {
-            NextPrespecialization::Entry { entry, next } => {
-                prespecialization_line(entry);
+        match entry_line(image, segments, kind, cursor) {
+            Written::Next(next) => {
                 cursor = next;
                 shown += 1;
             }
-            NextPrespecialization::Unreadable { next } => {
-                unreadable();
-                cursor = next;
-                shown += 1;
-            }
-            NextPrespecialization::End => {
-                done();
-                return;
-            }
-            NextPrespecialization::Refused(refusal) => {
-                refused(refusal);
+            Written::Over => {
                 return;
             }
         }
@@ -163,8 +143,8 @@ pub fn at_row(image: &[u8], segments: &[u64], address: u64) {
     if address < 0xffff_ffff_ffff_ffe0 {
         return;
     }
-    methods(image, segments, address, AT_ROW);
-    overrides(image, segments, address, AT_ROW);
-    default_overrides(image, segments, address, AT_ROW);
-    prespecializations(image, segments, address, AT_ROW);
+    entries(image, segments, Kind::Method, address, AT_ROW);
+    entries(image, segments, Kind::Override, address, AT_ROW);
+    entries(image, segments, Kind::DefaultOverride, address, AT_ROW);
+    entries(image, segments, Kind::Prespecialization, address, AT_ROW);
 }

@@ -41,34 +41,6 @@ use crate::fields::all_fields;
 use crate::rows::all_rows;
 use crate::words::bad_line;
 use test_lines::Count;
-use test_lines::Number;
-
-// The numbers of a list: its count is the field `from`, and they are the fields after that.
-fn parse_list(line: &[u8], from: usize, out: &mut [u64]) -> Count {
-    if from > 1000 {
-        return Count::Bad;
-    }
-    let Number::Value(given) = test_lines::parse_number(test_lines::field(line, from)) else {
-        return Count::Bad;
-    };
-    let count = given as usize;
-    if out.len() < count {
-        return Count::Bad;
-    }
-    if count > 1000 {
-        return Count::Bad;
-    }
-    let mut n = 0;
-    while n < count {
-        let Number::Value(value) = test_lines::parse_number(test_lines::field(line, from + 1 + n))
-        else {
-            return Count::Bad;
-        };
-        out[n] = value;
-        n += 1;
-    }
-    Count::Of(n)
-}
 
 // The line's sections, and all its answers.
 fn run_sections(
@@ -113,7 +85,7 @@ fn run_line(line: &[u8], types_va: u64, fields_va: u64, strings_va: u64) {
         bad_line();
         return;
     };
-    let Count::Of(numbers) = parse_list(line, 8, &mut segments) else {
+    let Count::Of(numbers) = test_lines::parse_list(line, 8, &mut segments) else {
         bad_line();
         return;
     };
@@ -132,19 +104,12 @@ fn answer_line(line: &[u8]) {
         bad_line();
         return;
     }
-    let Number::Value(types_va) = test_lines::parse_number(test_lines::field(line, 2)) else {
+    let mut addresses = [0u64; 3];
+    if !test_lines::parse_numbers(line, 2, 2, &mut addresses) {
         bad_line();
         return;
-    };
-    let Number::Value(fields_va) = test_lines::parse_number(test_lines::field(line, 4)) else {
-        bad_line();
-        return;
-    };
-    let Number::Value(strings_va) = test_lines::parse_number(test_lines::field(line, 6)) else {
-        bad_line();
-        return;
-    };
-    run_line(line, types_va, fields_va, strings_va);
+    }
+    run_line(line, addresses[0], addresses[1], addresses[2]);
 }
 
 fn answer_lines(input: &[u8]) {

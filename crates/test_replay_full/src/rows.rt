@@ -1,9 +1,7 @@
 // The rows, with their bodies and blocks.
+use crate::entries::Kind;
 use crate::entries::at_row;
-use crate::entries::default_overrides;
-use crate::entries::methods;
-use crate::entries::overrides;
-use crate::entries::prespecializations;
+use crate::entries::entries;
 use crate::words::SHOWN;
 use crate::words::bad_line;
 use crate::words::newline;
@@ -17,6 +15,8 @@ use crate::words::two;
 use crate::words::word;
 use classtrailers::Block;
 use classtrailers::BlockKind;
+use fieldoffsets::FieldOffset;
+use fieldoffsets::FieldOffsets;
 use listing::BlockAnswer;
 use listing::BodyAnswer;
 use listing::InitAnswer;
@@ -26,8 +26,6 @@ use listing::PointerAnswer;
 use listing::TextAnswer;
 use typebody::ClassBody;
 use typebody::ClassSizes;
-use typebody::FieldOffset;
-use typebody::FieldOffsets;
 use typebody::SingletonMetadataInit;
 use typebody::SingletonMetadataPointer;
 use typebody::TypeBody;
@@ -170,14 +168,14 @@ fn detail_lines(image: &[u8], segments: &[u64], block: Block) {
             vtable_offset: _,
             vtable_size,
             entries_va,
-        } => methods(image, segments, entries_va, vtable_size),
+        } => entries(image, segments, Kind::Method, entries_va, vtable_size),
         Block::OverrideTable {
             num_entries,
             entries_va,
-        } => overrides(image, segments, entries_va, num_entries),
+        } => entries(image, segments, Kind::Override, entries_va, num_entries),
         Block::ObjcResilientClassStub(_) => {}
         Block::Prespecializations { count, base_va } => {
-            prespecializations(image, segments, base_va, count);
+            entries(image, segments, Kind::Prespecialization, base_va, count);
         }
         Block::InvertibleProtocolSet {
             bits: _,
@@ -187,7 +185,13 @@ fn detail_lines(image: &[u8], segments: &[u64], block: Block) {
         Block::DefaultOverrideTable {
             num_entries,
             entries_va,
-        } => default_overrides(image, segments, entries_va, num_entries),
+        } => entries(
+            image,
+            segments,
+            Kind::DefaultOverride,
+            entries_va,
+            num_entries,
+        ),
     }
 }
 
@@ -261,7 +265,7 @@ fn kind_lines(image: &[u8], segments: &[u64], row: Row, body: TypeBody) {
 // Field offsets.
 
 fn offset_field(image: &[u8], offsets: FieldOffsets, number: u32) {
-    match typebody::field_offset(image, offsets, number) {
+    match fieldoffsets::field_offset(image, offsets, number) {
         FieldOffset::At(offset) => number_field(offset as u64),
         FieldOffset::Nothing => nothing(),
     }
@@ -280,7 +284,7 @@ fn offset_fields(image: &[u8], offsets: FieldOffsets, count: u32) {
 
 fn offsets_line(image: &[u8], segments: &[u64], row: Row) {
     word(b"offsets");
-    let offsets = typebody::static_field_offsets(image, segments, row.address, row.flags);
+    let offsets = fieldoffsets::static_field_offsets(image, segments, row.address, row.flags);
     match offsets {
         FieldOffsets::At { place: _, count } => {
             number_field(count as u64);

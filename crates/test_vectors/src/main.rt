@@ -308,15 +308,12 @@ fn run_line(line: &[u8], a: u64, b: u64) {
 }
 
 fn answer_line(line: &[u8]) {
-    let Number::Value(a) = test_lines::parse_number(test_lines::field(line, 1)) else {
+    let mut given = [0u64; 2];
+    if !test_lines::parse_numbers(line, 1, 1, &mut given) {
         bad_line();
         return;
-    };
-    let Number::Value(b) = test_lines::parse_number(test_lines::field(line, 2)) else {
-        bad_line();
-        return;
-    };
-    run_line(line, a, b);
+    }
+    run_line(line, given[0], given[1]);
 }
 
 fn answer_lines(input: &[u8]) {

@@ -4,7 +4,5 @@ pub mod Singleton
 pub mod SingletonLaws
 pub mod Items
 pub mod ItemsLaws
-pub mod Offsets
 pub mod PathLaws
-pub mod OffsetsLaws
 pub mod Examples

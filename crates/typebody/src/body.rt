@@ -1,10 +1,12 @@
 ghost use mathlib.Core.Path.{_≡_};
 ghost use Prim.Native.Nat.{_+_, _<_, _^_};
+ghost use Rattle.segment.specs.Mapping.{withMapping};
 ghost use Rattle.runtime.specs.Reads.{run};
 ghost use Rattle.util.specs.Cstr.{textOf};
 ghost use Rattle.typebody.specs.Body.{sizesAt, sizesOf, classBody, classOf, structBody, structOf, enumBody, enumOf, bodyBytes, body, bodyOf, superclassName};
 use context::ContextDescriptorFlags;
 use context::ContextDescriptorKind;
+use segment::Mapping;
 use util::Text;
 
 // The two words of a class whose meaning a resilient superclass changes: the metadata's sizes, or the address of its bounds (0 where
@@ -102,39 +104,45 @@ fn enum_in(header: &[u8]) -> EnumBody
     }
 }
 
-fn decode_class_body(image: &[u8], segments: &[u64], address: u64, flags: u32) -> TypeBody
-    ensures { λ r. ⌜ bodyOf r ≡ run (now (image .entry)) (now (segments .entry)) (bodyBytes address 24 (classBody address flags)) ⌝ }
+fn decode_class_body(
+    image: &[u8],
+    segments: &[u64],
+    mapping: Mapping,
+    address: u64,
+    flags: u32,
+) -> TypeBody
+    ensures { λ r. ⌜ bodyOf r ≡ run (now (image .entry)) (withMapping mapping (now (segments .entry))) (bodyBytes address 24 (classBody address flags)) ⌝ }
 {
     if address > 0xffff_ffff_ffff_ffd3 {
         return TypeBody::Nothing;
     }
-    let header = runtime::read_bytes(image, segments, address + 20, 24);
+    let header = runtime::read_bytes_near(image, segments, mapping, address + 20, 24);
     if header.len() < 24 {
         return TypeBody::Nothing;
     }
     TypeBody::Class(class_in(header, address, flags))
 }
 
-fn decode_struct_body(image: &[u8], segments: &[u64], address: u64) -> TypeBody
-    ensures { λ r. ⌜ bodyOf r ≡ run (now (image .entry)) (now (segments .entry)) (bodyBytes address 8 structBody) ⌝ }
+fn decode_struct_body(image: &[u8], segments: &[u64], mapping: Mapping, address: u64) -> TypeBody
+    ensures { λ r. ⌜ bodyOf r ≡ run (now (image .entry)) (withMapping mapping (now (segments .entry))) (bodyBytes address 8 structBody) ⌝ }
 {
     if address > 0xffff_ffff_ffff_ffe3 {
         return TypeBody::Nothing;
     }
-    let header = runtime::read_bytes(image, segments, address + 20, 8);
+    let header = runtime::read_bytes_near(image, segments, mapping, address + 20, 8);
     if header.len() < 8 {
         return TypeBody::Nothing;
     }
     TypeBody::Struct(struct_in(header))
 }
 
-fn decode_enum_body(image: &[u8], segments: &[u64], address: u64) -> TypeBody
-    ensures { λ r. ⌜ bodyOf r ≡ run (now (image .entry)) (now (segments .entry)) (bodyBytes address 8 enumBody) ⌝ }
+fn decode_enum_body(image: &[u8], segments: &[u64], mapping: Mapping, address: u64) -> TypeBody
+    ensures { λ r. ⌜ bodyOf r ≡ run (now (image .entry)) (withMapping mapping (now (segments .entry))) (bodyBytes address 8 enumBody) ⌝ }
 {
     if address > 0xffff_ffff_ffff_ffe3 {
         return TypeBody::Nothing;
     }
-    let header = runtime::read_bytes(image, segments, address + 20, 8);
+    let header = runtime::read_bytes_near(image, segments, mapping, address + 20, 8);
     if header.len() < 8 {
         return TypeBody::Nothing;
     }
@@ -142,14 +150,20 @@ fn decode_enum_body(image: &[u8], segments: &[u64], address: u64) -> TypeBody
 }
 
 // The body of the descriptor at an address, which has these flags: nothing where it is no class, struct or enum, where its bytes are
-// not in the image, and where its end reaches 2^64.
-pub fn decode_body(image: &[u8], segments: &[u64], address: u64, flags: u32) -> TypeBody
-    ensures { λ r. ⌜ bodyOf r ≡ run (now (image .entry)) (now (segments .entry)) (body address flags) ⌝ }
+// not in the image, and where its end reaches 2^64. The mapping is asked before the segments: one that is true of them changes no answer.
+pub fn decode_body_near(
+    image: &[u8],
+    segments: &[u64],
+    mapping: Mapping,
+    address: u64,
+    flags: u32,
+) -> TypeBody
+    ensures { λ r. ⌜ bodyOf r ≡ run (now (image .entry)) (withMapping mapping (now (segments .entry))) (body address flags) ⌝ }
 {
     match ContextDescriptorFlags(flags).kind() {
-        ContextDescriptorKind::Class => decode_class_body(image, segments, address, flags),
-        ContextDescriptorKind::Struct => decode_struct_body(image, segments, address),
-        ContextDescriptorKind::Enum => decode_enum_body(image, segments, address),
+        ContextDescriptorKind::Class => decode_class_body(image, segments, mapping, address, flags),
+        ContextDescriptorKind::Struct => decode_struct_body(image, segments, mapping, address),
+        ContextDescriptorKind::Enum => decode_enum_body(image, segments, mapping, address),
         ContextDescriptorKind::Module => TypeBody::Nothing,
         ContextDescriptorKind::Extension => TypeBody::Nothing,
         ContextDescriptorKind::Anonymous => TypeBody::Nothing,
@@ -157,6 +171,13 @@ pub fn decode_body(image: &[u8], segments: &[u64], address: u64, flags: u32) -> 
         ContextDescriptorKind::OpaqueType => TypeBody::Nothing,
         ContextDescriptorKind::Other(_) => TypeBody::Nothing,
     }
+}
+
+// The same without a mapping.
+pub fn decode_body(image: &[u8], segments: &[u64], address: u64, flags: u32) -> TypeBody
+    ensures { λ r. ⌜ bodyOf r ≡ run (now (image .entry)) (now (segments .entry)) (body address flags) ⌝ }
+{
+    decode_body_near(image, segments, Mapping::empty(), address, flags)
 }
 
 // The name of a class's superclass; `util::text_part` gives the part of the image. There is none beside another body.

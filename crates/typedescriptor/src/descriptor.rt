@@ -1,6 +1,8 @@
 ghost use mathlib.Core.Path.{_≡_};
+ghost use Rattle.segment.specs.Mapping.{withMapping};
 ghost use Rattle.runtime.specs.Reads.{run};
 ghost use Rattle.typedescriptor.specs.Row.{descriptor, descriptorOf};
+use segment::Mapping;
 use util::Text;
 
 // What a type descriptor says: its address, its flags, the parent context's address (0 where it has none), and where its name lies.
@@ -17,11 +19,16 @@ pub enum Descriptor {
     Nothing,
 }
 
-// The row of the type descriptor at an address.
-pub fn decode_type_descriptor(image: &[u8], segments: &[u64], descriptor_va: u64) -> Descriptor
-    ensures { λ r. ⌜ descriptorOf (now (image .entry)) r ≡ run (now (image .entry)) (now (segments .entry)) (descriptor «descriptor_va») ⌝ }
+// The row of the type descriptor at an address. The mapping is asked before the segments: one that is true of them changes no answer.
+pub fn decode_type_descriptor_near(
+    image: &[u8],
+    segments: &[u64],
+    mapping: Mapping,
+    descriptor_va: u64,
+) -> Descriptor
+    ensures { λ r. ⌜ descriptorOf (now (image .entry)) r ≡ run (now (image .entry)) (withMapping mapping (now (segments .entry))) (descriptor «descriptor_va») ⌝ }
 {
-    let header = runtime::read_bytes(image, segments, descriptor_va, 20);
+    let header = runtime::read_bytes_near(image, segments, mapping, descriptor_va, 20);
     if header.len() < 20 {
         return Descriptor::Nothing;
     }
@@ -29,7 +36,7 @@ pub fn decode_type_descriptor(image: &[u8], segments: &[u64], descriptor_va: u64
         return Descriptor::Nothing;
     }
     let name_va = util::pointer_in(header, 8, descriptor_va + 8);
-    match runtime::read_cstr(image, segments, name_va) {
+    match runtime::read_cstr_near(image, segments, mapping, name_va) {
         Text::At { place, length } => Descriptor::Row(Row {
             address: descriptor_va,
             flags: util::u32_at(header, 0),
@@ -39,4 +46,11 @@ pub fn decode_type_descriptor(image: &[u8], segments: &[u64], descriptor_va: u64
         }),
         Text::Nothing => Descriptor::Nothing,
     }
+}
+
+// The same without a mapping.
+pub fn decode_type_descriptor(image: &[u8], segments: &[u64], descriptor_va: u64) -> Descriptor
+    ensures { λ r. ⌜ descriptorOf (now (image .entry)) r ≡ run (now (image .entry)) (now (segments .entry)) (descriptor «descriptor_va») ⌝ }
+{
+    decode_type_descriptor_near(image, segments, Mapping::empty(), descriptor_va)
 }

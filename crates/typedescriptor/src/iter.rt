@@ -1,10 +1,12 @@
 ghost use mathlib.Core.Path.{_≡_};
+ghost use Rattle.segment.specs.Mapping.{withMapping};
 ghost use Rattle.runtime.specs.Reads.{run};
 ghost use Rattle.typedescriptor.specs.Row.{descriptorOf};
 ghost use Rattle.typedescriptor.specs.Slots.{slotRow, nextRow, typeStepOf};
 use crate::descriptor::Descriptor;
 use crate::descriptor::Row;
-use crate::descriptor::decode_type_descriptor;
+use crate::descriptor::decode_type_descriptor_near;
+use segment::Mapping;
 
 // A walk over the types section: the number of the next slot to read.
 pub struct TypeIter {
@@ -22,14 +24,15 @@ pub enum TypeStep {
 }
 
 // The row of one slot of a types section whose first byte is at `vmaddr`.
-pub fn slot_row(
+pub fn slot_row_near(
     image: &[u8],
     segments: &[u64],
+    mapping: Mapping,
     types: &[u8],
     vmaddr: u64,
     slot: usize,
 ) -> Descriptor
-    ensures { λ r. ⌜ descriptorOf (now (image .entry)) r ≡ run (now (image .entry)) (now (segments .entry)) (slotRow (now (types .entry)) vmaddr slot) ⌝ }
+    ensures { λ r. ⌜ descriptorOf (now (image .entry)) r ≡ run (now (image .entry)) (withMapping mapping (now (segments .entry))) (slotRow (now (types .entry)) vmaddr slot) ⌝ }
 {
     if types.len() / 4 <= slot {
         return Descriptor::Nothing;
@@ -40,7 +43,25 @@ pub fn slot_row(
         return Descriptor::Nothing;
     }
     let slot_va = std::num::wrapping_add_u64(vmaddr, off as u64);
-    decode_type_descriptor(image, segments, util::pointer_in(pointer, 0, slot_va))
+    decode_type_descriptor_near(
+        image,
+        segments,
+        mapping,
+        util::pointer_in(pointer, 0, slot_va),
+    )
+}
+
+// The same without a mapping.
+pub fn slot_row(
+    image: &[u8],
+    segments: &[u64],
+    types: &[u8],
+    vmaddr: u64,
+    slot: usize,
+) -> Descriptor
+    ensures { λ r. ⌜ descriptorOf (now (image .entry)) r ≡ run (now (image .entry)) (now (segments .entry)) (slotRow (now (types .entry)) vmaddr slot) ⌝ }
+{
+    slot_row_near(image, segments, Mapping::empty(), types, vmaddr, slot)
 }
 
 impl TypeIter {

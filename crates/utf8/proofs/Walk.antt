@@ -14,23 +14,23 @@ use Rattle.utf8.specs.Plain.{Plain}
 use mathlib.Core.Option.{Option, some, none}
 use lib.ListN.{length, getD, drop, replicate, length-replicate, drop-of-length-le}
 use lib.Seq.{drop-cons}
-use Rattle.utf8.specs.Table.{Range, table, _to_}
+use Rattle.utf8.specs.Table.{ByteRange, table, _to_}
 use Rattle.utf8.specs.Text.{following, goesOn, untilNul, textLength, leads}
 use Rattle.utf8.specs.declared.Lead.the-variants.{Tail}
 use Rattle.utf8.specs.Utf8Laws.{within-true, within-false, following-starts}
 use Rattle.utf8.proofs.Rows.{in-row}
 
 -- no row lets a NUL be the second byte, or has more than two bytes after that
-abbrev Second : List Range → Type 0
+abbrev Second : List ByteRange → Type 0
 Second [] = Unit {0}
 Second (r ∷ []) = Unit {0}
 Second (r ∷ q ∷ rs) = (0 < q .low) × (length rs ≤ 2)
 
-abbrev Each : List (List Range) → Type 0
+abbrev Each : List (List ByteRange) → Type 0
 Each [] = Unit {0}
 Each (row ∷ rows) = Second row × Each rows
 
-second : {row : List Range} {rows : List (List Range)} → List·Memᴰ row rows → Each rows → Second row
+second : {row : List ByteRange} {rows : List (List ByteRange)} → List·Memᴰ row rows → Each rows → Second row
 second (List·Memᴰ·head e) all = subst Second (sym e) (all .0)
 second (List·Memᴰ·tail m) all = second m (all .1)
 
@@ -39,12 +39,12 @@ unfolding table
 tail-limits low high more b e = rw length-replicate at (second (following-starts table b _ (sym e) .row) (omega arith))
 
 -- `n` continuation bytes, the first of them between `low` and `high`
-abbrev pub tailRanges : ℕ → ℕ → ℕ → List Range
+abbrev pub tailRanges : ℕ → ℕ → ℕ → List ByteRange
 tailRanges zero low high = []
 tailRanges (suc n) low high = low to high ∷ replicate n (0x80 to 0xbf)
 
 -- the walk is at i, with these ranges pending: the text is well-formed if what is left goes on in them, and is i bytes longer than that
-pub record Walk (s : List ℕ) (i : ℕ) (rs : List Range) : Type 0 where
+pub record Walk (s : List ℕ) (i : ℕ) (rs : List ByteRange) : Type 0 where
   pub formed : goesOn (untilNul s) [] ≡ goesOn (untilNul (drop i s)) rs
   pub size : length (untilNul s) ≡ i + length (untilNul (drop i s))
 
@@ -69,14 +69,14 @@ module _ (s : List ℕ) (i : ℕ) (inside : i < length s) where
   here h = rw (add-one, drop-cons s i 0 inside) (until-nul-cons _ _ h)
 
   -- on by a byte that is no NUL
-  step : (rs rs′ : List Range) → (getD s i 0 ≡ 0 → ⊥) → ((t : List ℕ) → goesOn (getD s i 0 ∷ t) rs ≡ goesOn t rs′) → Walk s i rs → Walk s (i + 1) rs′
+  step : (rs rs′ : List ByteRange) → (getD s i 0 ≡ 0 → ⊥) → ((t : List ℕ) → goesOn (getD s i 0 ∷ t) rs ≡ goesOn t rs′) → Walk s i rs → Walk s (i + 1) rs′
   step rs rs′ h g w =
       record {
         formed = w .formed ∙ ap (λ t. goesOn t rs) (here h) ∙ g _;
         size = omega (arith, w .size, ap length (here h));
       }
 
-  pub lead-step : (rs : List Range) → (getD s i 0 ≡ 0 → ⊥) → some rs ≡ following table (getD s i 0) → Walk s i [] → Walk s (i + 1) rs
+  pub lead-step : (rs : List ByteRange) → (getD s i 0 ≡ 0 → ⊥) → some rs ≡ following table (getD s i 0) → Walk s i [] → Walk s (i + 1) rs
   unfolding goesOn
   lead-step rs h e = step [] rs h (λ t. rw (← e, goesOn))
 
@@ -136,7 +136,7 @@ ends s {i} p f w e =
     let g : goesOn (untilNul s) [] ≡ true = w .formed ∙ ap (λ t. goesOn t []) e in
     rw (f, g, textLength) (ap some (omega (arith, w .size, ap length e)))
 
-pub ill-formed : (s : List ℕ) (j : ℕ) {i : ℕ} {rs : List Range} {formed : Bool} → formed ≡ false → Walk s i rs → goesOn (untilNul (drop i s)) rs ≡ false → outcome formed j ≡ textLength s
+pub ill-formed : (s : List ℕ) (j : ℕ) {i : ℕ} {rs : List ByteRange} {formed : Bool} → formed ≡ false → Walk s i rs → goesOn (untilNul (drop i s)) rs ≡ false → outcome formed j ≡ textLength s
 unfolding textLength
 ill-formed s j f w e = rw (f, w .formed ∙ e, textLength)
 

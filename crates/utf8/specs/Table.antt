@@ -3,16 +3,16 @@ use Prim.Native.Nat.{ℕ, _≤_}
 use mathlib.Core.List.{List, [], _∷_, _++_, List·Memᴰ}
 
 -- the bytes from `low` to `high`, both included
-pub record Range : Type 0 where
+pub record ByteRange : Type 0 where
   pub low : ℕ
   pub high : ℕ
 
-abbrev pub _to_ : ℕ → ℕ → Range
+abbrev pub _to_ : ℕ → ℕ → ByteRange
 l to h = record { low = l; high = h }
 
 infix 70 _to_
 -- a row has a range for each byte of its sequences
-unfoldable pub table : List (List Range)
+unfoldable pub table : List (List ByteRange)
 table =
     (0x00 to 0x7f ∷ []) ∷
     (0xc2 to 0xdf ∷ 0x80 to 0xbf ∷ []) ∷
@@ -26,11 +26,11 @@ table =
     []
 
 -- a sequence of a row: as many bytes as ranges, each byte in its range
-pub data Sequence : List Range → List ℕ → Type 0 where
+pub data Sequence : List ByteRange → List ℕ → Type 0 where
   none : Sequence [] []
-  byte : {r : Range} {rs : List Range} {b : ℕ} {bs : List ℕ} → r .low ≤ b → b ≤ r .high → Sequence rs bs → Sequence (r ∷ rs) (b ∷ bs)
+  byte : {r : ByteRange} {rs : List ByteRange} {b : ℕ} {bs : List ℕ} → r .low ≤ b → b ≤ r .high → Sequence rs bs → Sequence (r ∷ rs) (b ∷ bs)
 
 -- a well-formed text: sequences of the table's rows, one after the other
 pub data WellFormed : List ℕ → Type 0 where
   empty : WellFormed []
-  sequence : {row : List Range} {s t : List ℕ} → List·Memᴰ row table → Sequence row s → WellFormed t → WellFormed (s ++ t)
+  sequence : {row : List ByteRange} {s t : List ℕ} → List·Memᴰ row table → Sequence row s → WellFormed t → WellFormed (s ++ t)

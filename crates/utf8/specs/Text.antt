@@ -5,28 +5,28 @@ use mathlib.Core.Bool.{Bool, true, false, _&&_}
 use mathlib.Core.Option.{Option, some, none}
 use lib.ListN.{length, replicate}
 use lib.Dec.{leb}
-use Rattle.utf8.specs.Table.{Range, table, _to_}
+use Rattle.utf8.specs.Table.{ByteRange, table, _to_}
 use Rattle.utf8.specs.declared.Scan.{Scan}
 use Rattle.utf8.specs.declared.Lead.{Lead}
 use Rattle.utf8.specs.declared.Lead.the-variants.{Alone, Tail, Invalid}
 use Rattle.utf8.specs.declared.Scan.the-variants.{Text, IllFormed}
 
-abbrev pub within : Range → ℕ → Bool
-within r b = leb (r .low) b && leb b (r .high)
+abbrev pub inRange : ByteRange → ℕ → Bool
+inRange r b = leb (r .low) b && leb b (r .high)
 
 -- what has to follow a byte that starts a sequence of one of the rows
-unfoldable pub following : List (List Range) → ℕ → Option (List Range)
+unfoldable pub following : List (List ByteRange) → ℕ → Option (List ByteRange)
 following [] b = none
 following ([] ∷ rows) b = following rows b
-following ((r ∷ rs) ∷ rows) b = elim (within r b) [ true ↦ some rs | false ↦ following rows b ]
+following ((r ∷ rs) ∷ rows) b = elim (inRange r b) [ true ↦ some rs | false ↦ following rows b ]
 
 -- whether bytes that have to start in the pending ranges, and then go on with whole sequences, do so.
 -- `Utf8Laws.sound` and `Utf8Laws.complete` say that with nothing pending this is `WellFormed`.
-unfoldable pub goesOn : List ℕ → List Range → Bool
+unfoldable pub goesOn : List ℕ → List ByteRange → Bool
 goesOn [] [] = true
 goesOn [] (r ∷ rs) = false
 goesOn (b ∷ bs) [] = elim (following table b) [ none ↦ false | some rs ↦ goesOn bs rs ]
-goesOn (b ∷ bs) (r ∷ rs) = within r b && goesOn bs rs
+goesOn (b ∷ bs) (r ∷ rs) = inRange r b && goesOn bs rs
 
 abbrev pub wellFormed : List ℕ → Bool
 wellFormed s = goesOn s []
@@ -46,7 +46,7 @@ scanned (Text n) = some n
 scanned IllFormed = none
 
 -- what a lead byte's limits say of the bytes after it: one-to-one (`Utf8Laws.leads-injective`)
-abbrev pub leads : Lead → Option (List Range)
+abbrev pub leads : Lead → Option (List ByteRange)
 leads Alone = some []
 leads (Tail low high more) = some (_to_ low high ∷ replicate more (_to_ 0x80 0xbf))
 leads Invalid = none

@@ -9,13 +9,13 @@ use mathlib.Core.Option.{Option, some, none}
 use mathlib.Core.Logic.{⊎-elim}
 use lib.ListN.{length, take, replicate, length-replicate}
 use borrow.Author.Tests.{le-leb, leb-true}
-use Rattle.utf8.specs.Table.{Range, table, _to_, Sequence, WellFormed}
-use Rattle.utf8.specs.Text.{within, following, goesOn, wellFormed, untilNul, textLength, leads}
+use Rattle.utf8.specs.Table.{ByteRange, table, _to_, Sequence, WellFormed}
+use Rattle.utf8.specs.Text.{inRange, following, goesOn, wellFormed, untilNul, textLength, leads}
 use Rattle.utf8.specs.declared.Lead.{Lead}
 use Rattle.utf8.specs.declared.Lead.the-variants.{Alone, Tail, Invalid}
 
 -- rows in the order of their lead bytes, the first of which is at least n
-abbrev Ordered : ℕ → List (List Range) → Type 0
+abbrev Ordered : ℕ → List (List ByteRange) → Type 0
 Ordered n [] = Unit {0}
 Ordered n ([] ∷ rows) = ⊥
 Ordered n ((r ∷ rs) ∷ rows) = (n ≤ r .low) × (r .low ≤ r .high) × Ordered (suc (r .high)) rows
@@ -24,42 +24,42 @@ table-ordered : Ordered 0 table
 unfolding table
 table-ordered = omega arith
 
-pub within-true : (r : Range) (b : ℕ) → r .low ≤ b → b ≤ r .high → within r b ≡ true
+pub within-true : (r : ByteRange) (b : ℕ) → r .low ≤ b → b ≤ r .high → inRange r b ≡ true
 within-true r b l h = rw (le-leb _ _ l, le-leb _ _ h)
 
-pub within-bounds : (r : Range) (b : ℕ) → within r b ≡ true → (r .low ≤ b) × (b ≤ r .high)
+pub within-bounds : (r : ByteRange) (b : ℕ) → inRange r b ≡ true → (r .low ≤ b) × (b ≤ r .high)
 within-bounds r b w = let both = and-eq-true-iff _ _ .0 w in (leb-true _ _ (both .0), leb-true _ _ (both .1))
 
-pub within-false : (r : Range) (b : ℕ) → (r .low ≤ b → b ≤ r .high → ⊥) → within r b ≡ false
-within-false r b out = go (within r b) refl
+pub within-false : (r : ByteRange) (b : ℕ) → (r .low ≤ b → b ≤ r .high → ⊥) → inRange r b ≡ false
+within-false r b out = go (inRange r b) refl
   where
-    go : (t : Bool) → within r b ≡ t → within r b ≡ false
+    go : (t : Bool) → inRange r b ≡ t → inRange r b ≡ false
     go true w = let bounds = within-bounds r b w in absurd (out (bounds .0) (bounds .1))
     go false w = w
 
 -- a byte that starts a sequence of a row, and what the row asks after it
-pub record Starts (rows : List (List Range)) (b : ℕ) (rs : List Range) : Type 0 where
-  pub lead : Range
+pub record Starts (rows : List (List ByteRange)) (b : ℕ) (rs : List ByteRange) : Type 0 where
+  pub lead : ByteRange
   pub row : List·Memᴰ (lead ∷ rs) rows
   pub bounds : (lead .low ≤ b) × (b ≤ lead .high)
 
-starts-later : {row : List Range} {rows : List (List Range)} {b : ℕ} {rs : List Range} → Starts rows b rs → Starts (row ∷ rows) b rs
+starts-later : {row : List ByteRange} {rows : List (List ByteRange)} {b : ℕ} {rs : List ByteRange} → Starts rows b rs → Starts (row ∷ rows) b rs
 starts-later s = record { lead = s .lead; row = List·Memᴰ·tail (s .row); bounds = s .bounds }
 
-pub following-starts : (rows : List (List Range)) (b : ℕ) (rs : List Range) → following rows b ≡ some rs → Starts rows b rs
+pub following-starts : (rows : List (List ByteRange)) (b : ℕ) (rs : List ByteRange) → following rows b ≡ some rs → Starts rows b rs
 unfolding following
 following-starts [] b rs e = let z : _≡_ {A = ℕ} 0 1 = cc in absurd (omega arith)
 following-starts ([] ∷ rows) b rs e = starts-later (following-starts rows b rs e)
-following-starts ((r ∷ rs′) ∷ rows) b rs e = go (λ k. following-starts rows b rs k) (within r b) refl
+following-starts ((r ∷ rs′) ∷ rows) b rs e = go (λ k. following-starts rows b rs k) (inRange r b) refl
   where
-    go : (following rows b ≡ some rs → Starts rows b rs) → (t : Bool) → within r b ≡ t → Starts ((r ∷ rs′) ∷ rows) b rs
+    go : (following rows b ≡ some rs → Starts rows b rs) → (t : Bool) → inRange r b ≡ t → Starts ((r ∷ rs′) ∷ rows) b rs
     go later true w =
         let f : some rs′ ≡ some rs = rw (w, following) at e in
         record { lead = r; row = List·Memᴰ·head {x = r ∷ rs′} (cc); bounds = within-bounds r b w }
     go later false w = starts-later (later (rw (w, following) at e))
 
 -- the rows are apart by their lead bytes, so the row of a lead byte is the one that is found
-starts-following : (n : ℕ) (rows : List (List Range)) (b : ℕ) (rs : List Range) → Ordered n rows → Starts rows b rs → (n ≤ b) × (following rows b ≡ some rs)
+starts-following : (n : ℕ) (rows : List (List ByteRange)) (b : ℕ) (rs : List ByteRange) → Ordered n rows → Starts rows b rs → (n ≤ b) × (following rows b ≡ some rs)
 unfolding following
 starts-following n [] b rs o s = absurd (List·Memᴰ·not-nil (s .row))
 starts-following n ([] ∷ rows) b rs o s = absurd o
@@ -76,20 +76,20 @@ starts-following n ((r ∷ rs′) ∷ rows) b rs o s =
     (List·Memᴰ·cases-cons (s .row))
 
 -- where a text goes on in the pending ranges: a sequence of these, and then a well-formed text
-record Split (rs : List Range) (s : List ℕ) : Type 0 where
+record Split (rs : List ByteRange) (s : List ℕ) : Type 0 where
   now : List ℕ
   then : List ℕ
   whole : now ++ then ≡ s
   sequence : Sequence rs now
   rest : WellFormed then
 
-split : (s : List ℕ) (rs : List Range) → goesOn s rs ≡ true → Split rs s
+split : (s : List ℕ) (rs : List ByteRange) → goesOn s rs ≡ true → Split rs s
 unfolding goesOn
 split [] [] e = record { now = []; then = []; whole = refl; sequence = Sequence.none; rest = WellFormed.empty }
 split [] (r ∷ rs) e = absurd (false≢true e)
 split (b ∷ bs) [] e = go (λ rs k. split bs rs k) (following table b) refl
   where
-    go : ((rs : List Range) → goesOn bs rs ≡ true → Split rs bs) → (o : Option (List Range)) → following table b ≡ o → Split [] (b ∷ bs)
+    go : ((rs : List ByteRange) → goesOn bs rs ≡ true → Split rs bs) → (o : Option (List ByteRange)) → following table b ≡ o → Split [] (b ∷ bs)
     go later none f = absurd (false≢true (rw (f, goesOn) at e))
     go later (some rs) f =
         let l = later rs (rw (f, goesOn) at e) in
@@ -103,7 +103,7 @@ split (b ∷ bs) [] e = go (λ rs k. split bs rs k) (following table b) refl
           rest = subst WellFormed (ap (λ t. b ∷ t) (l .whole)) (WellFormed.sequence (s .row) q (l .rest));
         }
 split (b ∷ bs) (r ∷ rs) e =
-    let both = and-eq-true-iff (within r b) (goesOn bs rs) .0 e in
+    let both = and-eq-true-iff (inRange r b) (goesOn bs rs) .0 e in
     let bounds = within-bounds r b (both .0) in
     let l = split bs rs (both .1) in
     record {
@@ -120,7 +120,7 @@ sound s e = let l = split s [] e in go (l .sequence) (l .rest) (l .whole)
     go : {t u : List ℕ} → Sequence [] t → WellFormed u → t ++ u ≡ s → WellFormed s
     go Sequence.none w e = subst WellFormed e w
 
-goes-on : {rs : List Range} {s : List ℕ} (t : List ℕ) → Sequence rs s → goesOn t [] ≡ true → goesOn (s ++ t) rs ≡ true
+goes-on : {rs : List ByteRange} {s : List ℕ} (t : List ℕ) → Sequence rs s → goesOn t [] ≡ true → goesOn (s ++ t) rs ≡ true
 unfolding goesOn
 goes-on t Sequence.none e = e
 goes-on t (Sequence.byte l h q) e = rw (within-true _ _ l h) (goes-on t q e)
@@ -130,7 +130,7 @@ unfolding goesOn
 complete _ WellFormed.empty = refl
 complete _ (WellFormed.sequence {t = t} m q w) = go m q (complete t w)
   where
-    go : {row : List Range} {s : List ℕ} → List·Memᴰ row table → Sequence row s → wellFormed t ≡ true → wellFormed (s ++ t) ≡ true
+    go : {row : List ByteRange} {s : List ℕ} → List·Memᴰ row table → Sequence row s → wellFormed t ≡ true → wellFormed (s ++ t) ≡ true
     go m Sequence.none e = e
     go m (Sequence.byte {r = r} {rs = rs} {b = b} l h q) e =
         rw (starts-following 0 table b rs table-ordered (record { lead = r; row = m; bounds = (l, h) }) .1, goesOn) (goes-on t q e)
@@ -147,8 +147,8 @@ leads-injective Invalid Alone e = let z : _≡_ {A = ℕ} 0 1 = cc in absurd (om
 leads-injective Invalid (Tail l h n) e = let z : _≡_ {A = ℕ} 0 1 = cc in absurd (omega arith)
 leads-injective (Tail l h n) (Tail l′ h′ n′) e =
     let second : l to h ≡ l′ to h′ = cc in
-    let low : l ≡ l′ = ap (λ (r : Range). r .low) second in
-    let high : h ≡ h′ = ap (λ (r : Range). r .high) second in
+    let low : l ≡ l′ = ap (λ (r : ByteRange). r .low) second in
+    let high : h ≡ h′ = ap (λ (r : ByteRange). r .high) second in
     let later : replicate n (0x80 to 0xbf) ≡ replicate n′ (0x80 to 0xbf) = cc in
     let more : n ≡ n′ = sym (length-replicate n (0x80 to 0xbf)) ∙ ap length later ∙ length-replicate n′ (0x80 to 0xbf) in
     cc

@@ -124,28 +124,28 @@ abbrev pub ofPrespecialization : PrespecializationEntry → Entry
 ofPrespecialization e = record { address = e .address; words = e .«metadata_va» ∷ [] }
 
 -- the steps' answers
-abbrev pub found : Entry → EntryCursor → Option Step
-found e c = some (record { found = some e; next = c })
+abbrev pub entryFound : Entry → EntryCursor → Option Step
+entryFound e c = some (record { found = some e; next = c })
 
 abbrev pub unreadable : EntryCursor → Option Step
 unreadable c = some (record { found = none; next = c })
 
 abbrev pub methodStep : MethodStep → Option Step
-methodStep (MethodStep.Entry e c) = found (ofMethod e) c
+methodStep (MethodStep.Entry e c) = entryFound (ofMethod e) c
 methodStep (MethodStep.Unreadable c) = unreadable c
 methodStep MethodStep.End = none
 
 abbrev pub overrideStep : OverrideStep → Option Step
-overrideStep (OverrideStep.Entry e c) = found (ofOverride e) c
+overrideStep (OverrideStep.Entry e c) = entryFound (ofOverride e) c
 overrideStep (OverrideStep.Unreadable c) = unreadable c
 overrideStep OverrideStep.End = none
 
 abbrev pub defaultOverrideStep : DefaultOverrideStep → Option Step
-defaultOverrideStep (DefaultOverrideStep.Entry e c) = found (ofDefaultOverride e) c
+defaultOverrideStep (DefaultOverrideStep.Entry e c) = entryFound (ofDefaultOverride e) c
 defaultOverrideStep (DefaultOverrideStep.Unreadable c) = unreadable c
 defaultOverrideStep DefaultOverrideStep.End = none
 
 abbrev pub prespecializationStep : PrespecializationStep → Option Step
-prespecializationStep (PrespecializationStep.Entry e c) = found (ofPrespecialization e) c
+prespecializationStep (PrespecializationStep.Entry e c) = entryFound (ofPrespecialization e) c
 prespecializationStep (PrespecializationStep.Unreadable c) = unreadable c
 prespecializationStep PrespecializationStep.End = none

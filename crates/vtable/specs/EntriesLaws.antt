@@ -1,5 +1,5 @@
 -- What the calls' tests say of the definitions, once for every layout: the bytes of an entry (`small`, `wraps`, `below`), what they say
--- (`entry-of`, `no-entry`, `an-entry`), a step's answers (`step-end`, `step-gives`), and that a true mapping changes none (`step-mapped`).
+-- (`entry-of`, `no-entry`, `an-entry`), a step's answers (`step-end`, `step-gives`, `step-moves`), and that a true mapping changes none (`step-mapped`).
 use Prim.Native.Nat.{ℕ, _+_, _-_, _*_, _%_, _^_, _≤_, _<_}
 use native.Mathlib.Nat.{mod-eq-of-lt, mul-le-mul-left, mul-lt-mul-of-pos-right, lt-of-le-of-lt, le-of-lt}
 use native.Mathlib.Decide.{decLe}
@@ -132,6 +132,11 @@ module _ (image segments : List ℕ) (layout : Layout) (c : EntryCursor) where
       → some (record { found = x; next = moved c }) ≡ entryStep image segments layout c
   unfolding entryStep
   step-gives x e l = simp (lt-ltb (c .next) (c .count) l) (rw (← e))
+
+  -- the same of a cursor that was moved
+  pub step-moves : (x : Option Entry) (n : EntryCursor) → x ≡ run image segments (entryAt layout (c .«base_va») (c .next)) → n ≡ moved c → c .next < c .count
+      → some (record { found = x; next = n }) ≡ entryStep image segments layout c
+  step-moves x n e f l = rw f (step-gives x e l)
 
   -- a true mapping changes no step
   pub step-mapped : (m : Mapping) → Mapped segments m → entryStep image (withMapping m segments) layout c ≡ entryStep image segments layout c

@@ -1,8 +1,8 @@
 // Walks over the entries of a table: by value, each step hands the walk back.
 ghost use mathlib.Core.Path.{_≡_};
-ghost use Prim.Native.Nat.{_+_, _^_, _<_};
+ghost use Prim.Native.Nat.{_+_, _*_, _%_, _^_, _<_};
 ghost use Rattle.segment.specs.Mapping.{withMapping, Mapped};
-ghost use Rattle.vtable.specs.Entries.{method, override, defaultOverride, prespecialization, entryOf, ofMethod, ofOverride, ofDefaultOverride, ofPrespecialization, start, entryStep, methodStep, overrideStep, defaultOverrideStep, prespecializationStep};
+ghost use Rattle.vtable.specs.Entries.{method, override, defaultOverride, prespecialization, entryOf, ofMethod, ofOverride, ofDefaultOverride, ofPrespecialization, start, moved, entryBytes, entryStep, methodStep, overrideStep, defaultOverrideStep, prespecializationStep};
 use crate::entry::DEFAULT_OVERRIDE_SIZE;
 use crate::entry::DefaultOverrideEntry;
 use crate::entry::METHOD_SIZE;
@@ -133,36 +133,58 @@ impl EntryCursor {
         }
     }
 
-    pub fn next_method_near(self, image: &[u8], segments: &[u64], mapping: Mapping) -> MethodStep
-        ensures { λ r. ⌜ methodStep r ≡ entryStep (now (image .entry)) (withMapping mapping (now (segments .entry))) method self ⌝ }
+    // The walk past its next entry.
+    fn moved(self) -> EntryCursor
+        requires { ⌜ self .next < self .count ⌝ }
+        ensures { λ r. ⌜ r ≡ moved self ⌝ }
     {
-        let base_va = self.base_va;
-        let count = self.count;
-        let k = self.next;
-        if count <= k {
-            return MethodStep::End;
+        EntryCursor {
+            base_va: self.base_va,
+            count: self.count,
+            next: self.next + 1,
         }
-        let next = EntryCursor {
-            base_va,
-            count,
-            next: k + 1,
-        };
-        let bytes = entry_bytes(
+    }
+
+    // The address of its next entry, modulo 2^64, and that entry's bytes, of entries of `size` bytes that follow one another without a gap.
+    fn address(self, size: u32) -> u64
+        ensures { λ r. ⌜ r ≡ (self .«base_va» + size * self .next) % 2 ^ 64 ⌝ }
+    {
+        entry_address(self.base_va, size, self.next)
+    }
+
+    fn bytes_near<'a>(
+        self,
+        image: &'a [u8],
+        segments: &[u64],
+        mapping: Mapping,
+        size: u32,
+    ) -> &'a [u8]
+        ensures { λ r. ⌜ now r ≡ entryBytes (now (image .entry)) (withMapping mapping (now (segments .entry))) size size (self .«base_va») (self .next) ⌝ }
+    {
+        entry_bytes(
             image,
             segments,
             mapping,
-            base_va,
-            METHOD_SIZE,
-            METHOD_SIZE,
-            k,
-        );
+            self.base_va,
+            size,
+            size,
+            self.next,
+        )
+    }
+
+    pub fn next_method_near(self, image: &[u8], segments: &[u64], mapping: Mapping) -> MethodStep
+        ensures { λ r. ⌜ methodStep r ≡ entryStep (now (image .entry)) (withMapping mapping (now (segments .entry))) method self ⌝ }
+    {
+        if self.count <= self.next {
+            return MethodStep::End;
+        }
+        let next = self.moved();
+        let bytes = self.bytes_near(image, segments, mapping, METHOD_SIZE);
         if bytes.len() == 0 {
             return MethodStep::Unreadable { next };
         }
-        MethodStep::Entry {
-            entry: vtable_entry(bytes, entry_address(base_va, METHOD_SIZE, k)),
-            next,
-        }
+        let entry = vtable_entry(bytes, self.address(METHOD_SIZE));
+        MethodStep::Entry { entry, next }
     }
 
     pub fn next_override_near(
@@ -173,33 +195,16 @@ impl EntryCursor {
     ) -> OverrideStep
         ensures { λ r. ⌜ overrideStep r ≡ entryStep (now (image .entry)) (withMapping mapping (now (segments .entry))) override self ⌝ }
     {
-        let base_va = self.base_va;
-        let count = self.count;
-        let k = self.next;
-        if count <= k {
+        if self.count <= self.next {
             return OverrideStep::End;
         }
-        let next = EntryCursor {
-            base_va,
-            count,
-            next: k + 1,
-        };
-        let bytes = entry_bytes(
-            image,
-            segments,
-            mapping,
-            base_va,
-            OVERRIDE_SIZE,
-            OVERRIDE_SIZE,
-            k,
-        );
+        let next = self.moved();
+        let bytes = self.bytes_near(image, segments, mapping, OVERRIDE_SIZE);
         if bytes.len() == 0 {
             return OverrideStep::Unreadable { next };
         }
-        OverrideStep::Entry {
-            entry: override_entry(bytes, entry_address(base_va, OVERRIDE_SIZE, k)),
-            next,
-        }
+        let entry = override_entry(bytes, self.address(OVERRIDE_SIZE));
+        OverrideStep::Entry { entry, next }
     }
 
     pub fn next_default_override_near(
@@ -210,33 +215,16 @@ impl EntryCursor {
     ) -> DefaultOverrideStep
         ensures { λ r. ⌜ defaultOverrideStep r ≡ entryStep (now (image .entry)) (withMapping mapping (now (segments .entry))) defaultOverride self ⌝ }
     {
-        let base_va = self.base_va;
-        let count = self.count;
-        let k = self.next;
-        if count <= k {
+        if self.count <= self.next {
             return DefaultOverrideStep::End;
         }
-        let next = EntryCursor {
-            base_va,
-            count,
-            next: k + 1,
-        };
-        let bytes = entry_bytes(
-            image,
-            segments,
-            mapping,
-            base_va,
-            DEFAULT_OVERRIDE_SIZE,
-            DEFAULT_OVERRIDE_SIZE,
-            k,
-        );
+        let next = self.moved();
+        let bytes = self.bytes_near(image, segments, mapping, DEFAULT_OVERRIDE_SIZE);
         if bytes.len() == 0 {
             return DefaultOverrideStep::Unreadable { next };
         }
-        DefaultOverrideStep::Entry {
-            entry: default_override_entry(bytes, entry_address(base_va, DEFAULT_OVERRIDE_SIZE, k)),
-            next,
-        }
+        let entry = default_override_entry(bytes, self.address(DEFAULT_OVERRIDE_SIZE));
+        DefaultOverrideStep::Entry { entry, next }
     }
 
     pub fn next_prespecialization_near(
@@ -247,36 +235,16 @@ impl EntryCursor {
     ) -> PrespecializationStep
         ensures { λ r. ⌜ prespecializationStep r ≡ entryStep (now (image .entry)) (withMapping mapping (now (segments .entry))) prespecialization self ⌝ }
     {
-        let base_va = self.base_va;
-        let count = self.count;
-        let k = self.next;
-        if count <= k {
+        if self.count <= self.next {
             return PrespecializationStep::End;
         }
-        let next = EntryCursor {
-            base_va,
-            count,
-            next: k + 1,
-        };
-        let bytes = entry_bytes(
-            image,
-            segments,
-            mapping,
-            base_va,
-            PRESPECIALIZATION_SIZE,
-            PRESPECIALIZATION_SIZE,
-            k,
-        );
+        let next = self.moved();
+        let bytes = self.bytes_near(image, segments, mapping, PRESPECIALIZATION_SIZE);
         if bytes.len() == 0 {
             return PrespecializationStep::Unreadable { next };
         }
-        PrespecializationStep::Entry {
-            entry: prespecialization_entry(
-                bytes,
-                entry_address(base_va, PRESPECIALIZATION_SIZE, k),
-            ),
-            next,
-        }
+        let entry = prespecialization_entry(bytes, self.address(PRESPECIALIZATION_SIZE));
+        PrespecializationStep::Entry { entry, next }
     }
 
     // The same with nothing known of the addresses around.

@@ -1,9 +1,6 @@
 -- `exports_tables::hodrupec_default_overrides` meets its contract.
 -- Assumes nothing.
-use Rattle.util.specs.AnswersLaws.{told}
-use Rattle.tables.specs.Tables.{tableAnswer}
-use Rattle.exports.specs.NumbersLaws.{tells, refuses}
-use Rattle.exports_tables.specs.Tables.{countNumbers}
+use Rattle.exports_tables.specs.TablesLaws.{tells-table}
 use borrow.Author.Needs.{needs}
 use Rattle.exports_tables.proofs.hodrupec_default_overrides.Statement.{statement}
 use Rattle.exports_tables.proofs.hodrupec_default_overrides.Tie as tie
@@ -11,36 +8,15 @@ use Rattle.exports_tables.proofs.hodrupec_default_overrides.Tie as tie
 default-overrides-requires : tie.Need-default-overrides-requires
 default-overrides-requires c κs = search needs
 
-enum-known-listed : tie.Need-enum-known-listed
-enum-known-listed c = search needs
-
-enum-known-refusal : tie.Need-enum-known-refusal
-enum-known-refusal c = search needs
-
-number-requires : tie.Need-number-requires
-number-requires c κs = search needs
+tell-counts-requires : tie.Need-tell-counts-requires
+tell-counts-requires c κs = search needs
 
 same-length : tie.Need-same-length
 same-length c = search needs
 
 returns : tie.Need-returns
-returns c = (tells countNumbers _ _ _ (told tableAnswer (c .before .before .before .before .before .before .default-overrides .ensures .0) (c .before .before .listed .given .1)), c .before .before .before .before .before .before .default-overrides .ensures .1)
-
-same-length-2 : tie.Need-same-length-2
-same-length-2 c = search needs
-
-returns-2 : tie.Need-returns-2
-returns-2 c = (refuses countNumbers _ _ _ _ (told tableAnswer (c .before .before .before .before .before .before .default-overrides .ensures .0) (c .before .before .refusal .given .1)) (c .number .ensures), c .before .before .before .before .before .before .default-overrides .ensures .1)
+returns c = tells-table _ (c .before .before .before .before .default-overrides .result) _ _ _ _ _ (c .before .before .before .before .default-overrides .ensures) (c .tell-counts .ensures)
 
 pub hodrupec-default-overrides-spec : {M : Type 1} → statement M
 hodrupec-default-overrides-spec =
-    tie.close
-    (tie.spec
-    default-overrides-requires
-    enum-known-listed
-    enum-known-refusal
-    number-requires
-    same-length
-    returns
-    same-length-2
-    returns-2)
+    tie.close (tie.spec default-overrides-requires tell-counts-requires same-length returns)

@@ -5,10 +5,10 @@ use mathlib.Core.Path.{sym, ap, _∙_}
 use mathlib.Core.List.{List}
 use lib.ListN.{length, replicate}
 use denote.Ref.{now}
-use Rattle.bundle.specs.Parts.{segmentNumbersMost}
-use Rattle.printing.specs.Printed.{pendingOf}
+use Rattle.bundle_parts.specs.Parts.{segmentNumbersMost}
+use Rattle.printer.specs.Printed.{pendingOf}
 use lib.Seq.{length-take-le}
-use Rattle.printing.specs.PrintsLaws.{numbers-whole, numbers-fit, numbers-lent, all-lines}
+use Rattle.printer.specs.PrintsLaws.{numbers-whole, numbers-fit, numbers-lent, all-lines}
 use borrow.Author.Needs.{needs}
 use Rattle.list.proofs.print_listing.Statement.{statement}
 use Rattle.list.proofs.print_listing.Tie as tie

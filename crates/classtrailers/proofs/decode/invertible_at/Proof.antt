@@ -8,12 +8,12 @@ use borrow.Author.Needs.{needs}
 use Rattle.classtrailers.proofs.decode.invertible_at.Statement.{statement}
 use Rattle.classtrailers.proofs.decode.invertible_at.Tie as tie
 
-read-bytes-requires : tie.Need-read-bytes-requires
-read-bytes-requires c κs = search needs
+read-bytes-near-requires : tie.Need-read-bytes-near-requires
+read-bytes-near-requires c κs = search needs
 
 returns : tie.Need-returns
 unfolding rowAt
-returns c = no-header _ _ _ 1 _ (c .before .read-bytes .ensures) _ refl (omega arith)
+returns c = no-header _ _ _ 1 _ (c .before .read-bytes-near .ensures) _ refl (omega arith)
 
 u16-at-requires : tie.Need-u16-at-requires
 u16-at-requires c κs = search needs
@@ -23,8 +23,8 @@ unread-requires c κs = search needs
 
 returns-2 : tie.Need-returns-2
 unfolding rowAt
-returns-2 c = set-says _ _ _ 1 _ (c .before .before .before .read-bytes .ensures) _ refl (omega arith) refl _ (set-counted _ _ _ _ (c .before .u16-at .ensures) (omega arith) (c .unread .ensures))
+returns-2 c = set-says _ _ _ 1 _ (c .before .before .before .read-bytes-near .ensures) _ refl (omega arith) refl _ (set-counted _ _ _ _ (c .before .u16-at .ensures) (omega arith) (c .unread .ensures))
 
 pub invertible-at-spec : {M : Type 1} → statement M
 invertible-at-spec =
-    tie.close (tie.spec read-bytes-requires returns u16-at-requires unread-requires returns-2)
+    tie.close (tie.spec read-bytes-near-requires returns u16-at-requires unread-requires returns-2)

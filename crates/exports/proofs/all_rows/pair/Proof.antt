@@ -1,7 +1,7 @@
 -- `exports::all_rows::pair` meets its contract.
 -- Assumes nothing.
 use mathlib.Core.Path.{refl}
-use Rattle.exports.specs.AllRows.{pairBytes}
+use Rattle.exports.specs.AllRows.{twoNumbers}
 use borrow.Author.Needs.{needs}
 use Rattle.exports.proofs.all_rows.pair.Statement.{statement}
 use Rattle.exports.proofs.all_rows.pair.Tie as tie
@@ -55,7 +55,7 @@ cast-t48 : tie.Need-cast-t48
 cast-t48 c = search needs
 
 returns : tie.Need-returns
-unfolding pairBytes
+unfolding twoNumbers
 returns c = refl
 
 pub pair-spec : {M : Type 1} → statement M

@@ -8,8 +8,8 @@ use denote.Ref.{now}
 use Rattle.util.specs.AnswersLaws.{told}
 use Rattle.util.specs.BufferLaws.{past-end, past-into}
 use Rattle.typedescriptor.specs.Row.{rowOf}
-use Rattle.parent.specs.Name.{lengthOf}
-use Rattle.parent.specs.NameLaws.{name-length}
+use Rattle.qualifiedname.specs.Name.{lengthOf}
+use Rattle.qualifiedname.specs.NameLaws.{name-length}
 use Rattle.exports.specs.AllRowsLaws.{head-long, row-long, written-bytes, refused-bytes, kept-part, part-long, record-put, head-alone}
 use borrow.Author.Needs.{needs}
 use Rattle.exports.proofs.all_rows.put_record.Statement.{statement}

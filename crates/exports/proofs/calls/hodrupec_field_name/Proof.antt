@@ -28,13 +28,13 @@ enum-told : tie.Need-enum-told
 enum-told c = search needs
 
 returns-2 : tie.Need-returns-2
-returns-2 c = tells-whole _ _ fieldNumbers _ _ (ap fieldNumbers (told fieldNameOf (c .before .before .before .before .lookup-field-name .ensures) (c .before .before .place .given .1))) (c .before .before .before .before .before .if1 .left)
+returns-2 c = tells-whole _ _ fieldNumbers _ _ (ap fieldNumbers (told fieldNameOf (c .before .before .before .lookup-field-name .ensures) (c .before .place .given .1))) (c .before .before .before .before .if1 .left)
 
 returns-3 : tie.Need-returns-3
-returns-3 c = tells-whole _ _ fieldNumbers _ _ (ap fieldNumbers (told fieldNameOf (c .before .before .before .before .lookup-field-name .ensures) (c .before .before .place2 .given .1))) (c .before .before .before .before .before .if1 .left)
+returns-3 c = tells-whole _ _ fieldNumbers _ _ (ap fieldNumbers (told fieldNameOf (c .before .before .before .lookup-field-name .ensures) (c .before .place2 .given .1))) (c .before .before .before .before .if1 .left)
 
 returns-4 : tie.Need-returns-4
-returns-4 c = tells-whole _ _ fieldNumbers _ _ (ap fieldNumbers (told fieldNameOf (c .before .before .before .lookup-field-name .ensures) (c .before .enum-told .given .1))) (c .before .before .before .before .if1 .left)
+returns-4 c = tells-whole _ _ fieldNumbers _ _ (ap fieldNumbers (told fieldNameOf (c .before .before .lookup-field-name .ensures) (c .enum-told .given .1))) (c .before .before .before .if1 .left)
 
 pub hodrupec-field-name-spec : {M : Type 1} → statement M
 hodrupec-field-name-spec =

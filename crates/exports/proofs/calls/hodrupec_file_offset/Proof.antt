@@ -25,10 +25,10 @@ enum-told : tie.Need-enum-told
 enum-told c = search needs
 
 returns-2 : tie.Need-returns-2
-returns-2 c = tells-whole _ _ valueNumbers _ _ (ap valueNumbers (told offsetOf (c .before .before .before .before .vm-to-file-offset-in .ensures) (c .before .before .offset .given .1))) (c .before .before .before .before .before .if1 .left)
+returns-2 c = tells-whole _ _ valueNumbers _ _ (ap valueNumbers (told offsetOf (c .before .before .before .vm-to-file-offset-in .ensures) (c .before .offset .given .1))) (c .before .before .before .before .if1 .left)
 
 returns-3 : tie.Need-returns-3
-returns-3 c = tells-whole _ _ valueNumbers _ _ (ap valueNumbers (told offsetOf (c .before .before .before .vm-to-file-offset-in .ensures) (c .before .enum-told .given .1))) (c .before .before .before .before .if1 .left)
+returns-3 c = tells-whole _ _ valueNumbers _ _ (ap valueNumbers (told offsetOf (c .before .before .vm-to-file-offset-in .ensures) (c .enum-told .given .1))) (c .before .before .before .if1 .left)
 
 pub hodrupec-file-offset-spec : {M : Type 1} → statement M
 hodrupec-file-offset-spec =

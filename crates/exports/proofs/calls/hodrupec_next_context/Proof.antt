@@ -1,9 +1,10 @@
 -- `exports::calls::hodrupec_next_context` meets its contract.
 -- Assumes nothing.
+use denote.Ref.{now}
 use Rattle.util.specs.AnswersLaws.{told}
 use Rattle.listing.specs.Calls.{contextAnswer}
 use Rattle.exports.specs.Numbers.{stepNumbers}
-use Rattle.exports.specs.NumbersLaws.{tells, tells-as, refuses, name-known}
+use Rattle.exports.specs.NumbersLaws.{tells, tells-as, refuses, name-told}
 use borrow.Author.Needs.{needs}
 use Rattle.exports.proofs.calls.hodrupec_next_context.Statement.{statement}
 use Rattle.exports.proofs.calls.hodrupec_next_context.Tie as tie
@@ -14,20 +15,23 @@ next-context-requires c κs = search needs
 enum-known-context : tie.Need-enum-known-context
 enum-known-context c = search needs
 
-enum-known-name : tie.Need-enum-known-name
-enum-known-name c = search needs
+text-numbers-requires : tie.Need-text-numbers-requires
+text-numbers-requires c κs = search needs
 
-cast-t16 : tie.Need-cast-t16
-cast-t16 c = search needs
+cast-t15 : tie.Need-cast-t15
+cast-t15 c = search needs
+
+array-read-t19 : tie.Need-array-read-t19
+array-read-t19 c = search needs
+
+array-read-t22 : tie.Need-array-read-t22
+array-read-t22 c = search needs
+
+array-read-t25 : tie.Need-array-read-t25
+array-read-t25 c = search needs
 
 enum-told : tie.Need-enum-told
 enum-told c = search needs
-
-cast-t20 : tie.Need-cast-t20
-cast-t20 c = search needs
-
-enum-told-2 : tie.Need-enum-told-2
-enum-told-2 c = search needs
 
 enum-known-refusal : tie.Need-enum-known-refusal
 enum-known-refusal c = search needs
@@ -36,16 +40,13 @@ number-requires : tie.Need-number-requires
 number-requires c κs = search needs
 
 returns : tie.Need-returns
-returns c = tells-as stepNumbers _ _ _ _ (told (contextAnswer _) (c .before .before .before .before .before .before .before .before .next-context .ensures) (c .before .before .before .before .before .before .context .given .1)) (name-known _ _ _ _ _ _ _ (c .before .before .before .name .given .1))
+returns c = tells-as stepNumbers _ _ _ _ (told (contextAnswer _) (c .before .before .before .before .before .before .next-context .ensures) (c .before .before .before .before .context .given .1)) (name-told (now (c .before .before .before .before .before .before .before .before .before .args .image)) _ _ _ _ (c .before .before .before .before .context .given .0 .0 .name) _ (c .before .before .text-numbers .ensures))
 
 returns-2 : tie.Need-returns-2
-returns-2 c = tells-as stepNumbers _ _ _ _ (told (contextAnswer _) (c .before .before .before .before .before .before .before .next-context .ensures) (c .before .before .before .before .before .context .given .1)) (name-known _ _ _ _ _ _ _ (c .before .before .enum-told .given .1))
+returns-2 c = tells stepNumbers _ _ _ (told (contextAnswer _) (c .before .before .before .next-context .ensures) (c .before .enum-told .given .1))
 
 returns-3 : tie.Need-returns-3
-returns-3 c = tells stepNumbers _ _ _ (told (contextAnswer _) (c .before .before .before .next-context .ensures) (c .before .enum-told2 .given .1))
-
-returns-4 : tie.Need-returns-4
-returns-4 c = refuses stepNumbers _ _ _ _ (told (contextAnswer _) (c .before .before .before .before .next-context .ensures) (c .before .before .refusal .given .1)) (c .number .ensures)
+returns-3 c = refuses stepNumbers _ _ _ _ (told (contextAnswer _) (c .before .before .before .before .next-context .ensures) (c .before .before .refusal .given .1)) (c .number .ensures)
 
 pub hodrupec-next-context-spec : {M : Type 1} → statement M
 hodrupec-next-context-spec =
@@ -53,14 +54,14 @@ hodrupec-next-context-spec =
     (tie.spec
     next-context-requires
     enum-known-context
-    enum-known-name
-    cast-t16
+    text-numbers-requires
+    cast-t15
+    array-read-t19
+    array-read-t22
+    array-read-t25
     enum-told
-    cast-t20
-    enum-told-2
     enum-known-refusal
     number-requires
     returns
     returns-2
-    returns-3
-    returns-4)
+    returns-3)

@@ -1,7 +1,7 @@
 -- `exports::calls::hodrupec_qualified_name` meets its contract.
 -- Assumes nothing.
 use Rattle.util.specs.AnswersLaws.{told}
-use Rattle.parent.specs.Name.{lengthOf}
+use Rattle.qualifiedname.specs.Name.{lengthOf}
 use Rattle.exports.specs.Numbers.{oneNumber}
 use Rattle.exports.specs.NumbersLaws.{tells, refuses}
 use borrow.Author.Needs.{needs}

@@ -1,11 +1,10 @@
 -- `exports::calls::hodrupec_text` meets its contract.
 -- Assumes nothing.
-use mathlib.Core.Path.{ap}
-use Rattle.util.specs.AnswersLaws.{told}
-use Rattle.refusal.specs.Refusal.{answered}
-use Rattle.util.specs.Cstr.{textOf}
+use denote.Ref.{now}
+use mathlib.Core.Path.{refl, _∙_, ap}
+use Rattle.util.specs.Cstr.{textAt}
 use Rattle.exports.specs.Numbers.{textNumbers}
-use Rattle.exports.specs.NumbersLaws.{tells}
+use Rattle.exports.specs.NumbersLaws.{tells-as}
 use borrow.Author.Needs.{needs}
 use Rattle.exports.proofs.calls.hodrupec_text.Statement.{statement}
 use Rattle.exports.proofs.calls.hodrupec_text.Tie as tie
@@ -13,18 +12,11 @@ use Rattle.exports.proofs.calls.hodrupec_text.Tie as tie
 read-cstr-at-requires : tie.Need-read-cstr-at-requires
 read-cstr-at-requires c κs = search needs
 
-enum-known-place : tie.Need-enum-known-place
-enum-known-place c = search needs
-
-enum-told : tie.Need-enum-told
-enum-told c = search needs
+text-numbers-requires : tie.Need-text-numbers-requires
+text-numbers-requires c κs = search needs
 
 returns : tie.Need-returns
-returns c = tells textNumbers _ _ _ (ap answered (told textOf (c .before .before .before .before .read-cstr-at .ensures) (c .before .before .place .given .1)))
-
-returns-2 : tie.Need-returns-2
-returns-2 c = tells textNumbers _ _ _ (ap answered (told textOf (c .before .before .before .read-cstr-at .ensures) (c .before .enum-told .given .1)))
+returns c = tells-as textNumbers _ _ (textAt (now (c .before .before .before .args .data)) (c .before .before .before .args .off)) _ refl (c .text-numbers .ensures ∙ ap textNumbers (c .before .read-cstr-at .ensures))
 
 pub hodrupec-text-spec : {M : Type 1} → statement M
-hodrupec-text-spec =
-    tie.close (tie.spec read-cstr-at-requires enum-known-place enum-told returns returns-2)
+hodrupec-text-spec = tie.close (tie.spec read-cstr-at-requires text-numbers-requires returns)

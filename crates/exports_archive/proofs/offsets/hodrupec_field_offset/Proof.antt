@@ -3,7 +3,7 @@
 use mathlib.Core.Path.{ap}
 use Rattle.refusal.specs.Refusal.{answered}
 use Rattle.util.specs.AnswersLaws.{told}
-use Rattle.typebody.specs.Offsets.{offsetOf}
+use Rattle.fieldoffsets.specs.Offsets.{fieldOffsetOf}
 use Rattle.exports.specs.Numbers.{valueNumbers}
 use Rattle.exports.specs.NumbersLaws.{tells}
 use borrow.Author.Needs.{needs}
@@ -23,10 +23,10 @@ enum-told : tie.Need-enum-told
 enum-told c = search needs
 
 returns : tie.Need-returns
-returns c = tells valueNumbers _ _ _ (ap answered (told offsetOf (c .before .before .before .before .field-offset .ensures) (c .before .before .offset .given .1)))
+returns c = tells valueNumbers _ _ _ (ap answered (told fieldOffsetOf (c .before .before .before .field-offset .ensures) (c .before .offset .given .1)))
 
 returns-2 : tie.Need-returns-2
-returns-2 c = tells valueNumbers _ _ _ (ap answered (told offsetOf (c .before .before .before .field-offset .ensures) (c .before .enum-told .given .1)))
+returns-2 c = tells valueNumbers _ _ _ (ap answered (told fieldOffsetOf (c .before .before .field-offset .ensures) (c .enum-told .given .1)))
 
 pub hodrupec-field-offset-spec : {M : Type 1} → statement M
 hodrupec-field-offset-spec =

@@ -2,7 +2,7 @@
 -- Assumes nothing.
 use mathlib.Core.Path.{refl}
 use Rattle.util.specs.AnswersLaws.{told}
-use Rattle.typebody.specs.Offsets.{offsetsOf}
+use Rattle.fieldoffsets.specs.Offsets.{offsetsOf}
 use Rattle.exports_archive.specs.Offsets.{offsetsNumbers}
 use borrow.Author.Needs.{needs}
 use Rattle.exports_archive.proofs.offsets.offsets_numbers.Statement.{statement}

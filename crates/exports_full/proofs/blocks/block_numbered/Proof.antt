@@ -2,7 +2,7 @@
 -- Assumes nothing.
 use Rattle.util.specs.AnswersLaws.{told}
 use Rattle.listing.specs.Bodies.{bodyAnswer}
-use Rattle.exports_full.specs.Blocks.{kindOf}
+use Rattle.exports_full.specs.Blocks.{kindReadOf}
 use Rattle.exports_full.specs.BlocksLaws.{kind-block, no-kind-no-block, no-body-no-block}
 use borrow.Author.Needs.{needs}
 use Rattle.exports_full.proofs.blocks.block_numbered.Statement.{statement}
@@ -30,10 +30,10 @@ enum-known-refusal : tie.Need-enum-known-refusal
 enum-known-refusal c = search needs
 
 returns : tie.Need-returns
-returns c = kind-block _ _ _ _ _ _ (told bodyAnswer (c .before .before .before .before .before .before .before .before .row-body .ensures) (c .before .before .before .before .before .before .body .given .1)) _ _ (told kindOf (c .before .before .before .before .kind-numbered .ensures) (c .before .before .kind .given .1)) (c .block-of-kind .ensures)
+returns c = kind-block _ _ _ _ _ _ (told bodyAnswer (c .before .before .before .before .before .before .before .before .row-body .ensures) (c .before .before .before .before .before .before .body .given .1)) _ _ (told kindReadOf (c .before .before .before .before .kind-numbered .ensures) (c .before .before .kind .given .1)) (c .block-of-kind .ensures)
 
 returns-2 : tie.Need-returns-2
-returns-2 c = no-kind-no-block _ _ _ _ _ _ (told bodyAnswer (c .before .before .before .before .before .before .row-body .ensures) (c .before .before .before .before .body .given .1)) (told kindOf (c .before .before .kind-numbered .ensures) (c .enum-told .given .1))
+returns-2 c = no-kind-no-block _ _ _ _ _ _ (told bodyAnswer (c .before .before .before .before .before .before .row-body .ensures) (c .before .before .before .before .body .given .1)) (told kindReadOf (c .before .before .kind-numbered .ensures) (c .enum-told .given .1))
 
 returns-3 : tie.Need-returns-3
 returns-3 c = no-body-no-block _ _ _ _ _ _ (told bodyAnswer (c .before .before .before .row-body .ensures) (c .before .refusal .given .1))

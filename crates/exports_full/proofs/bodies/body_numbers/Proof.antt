@@ -4,7 +4,7 @@ use mathlib.Core.Path.{refl, _∙_}
 use Rattle.util.specs.AnswersLaws.{told}
 use Rattle.typebody.specs.Body.{bodyOf}
 use Rattle.typebody.specs.declared.body.TypeBody.{TypeBody}
-use Rattle.exports_full.specs.Bodies.{bodyNumbers}
+use Rattle.fullrows.specs.FullRows.{bodyNumbers}
 use borrow.Author.Needs.{needs}
 use Rattle.exports_full.proofs.bodies.body_numbers.Statement.{statement}
 use Rattle.exports_full.proofs.bodies.body_numbers.Tie as tie

@@ -1,6 +1,6 @@
 -- `exports_full::bodies::class_numbers` meets its contract.
 -- Assumes nothing.
-use Rattle.exports_full.specs.BodiesLaws.{class-known}
+use Rattle.fullrows.specs.FullRowsLaws.{class-known}
 use borrow.Author.Needs.{needs}
 use Rattle.exports_full.proofs.bodies.class_numbers.Statement.{statement}
 use Rattle.exports_full.proofs.bodies.class_numbers.Tie as tie

@@ -2,7 +2,7 @@
 -- Assumes nothing.
 use Rattle.util.specs.AnswersLaws.{told}
 use Rattle.listing.specs.Bodies.{bodyAnswer}
-use Rattle.exports_full.specs.Bodies.{bodyNumbers}
+use Rattle.fullrows.specs.FullRows.{bodyNumbers}
 use Rattle.exports.specs.NumbersLaws.{tells-as, refuses}
 use borrow.Author.Needs.{needs}
 use Rattle.exports_full.proofs.bodies.hodrupec_body.Statement.{statement}

@@ -30,10 +30,10 @@ number-requires : tie.Need-number-requires
 number-requires c κs = search needs
 
 returns : tie.Need-returns
-returns c = tells initNumbers _ _ _ (told (λ (x : SingletonMetadataInit). answered (initOf x)) (told initAnswer (c .before .before .before .before .before .before .before .singleton-init .ensures) (c .before .before .before .before .before .init .given .1)) (c .before .before .init2 .given .1))
+returns c = tells initNumbers _ _ _ (told (λ (x : SingletonMetadataInit). answered (initOf x)) (told initAnswer (c .before .before .before .before .before .before .singleton-init .ensures) (c .before .before .before .before .init .given .1)) (c .before .init2 .given .1))
 
 returns-2 : tie.Need-returns-2
-returns-2 c = tells initNumbers _ _ _ (told (λ (x : SingletonMetadataInit). answered (initOf x)) (told initAnswer (c .before .before .before .before .before .before .singleton-init .ensures) (c .before .before .before .before .init .given .1)) (c .before .enum-told .given .1))
+returns-2 c = tells initNumbers _ _ _ (told (λ (x : SingletonMetadataInit). answered (initOf x)) (told initAnswer (c .before .before .before .before .before .singleton-init .ensures) (c .before .before .before .init .given .1)) (c .enum-told .given .1))
 
 returns-3 : tie.Need-returns-3
 returns-3 c = refuses initNumbers _ _ _ _ (told initAnswer (c .before .before .before .before .singleton-init .ensures) (c .before .before .refusal .given .1)) (c .number .ensures)

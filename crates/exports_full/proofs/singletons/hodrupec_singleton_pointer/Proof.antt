@@ -30,10 +30,10 @@ number-requires : tie.Need-number-requires
 number-requires c κs = search needs
 
 returns : tie.Need-returns
-returns c = tells valueNumbers _ _ _ (told (λ (x : SingletonMetadataPointer). answered (pointerOf x)) (told pointerAnswer (c .before .before .before .before .before .before .before .singleton-pointer .ensures) (c .before .before .before .before .before .pointer .given .1)) (c .before .before .pointer2 .given .1))
+returns c = tells valueNumbers _ _ _ (told (λ (x : SingletonMetadataPointer). answered (pointerOf x)) (told pointerAnswer (c .before .before .before .before .before .before .singleton-pointer .ensures) (c .before .before .before .before .pointer .given .1)) (c .before .pointer2 .given .1))
 
 returns-2 : tie.Need-returns-2
-returns-2 c = tells valueNumbers _ _ _ (told (λ (x : SingletonMetadataPointer). answered (pointerOf x)) (told pointerAnswer (c .before .before .before .before .before .before .singleton-pointer .ensures) (c .before .before .before .before .pointer .given .1)) (c .before .enum-told .given .1))
+returns-2 c = tells valueNumbers _ _ _ (told (λ (x : SingletonMetadataPointer). answered (pointerOf x)) (told pointerAnswer (c .before .before .before .before .before .singleton-pointer .ensures) (c .before .before .before .pointer .given .1)) (c .enum-told .given .1))
 
 returns-3 : tie.Need-returns-3
 returns-3 c = refuses valueNumbers _ _ _ _ (told pointerAnswer (c .before .before .before .before .singleton-pointer .ensures) (c .before .before .refusal .given .1)) (c .number .ensures)

@@ -1,7 +1,7 @@
 -- `exports::flags::hodrupec_class_flags` meets its contract.
 -- Assumes nothing.
 use mathlib.Core.Path.{refl}
-use Rattle.exports_util.specs.Flags.{classFlags}
+use Rattle.exports_util.specs.Flags.{classFlagNumbers}
 use borrow.Author.Needs.{needs}
 use Rattle.exports_util.proofs.flags.hodrupec_class_flags.Statement.{statement}
 use Rattle.exports_util.proofs.flags.hodrupec_class_flags.Tie as tie
@@ -56,7 +56,7 @@ flag-requires-7 : tie.Need-flag-requires-7
 flag-requires-7 c κs = search needs
 
 returns : tie.Need-returns
-unfolding classFlags
+unfolding classFlagNumbers
 returns c = (refl, cc)
 
 pub hodrupec-class-flags-spec : {M : Type 1} → statement M

@@ -1,7 +1,7 @@
 -- `exports::flags::hodrupec_conformance_flags` meets its contract.
 -- Assumes nothing.
 use mathlib.Core.Path.{refl}
-use Rattle.exports_util.specs.Flags.{conformanceFlags}
+use Rattle.exports_util.specs.Flags.{conformanceFlagNumbers}
 use borrow.Author.Needs.{needs}
 use Rattle.exports_util.proofs.flags.hodrupec_conformance_flags.Statement.{statement}
 use Rattle.exports_util.proofs.flags.hodrupec_conformance_flags.Tie as tie
@@ -61,7 +61,7 @@ byte-requires-2 : tie.Need-byte-requires-2
 byte-requires-2 c κs = search needs
 
 returns : tie.Need-returns
-unfolding conformanceFlags
+unfolding conformanceFlagNumbers
 returns c = (refl, cc)
 
 pub hodrupec-conformance-flags-spec : {M : Type 1} → statement M

@@ -1,7 +1,7 @@
 -- `exports::flags::hodrupec_context_flags` meets its contract.
 -- Assumes nothing.
 use mathlib.Core.Path.{refl}
-use Rattle.exports_util.specs.Flags.{contextFlags}
+use Rattle.exports_util.specs.Flags.{contextFlagNumbers}
 use borrow.Author.Needs.{needs}
 use Rattle.exports_util.proofs.flags.hodrupec_context_flags.Statement.{statement}
 use Rattle.exports_util.proofs.flags.hodrupec_context_flags.Tie as tie
@@ -49,7 +49,7 @@ half-requires-2 : tie.Need-half-requires-2
 half-requires-2 c κs = search needs
 
 returns : tie.Need-returns
-unfolding contextFlags
+unfolding contextFlagNumbers
 returns c = (refl, cc)
 
 pub hodrupec-context-flags-spec : {M : Type 1} → statement M

@@ -1,7 +1,7 @@
 -- `exports::flags::hodrupec_field_flags` meets its contract.
 -- Assumes nothing.
 use mathlib.Core.Path.{refl}
-use Rattle.exports_util.specs.Flags.{fieldFlags}
+use Rattle.exports_util.specs.Flags.{fieldFlagNumbers}
 use borrow.Author.Needs.{needs}
 use Rattle.exports_util.proofs.flags.hodrupec_field_flags.Statement.{statement}
 use Rattle.exports_util.proofs.flags.hodrupec_field_flags.Tie as tie
@@ -25,7 +25,7 @@ flag-requires-3 : tie.Need-flag-requires-3
 flag-requires-3 c κs = search needs
 
 returns : tie.Need-returns
-unfolding fieldFlags
+unfolding fieldFlagNumbers
 returns c = (refl, cc)
 
 pub hodrupec-field-flags-spec : {M : Type 1} → statement M

@@ -1,7 +1,7 @@
 -- `exports::flags::hodrupec_method_flags` meets its contract.
 -- Assumes nothing.
 use mathlib.Core.Path.{refl}
-use Rattle.exports_util.specs.Flags.{methodFlags}
+use Rattle.exports_util.specs.Flags.{methodFlagNumbers}
 use borrow.Author.Needs.{needs}
 use Rattle.exports_util.proofs.flags.hodrupec_method_flags.Statement.{statement}
 use Rattle.exports_util.proofs.flags.hodrupec_method_flags.Tie as tie
@@ -43,7 +43,7 @@ half-requires : tie.Need-half-requires
 half-requires c κs = search needs
 
 returns : tie.Need-returns
-unfolding methodFlags
+unfolding methodFlagNumbers
 returns c = (refl, cc)
 
 pub hodrupec-method-flags-spec : {M : Type 1} → statement M

@@ -1,7 +1,7 @@
 -- `exports::flags::hodrupec_type_flags` meets its contract.
 -- Assumes nothing.
 use mathlib.Core.Path.{refl}
-use Rattle.exports_util.specs.Flags.{typeFlags}
+use Rattle.exports_util.specs.Flags.{typeFlagNumbers}
 use borrow.Author.Needs.{needs}
 use Rattle.exports_util.proofs.flags.hodrupec_type_flags.Statement.{statement}
 use Rattle.exports_util.proofs.flags.hodrupec_type_flags.Tie as tie
@@ -45,7 +45,7 @@ flag-requires-5 : tie.Need-flag-requires-5
 flag-requires-5 c κs = search needs
 
 returns : tie.Need-returns
-unfolding typeFlags
+unfolding typeFlagNumbers
 returns c = (refl, cc)
 
 pub hodrupec-type-flags-spec : {M : Type 1} → statement M

@@ -7,7 +7,7 @@ use denote.Ref.{now}
 use native.Mathlib.Nat.{add-sub-cancel-left}
 use Rattle.typedescriptor.specs.Row.{rowOf}
 use Rattle.util.specs.AnswersLaws.{told}
-use Rattle.parent.specs.Name.{lengthOf}
+use Rattle.qualifiedname.specs.Name.{lengthOf}
 use Rattle.printing.specs.Lines.{nameBytes}
 use Rattle.printing.specs.LinesLaws.{name-put, name-room, refusal-put}
 use borrow.Author.Needs.{needs}

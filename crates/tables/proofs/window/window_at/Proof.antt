@@ -1,41 +1,65 @@
 -- `tables::window::window_at` meets its contract.
 -- Assumes nothing.
-use Rattle.segment.specs.Mapping.{Located}
-use Rattle.util.specs.AnswersLaws.{case}
-use Rattle.tables.specs.TablesLaws.{closed-opens, mapping-opens}
+use native.Mathlib.Omega.{arith}
+use Rattle.vtable.specs.EntriesLaws.{product}
+use Rattle.tables.specs.TablesLaws.{place-wraps}
 use borrow.Author.Needs.{needs}
 use Rattle.tables.proofs.window.window_at.Statement.{statement}
 use Rattle.tables.proofs.window.window_at.Tie as tie
 
-locate-requires : tie.Need-locate-requires
-locate-requires c κs = search needs
+mul-size : tie.Need-mul-size
+mul-size c = search needs
 
-enum-known-mapping : tie.Need-enum-known-mapping
-enum-known-mapping c = search needs
+add-size : tie.Need-add-size
+add-size c = search needs
 
-window-in-requires : tie.Need-window-in-requires
-window-in-requires c κs = search needs
+mul-before : tie.Need-mul-before
+mul-before c = record { fits = product (omega arith) (omega arith) }
 
-enum-told : tie.Need-enum-told
-enum-told c = search needs
-
-closed-requires : tie.Need-closed-requires
-closed-requires c κs = search needs
+sub-if1 : tie.Need-sub-if1
+sub-if1 c = search needs
 
 returns : tie.Need-returns
-returns c = mapping-opens _ _ _ _ _ _ (case (Located _ _) (c .before .before .before .before .locate .ensures) (c .before .before .mapping .given .1)) (c .window-in .ensures)
+returns c = place-wraps _ _ _ _ (omega arith)
+
+add-address : tie.Need-add-address
+add-address c = search needs
+
+sub-if2 : tie.Need-sub-if2
+sub-if2 c = search needs
+
+sub-if2-2 : tie.Need-sub-if2-2
+sub-if2-2 c = search needs
 
 returns-2 : tie.Need-returns-2
-returns-2 c = closed-opens _ _ _ _ (c .closed .ensures)
+returns-2 c = place-wraps _ _ _ _ (omega arith)
+
+window-of-one-requires : tie.Need-window-of-one-requires
+window-of-one-requires c κs = search needs
+
+window-of-all-requires : tie.Need-window-of-all-requires
+window-of-all-requires c κs = search needs
+
+returns-3 : tie.Need-returns-3
+returns-3 c = search needs
+
+returns-4 : tie.Need-returns-4
+returns-4 c = search needs
 
 pub window-at-spec : {M : Type 1} → statement M
 window-at-spec =
     tie.close
     (tie.spec
-    locate-requires
-    enum-known-mapping
-    window-in-requires
-    enum-told
-    closed-requires
+    mul-size
+    add-size
+    mul-before
+    sub-if1
     returns
-    returns-2)
+    add-address
+    sub-if2
+    sub-if2-2
+    returns-2
+    window-of-one-requires
+    window-of-all-requires
+    returns-3
+    returns-4)

@@ -6,14 +6,14 @@ use mathlib.Core.Path.{_≡_, refl, _∙_}
 use mathlib.Core.List.{_++_}
 use denote.Ref.{now}
 use lib.ListN.{length, take, drop}
-use Rattle.test_lines.specs.Lines.{pairBytes}
+use Rattle.test_lines.specs.Lines.{digitPairs}
 use Rattle.test_lines.specs.LinesLaws.{pair-byte, pairs-next, pairs-written}
 use borrow.Author.Needs.{needs}
 use Rattle.test_lines.proofs.hex.write_pairs.Statement.{statement}
 use Rattle.test_lines.proofs.hex.write_pairs.Tie as tie
 
 abbrev Inv-loop : tie.InvT-loop
-Inv-loop s out₀ count n₀ out n = (n ≤ count) × (length out ≡ length out₀) × (out ≡ take n (pairBytes s) ++ drop n out₀)
+Inv-loop s out₀ count n₀ out n = (n ≤ count) × (length out ≡ length out₀) × (out ≡ take n (digitPairs s) ++ drop n out₀)
 
 abbrev μ-loop : tie.MeasureT-loop
 μ-loop s out₀ count n₀ out n = count - n

@@ -3,15 +3,15 @@
 use Prim.Native.Nat.{ℕ}
 use mathlib.Core.Path.{_≡_}
 use borrow.Author.Needs.{needs}
-use Rattle.context.specs.Context.{kinds, kindOf}
+use Rattle.context.specs.Context.{contextKinds, kindOf}
 use Rattle.context.specs.declared.descriptor.ContextDescriptorKind.the-variants.{Other}
 use Rattle.context.proofs.Rows.{Row, value, in-row}
 use Rattle.context.proofs.descriptor.ContextDescriptorKind.of.Statement.{statement}
 use Rattle.context.proofs.descriptor.ContextDescriptorKind.of.Tie as tie
 
-arm : (i n : ℕ) → Row i kinds n → value i kinds (Other n) ≡ kindOf n
+arm : (i n : ℕ) → Row i contextKinds n → value i contextKinds (Other n) ≡ kindOf n
 unfolding kindOf
-arm i n h = in-row i kinds _ n h
+arm i n h = in-row i contextKinds _ n h
 
 returns : tie.Need-returns
 returns c = arm 0 _ (search needs)

@@ -3,15 +3,15 @@
 use Prim.Native.Nat.{ℕ}
 use mathlib.Core.Path.{_≡_}
 use borrow.Author.Needs.{needs}
-use Rattle.context.specs.Field.{kinds, fieldKind}
+use Rattle.context.specs.Field.{fieldKinds, fieldKind}
 use Rattle.context.specs.declared.field.FieldDescriptorKind.the-variants.{Other}
 use Rattle.context.proofs.Rows.{Row, value, in-row}
 use Rattle.context.proofs.field.FieldDescriptorKind.from_bits.Statement.{statement}
 use Rattle.context.proofs.field.FieldDescriptorKind.from_bits.Tie as tie
 
-arm : (i n : ℕ) → Row i kinds n → value i kinds (Other n) ≡ fieldKind n
+arm : (i n : ℕ) → Row i fieldKinds n → value i fieldKinds (Other n) ≡ fieldKind n
 unfolding fieldKind
-arm i n h = in-row i kinds _ n h
+arm i n h = in-row i fieldKinds _ n h
 
 returns : tie.Need-returns
 returns c = arm 0 _ (search needs)

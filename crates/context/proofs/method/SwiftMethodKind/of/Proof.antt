@@ -3,15 +3,15 @@
 use Prim.Native.Nat.{ℕ}
 use mathlib.Core.Path.{_≡_}
 use borrow.Author.Needs.{needs}
-use Rattle.context.specs.Method.{kinds, methodOf}
+use Rattle.context.specs.Method.{methodKinds, methodOf}
 use Rattle.context.specs.declared.method.SwiftMethodKind.the-variants.{Other}
 use Rattle.context.proofs.Rows.{Row, value, in-row}
 use Rattle.context.proofs.method.SwiftMethodKind.of.Statement.{statement}
 use Rattle.context.proofs.method.SwiftMethodKind.of.Tie as tie
 
-arm : (i n : ℕ) → Row i kinds n → value i kinds (Other n) ≡ methodOf n
+arm : (i n : ℕ) → Row i methodKinds n → value i methodKinds (Other n) ≡ methodOf n
 unfolding methodOf
-arm i n h = in-row i kinds _ n h
+arm i n h = in-row i methodKinds _ n h
 
 returns : tie.Need-returns
 returns c = arm 0 _ (search needs)

@@ -11,8 +11,8 @@ use Rattle.field.proofs.record.FieldRecordIter.next_near.Tie as tie
 returns : tie.Need-returns
 returns c = record-end _ _ _ (omega arith)
 
-add-t12 : tie.Need-add-t12
-add-t12 c = search needs
+add-t9 : tie.Need-add-t9
+add-t9 c = search needs
 
 entry-bytes-requires : tie.Need-entry-bytes-requires
 entry-bytes-requires c κs = search needs
@@ -34,7 +34,7 @@ next-near-spec =
     tie.close
     (tie.spec
     returns
-    add-t12
+    add-t9
     entry-bytes-requires
     returns-2
     entry-address-requires

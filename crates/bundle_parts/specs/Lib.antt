@@ -1,0 +1,3 @@
+pub mod LayoutLaws
+pub mod Parts
+pub mod PartsLaws

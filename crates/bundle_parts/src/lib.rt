@@ -1,0 +1,13 @@
+// What lies in an opened bundle: the image, its sections and its segments.
+mod parts;
+mod segments;
+
+pub use parts::Segment;
+pub use parts::SegmentRead;
+pub use parts::fields_part;
+pub use parts::image_part;
+pub use parts::strings_part;
+pub use parts::types_part;
+pub use segments::SEGMENT_NUMBERS;
+pub use segments::segment;
+pub use segments::segment_numbers;

@@ -1,0 +1,71 @@
+-- `bundle::rules::broken_rule` meets its contract. The invariant: the walk from here on tells what the whole one does.
+-- Assumes nothing.
+use Prim.Native.Nat.{_-_}
+use native.Mathlib.Omega.{arith}
+use mathlib.Core.Path.{sym, _∙_}
+use lib.ListN.{length}
+use borrow.Author.Needs.{needs}
+use Rattle.bundle_rules.specs.RuleLaws.{too-long-whole, Walked, walked-none, walked-breaks, walked-keeps, walked-whole, walked-missing, seen-image, seen-other, kept}
+use Rattle.bundle_rules.proofs.rules.broken_rule.Statement.{statement}
+use Rattle.bundle_rules.proofs.rules.broken_rule.Tie as tie
+
+abbrev Inv-loop : tie.InvT-loop
+Inv-loop bytes image₀ last₀ at₀ image last at = Walked bytes image last at
+
+abbrev μ-loop : tie.MeasureT-loop
+μ-loop bytes image₀ last₀ at₀ image last at = length bytes - at
+
+returns : tie.Need-returns Inv-loop μ-loop
+returns c = too-long-whole _ (omega arith)
+
+loop-holds : tie.Need-loop-holds Inv-loop μ-loop
+loop-holds c = walked-none _ (omega arith)
+
+check-record-requires : tie.Need-check-record-requires Inv-loop μ-loop
+check-record-requires c κs = search needs
+
+enum-known-rule : tie.Need-enum-known-rule Inv-loop μ-loop
+enum-known-rule c = search needs
+
+returns-2 : tie.Need-returns-2 Inv-loop μ-loop
+returns-2 c = walked-breaks _ _ _ _ _ (c .before .before .before .before .before .loop .inv) (omega arith) (sym (c .before .rule .given .1) ∙ c .before .before .before .check-record .ensures)
+
+enum-known-kind : tie.Need-enum-known-kind Inv-loop μ-loop
+enum-known-kind c = search needs
+
+loop-less : tie.Need-loop-less Inv-loop μ-loop
+loop-less c = omega (arith, kept _ _ _ _ _ (sym (c .before .before .kind .given .1) ∙ c .before .before .before .before .check-record .ensures) .next)
+
+loop-again : tie.Need-loop-again Inv-loop μ-loop
+loop-again c = seen-image _ _ _ _ (c .if2 .taken) (walked-keeps _ _ _ _ _ _ (c .before .before .before .before .before .before .loop .inv) (omega arith) (sym (c .before .before .kind .given .1) ∙ c .before .before .before .before .check-record .ensures))
+
+loop-less-2 : tie.Need-loop-less-2 Inv-loop μ-loop
+loop-less-2 c = omega (arith, kept _ _ _ _ _ (sym (c .before .before .kind .given .1) ∙ c .before .before .before .before .check-record .ensures) .next)
+
+loop-again-2 : tie.Need-loop-again-2 Inv-loop μ-loop
+loop-again-2 c = seen-other _ _ _ _ (c .if2 .left) (walked-keeps _ _ _ _ _ _ (c .before .before .before .before .before .before .loop .inv) (omega arith) (sym (c .before .before .kind .given .1) ∙ c .before .before .before .before .check-record .ensures))
+
+returns-3 : tie.Need-returns-3 Inv-loop μ-loop
+returns-3 c = walked-whole _ _ _ _ (c .before .before .loop .inv) (omega arith) (c .if3 .taken)
+
+returns-4 : tie.Need-returns-4 Inv-loop μ-loop
+returns-4 c = walked-missing _ _ _ _ (c .before .before .loop .inv) (omega arith) (c .if3 .left)
+
+pub broken-rule-spec : {M : Type 1} → statement M
+broken-rule-spec =
+    tie.close
+    (tie.spec
+    Inv-loop
+    μ-loop
+    returns
+    loop-holds
+    check-record-requires
+    enum-known-rule
+    returns-2
+    enum-known-kind
+    loop-less
+    loop-again
+    loop-less-2
+    loop-again-2
+    returns-3
+    returns-4)

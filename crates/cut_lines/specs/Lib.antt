@@ -1,0 +1,3 @@
+pub mod CutLines
+pub mod CutLinesLaws
+pub mod OakLines

@@ -1,0 +1,2 @@
+pub mod FullRows
+pub mod FullRowsLaws

@@ -1,0 +1,3 @@
+pub mod FullRows
+pub mod FullRowsLaws
+pub mod BlocksLaws

@@ -1,0 +1,126 @@
+-- A second image worked through, with what hangs on a row: a class of two methods and one override, in a context without a name, in a module. The paths are those of
+-- docs/SPECIFICATION.md, "Items, paths and the cut", written out as numbers.
+use Prim.Native.Nat.{ℕ, _≤_}
+use native.Mathlib.Omega.{arith}
+use mathlib.Core.Path.{_≡_, refl}
+use mathlib.Core.Logic.{inr}
+use mathlib.Core.List.{List, [], _∷_, _++_}
+use mathlib.Core.Bool.{true, false}
+use mathlib.Core.Option.{Option, some, none}
+use lib.ListN.{take}
+use Rattle.utf8.specs.Table.{table}
+use Rattle.utf8.specs.Text.{following, goesOn, untilNul, textLength}
+use Rattle.util.specs.LittleEndian.{littleEndian, bytesAt, littleAt, twosComplement, signedAt, unsignedIn, signedIn}
+use Rattle.util.specs.Pointer.{relativePointer, relativeAddress}
+use Rattle.segment.specs.Segments.{segmentsOf, fileOffset, decides, inFile}
+use Rattle.util.specs.Cstr.{textAt}
+use Rattle.runtime.specs.Reads.{within, bytesPlace, textOffset, run, extent, Range, path, bind, All, Clear}
+use Rattle.context.specs.Context.{kindOf}
+use Rattle.classtrailers.specs.Blocks.{rowAt, recordAt, endAt, passed, reached, blockIn, block}
+use Rattle.classtrailers.specs.declared.block.Block.{Block}
+use Rattle.classtrailers.specs.declared.block.BlockKind.{BlockKind}
+use Rattle.typedescriptor.specs.Row.{rowName, descriptor}
+use Rattle.typedescriptor.specs.Slots.{slotRow}
+use Rattle.typebody.specs.Body.{classBody, bodyBytes, body, slotBody}
+use Rattle.typebody.specs.Items.{slotBlock}
+use Rattle.vtable.specs.Entries.{entryAt, upTo, entry}
+use Rattle.parent.specs.Context.{headerIn, header}
+use Rattle.parent.specs.Chain.{headerAt}
+use Rattle.items.specs.Keys.{Sections, EntryKind, Key, Answer}
+use Rattle.items.specs.Items.{mapReads, entryOfSlot, contextOfSlot, item}
+use Rattle.items.specs.CutLaws.{Claim}
+
+-- a u32 of one byte
+abbrev word : ℕ → List ℕ
+word n = n ∷ 0 ∷ 0 ∷ 0 ∷ []
+
+-- 113 bytes, each line from the offset that it names
+abbrev pub image : List ℕ
+image =
+    -- 0: `Oak` and a NUL
+    79 ∷ 97 ∷ 107 ∷ 0 ∷
+    -- 4: the descriptor: a class with a vtable and an override table; the parent's offset 80 at 8, the name's -12 at 12
+    16 ∷ 0 ∷ 0 ∷ 0xc0 ∷ (word 80 ++ (0xf4 ∷ 0xff ∷ 0xff ∷ 0xff ∷ (word 0 ++ (word 0
+    -- 24: the body
+    ++ (word 0 ++ (word 0 ++ (word 0 ++ (word 0 ++ (word 0 ++ (word 0
+    -- 48: the vtable's header: two methods, 56 and 64
+    ++ (word 0 ++ (word 2 ++ (word 16 ++ (word 0 ++ (word 17 ++ (word 0
+    -- 72: the override table's header, and 76 its one entry
+    ++ (word 1 ++ (word 0 ++ (word 0 ++ (word 0
+    -- 88: an anonymous context; the parent's offset 4 at 92
+    ++ (word 2 ++ (word 4
+    -- 96: a module; no parent; the name's offset 4 at 104
+    ++ (word 0 ++ (word 0 ++ (word 4
+    -- 108: `Wood` and a NUL
+    ++ (87 ∷ 111 ∷ 111 ∷ 100 ∷ 0 ∷ []))))))))))))))))))))))))))
+
+-- laid at 0x1000
+abbrev pub segments : List ℕ
+segments = 0x1000 ∷ 113 ∷ 0 ∷ 113 ∷ []
+
+-- types at 0x2000: one slot, whose offset is 0x1004 - 0x2000; no fields
+abbrev pub sections : Sections
+sections = record { types = 0x04 ∷ 0xf0 ∷ 0xff ∷ 0xff ∷ []; typesStart = 0x2000; fields = []; fieldsStart = 0 }
+
+abbrev reads : Key → List Range
+reads k = path image segments (item sections k)
+
+abbrev told : List ℕ → Key → Option Answer
+told i k = run i segments (item sections k)
+
+-- bytes from an offset up to another
+abbrev bytesTo : ℕ → ℕ → Range
+bytesTo o e = record { from = o; to = e; isText = false }
+
+-- the descriptor's 20 bytes, and the name with its NUL
+abbrev rowReads : List Range
+rowReads = bytesTo 4 24 ∷ record { from = 0; to = 4; isText = true } ∷ []
+
+pub record Worked : Type 0 where
+  pub row : reads (Key.row 0) ≡ rowReads
+  -- the body's 24 bytes
+  pub body : reads (Key.body 0) ≡ rowReads ++ (bytesTo 24 48 ∷ [])
+  -- the vtable's own header; for the override table, the vtable's header and then its own
+  pub vtable : reads (Key.block 0 BlockKind.VTable) ≡ rowReads ++ (bytesTo 24 48 ∷ bytesTo 48 56 ∷ [])
+  pub overrides : reads (Key.block 0 BlockKind.OverrideTable) ≡ rowReads ++ (bytesTo 24 48 ∷ bytesTo 48 56 ∷ bytesTo 72 76 ∷ [])
+  -- method 1: its block's, and the bytes of methods 0 and 1
+  pub method-1 : reads (Key.entry 0 EntryKind.methods 1) ≡ rowReads ++ (bytesTo 24 48 ∷ bytesTo 48 56 ∷ bytesTo 56 64 ∷ bytesTo 64 72 ∷ [])
+  pub override-0 : reads (Key.entry 0 EntryKind.overrides 0) ≡ rowReads ++ (bytesTo 24 48 ∷ bytesTo 48 56 ∷ bytesTo 72 76 ∷ bytesTo 76 88 ∷ [])
+  -- context 1: the row's, and the 8 bytes of contexts 0 and 1
+  pub context-1 : reads (Key.context 0 1) ≡ rowReads ++ (bytesTo 88 96 ∷ bytesTo 96 104 ∷ [])
+  -- what they say
+  pub says-vtable : told image (Key.block 0 BlockKind.VTable) ≡ some (Answer.block (Block.VTable 0 2 0x1038))
+  pub says-overrides : told image (Key.block 0 BlockKind.OverrideTable) ≡ some (Answer.block (Block.OverrideTable 1 0x104c))
+  pub says-method : told image (Key.entry 0 EntryKind.methods 1) ≡ some (Answer.entry (record { address = 0x1040; words = 17 ∷ 0 ∷ [] }))
+  pub says-context : told image (Key.context 0 1) ≡ some (Answer.context (record { address = 0x1060; flags = 0; parent = 0 }))
+  -- the name is the only text, and stands first
+  pub clear : (c : ℕ) → 4 ≤ c → All (Clear c) (reads (Key.row 0))
+  -- method 1 ends at 72: a cut there keeps it, and one a byte before does not; the claim says so of both; the override table's header is behind it
+  pub cut-72 : told (take 72 image) (Key.entry 0 EntryKind.methods 1) ≡ told image (Key.entry 0 EntryKind.methods 1)
+  pub cut-71 : told (take 71 image) (Key.entry 0 EntryKind.methods 1) ≡ none
+  pub claim-72 : Claim image segments sections 72 (Key.entry 0 EntryKind.methods 1)
+  pub claim-71 : Claim image segments sections 71 (Key.entry 0 EntryKind.methods 1)
+  pub cut-75 : told (take 75 image) (Key.block 0 BlockKind.OverrideTable) ≡ none
+
+pub worked : Worked
+unfolding run path bind bytesPlace within textOffset extent segmentsOf fileOffset decides inFile table following goesOn textAt textLength untilNul unsignedIn signedIn littleAt signedAt bytesAt littleEndian twosComplement relativeAddress relativePointer descriptor rowName slotRow mapReads item classBody bodyBytes body slotBody rowAt recordAt endAt passed reached blockIn block slotBlock entryAt upTo entry entryOfSlot headerIn header headerAt contextOfSlot kindOf
+worked =
+    record {
+      row = refl;
+      body = refl;
+      vtable = refl;
+      overrides = refl;
+      method-1 = refl;
+      override-0 = refl;
+      context-1 = refl;
+      says-vtable = refl;
+      says-overrides = refl;
+      says-method = refl;
+      says-context = refl;
+      clear = λ c h. ((λ t. absurd (let z : _≡_ {A = ℕ} 0 1 = cc in omega arith)), ((λ t. inr (omega arith)), tt));
+      cut-72 = refl;
+      cut-71 = refl;
+      claim-72 = refl;
+      claim-71 = refl;
+      cut-75 = refl;
+    }

@@ -1,0 +1,7 @@
+// The printed listing of a bundle.
+mod printer;
+
+pub use printer::LINES;
+pub use printer::PrintStep;
+pub use printer::Printer;
+pub use printer::start;
