@@ -15,3 +15,4 @@ pub use walk::BlockRead;
 pub use walk::BlockStep;
 pub use walk::BlockWalk;
 pub use walk::block_of_kind;
+pub use walk::block_of_kind_near;

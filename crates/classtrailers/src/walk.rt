@@ -2,6 +2,7 @@
 ghost use mathlib.Core.Path.{_≡_};
 ghost use Prim.Native.Nat.{_<_};
 ghost use Rattle.runtime.specs.Reads.{run};
+ghost use Rattle.segment.specs.Mapping.{withMapping};
 ghost use Rattle.classtrailers.specs.Blocks.{rowAt, passed, stepAt, nextBlock, block};
 ghost use Rattle.classtrailers.specs.Calls.{trailingOf, walkOf, endOf, blockStepOf, blockReadOf};
 use crate::block::Block;
@@ -9,9 +10,11 @@ use crate::block::BlockKind;
 use crate::decode::BlockAt;
 use crate::decode::End;
 use crate::decode::block_at;
+use crate::decode::block_near;
 use crate::trailing::Trailing;
 use crate::trailing::has_block;
 use crate::trailing::number_of;
+use segment::Mapping;
 
 // How many kinds of blocks there are.
 pub const ROWS: u32 = 11;
@@ -89,14 +92,21 @@ impl BlockWalk {
 }
 
 // Where the next block starts, past the one with this number if that is there.
-fn pass(image: &[u8], segments: &[u64], trailing: Trailing, row: u32, address: u64) -> End
+fn pass(
+    image: &[u8],
+    segments: &[u64],
+    mapping: Mapping,
+    trailing: Trailing,
+    row: u32,
+    address: u64,
+) -> End
     requires { ⌜ row < 11 ⌝ }
-    ensures { λ r. ⌜ endOf r ≡ run (now (image .entry)) (now (segments .entry)) (passed (trailingOf trailing) (rowAt row) address) ⌝ }
+    ensures { λ r. ⌜ endOf r ≡ run (now (image .entry)) (withMapping mapping (now (segments .entry))) (passed (trailingOf trailing) (rowAt row) address) ⌝ }
 {
     if !has_block(trailing, row) {
         return End::At(address);
     }
-    match block_at(image, segments, row, address) {
+    match block_near(image, segments, mapping, row, address) {
         BlockAt::Block { block: _, end } => End::At(end),
         BlockAt::Last(_) => End::Nothing,
         BlockAt::Nothing => End::Nothing,
@@ -104,14 +114,15 @@ fn pass(image: &[u8], segments: &[u64], trailing: Trailing, row: u32, address: u
 }
 
 // The block of a kind, of a descriptor whose blocks start at an address: of those before it only the headers are read.
-pub fn block_of_kind(
+pub fn block_of_kind_near(
     image: &[u8],
     segments: &[u64],
+    mapping: Mapping,
     trailing: Trailing,
     start: u64,
     kind: BlockKind,
 ) -> BlockRead
-    ensures { λ r. ⌜ blockReadOf r ≡ run (now (image .entry)) (now (segments .entry)) (block (trailingOf trailing) start kind) ⌝ }
+    ensures { λ r. ⌜ blockReadOf r ≡ run (now (image .entry)) (withMapping mapping (now (segments .entry))) (block (trailingOf trailing) start kind) ⌝ }
 {
     let number = number_of(kind);
     if !has_block(trailing, number) {
@@ -120,7 +131,7 @@ pub fn block_of_kind(
     let mut address = start;
     let mut row: u32 = 0;
     while row < number {
-        match pass(image, segments, trailing, row, address) {
+        match pass(image, segments, mapping, trailing, row, address) {
             End::At(end) => {
                 address = end;
                 row += 1;
@@ -130,9 +141,22 @@ pub fn block_of_kind(
             }
         }
     }
-    match block_at(image, segments, number, address) {
+    match block_near(image, segments, mapping, number, address) {
         BlockAt::Block { block, end: _ } => BlockRead::Block(block),
         BlockAt::Last(block) => BlockRead::Block(block),
         BlockAt::Nothing => BlockRead::Nothing,
     }
+}
+
+// The same without a mapping.
+pub fn block_of_kind(
+    image: &[u8],
+    segments: &[u64],
+    trailing: Trailing,
+    start: u64,
+    kind: BlockKind,
+) -> BlockRead
+    ensures { λ r. ⌜ blockReadOf r ≡ run (now (image .entry)) (now (segments .entry)) (block (trailingOf trailing) start kind) ⌝ }
+{
+    block_of_kind_near(image, segments, Mapping::empty(), trailing, start, kind)
 }

@@ -7,13 +7,12 @@ ghost use lib.ListN.{length, replicate};
 ghost use Rattle.util.specs.Buffer.{pasted, atStart};
 ghost use Rattle.typebody.specs.Body.{bodyOf, classOf};
 ghost use Rattle.fullrows.specs.FullRows.{bodyNumbers, blockFour, blockFours, fullRow, fullRowsIn, numbersOf, givenOf};
-ghost use Rattle.segment.specs.Mapping.{withMapping, Mapped};
+ghost use Rattle.segment.specs.Mapping.{withMapping};
 ghost use Rattle.classtrailers.specs.Calls.{trailingOf};
 ghost use Rattle.typedescriptor.specs.Row.{rowOf};
 use classtrailers::Block;
 use classtrailers::BlockAt;
 use classtrailers::Trailing;
-use segment::Around;
 use segment::Mapping;
 use typebody::ClassBody;
 use typebody::ClassSizes;
@@ -291,28 +290,6 @@ fn put_blocks(
     }
 }
 
-// Whether an address is one of the mapping's.
-fn has(mapping: Mapping, address: u64) -> bool {
-    if address < mapping.vmaddr {
-        return false;
-    }
-    address - mapping.vmaddr < mapping.size
-}
-
-// A mapping with the address, if one can be had: the same, or another.
-fn around(segments: &[u64], mapping: Mapping, address: u64) -> Mapping
-    requires { ⌜ Mapped (now segments) mapping ⌝ }
-    ensures { λ r. ⌜ Mapped (now (segments .entry)) r ⌝ }
-{
-    if has(mapping, address) {
-        return mapping;
-    }
-    match segment::locate(segments, address) {
-        Around::Mapping(found) => found,
-        Around::Nothing => mapping,
-    }
-}
-
 // A row's record at a place of the list.
 fn put_record(
     image: &[u8],
@@ -382,7 +359,7 @@ pub fn put_rows(
                         all: false,
                     };
                 }
-                mapping = around(segments, mapping, row.address);
+                mapping = segment::mapping_around(segments, mapping, row.address);
                 put_record(image, segments, mapping, slot, row, buffer, RECORD * n);
                 n += 1;
                 slot += 1;

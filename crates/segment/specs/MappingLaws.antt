@@ -3,12 +3,15 @@ use Prim.Native.Nat.{ℕ, _+_, _-_, _^_, _≤_, _<_, min, max}
 use native.Mathlib.Decide.{decLt}
 use native.Mathlib.Omega.{arith}
 use mathlib.Core.Path.{_≡_, refl, sym, ap, _∙_}
+use mathlib.Core.Bool.{true, false}
 use mathlib.Core.Option.{Option, some, none}
 use mathlib.Core.List.{List}
 use lib.ListN.{length, drop, getD}
+use lib.Dec.{ltb}
+use borrow.Author.Tests.{ltb-true}
 use Rattle.segment.specs.Segments.{Segment, segmentsOf, fileOffset, decides, inFile, decided, offsetOf}
 use Rattle.segment.specs.SegmentsLaws.{wraps, below, above, no-bytes, held, past-file, offset-wraps, in-file, segmentAt, segments-step}
-use Rattle.segment.specs.Mapping.{withMapping, Mapped, Has, Exact, Located, InFile, Clipped}
+use Rattle.segment.specs.Mapping.{withMapping, Mapped, Has, Moved, Exact, Located, InFile, Clipped}
 use Rattle.segment.specs.declared.segment.Mapping.{Mapping}
 use Rattle.segment.specs.declared.segment.Around.{Around}
 use Rattle.segment.specs.declared.segment.FileOffset.{FileOffset}
@@ -238,3 +241,29 @@ located-nowhere segments v (Around.Mapping m) e w =
     let f : none ≡ some (m .fileoff + (v - m .vmaddr)) = e ∙ located-offset segments v m w in
     let z : _≡_ {A = ℕ} 0 1 = cc in
     absurd (omega arith)
+
+-- ---- the mapping that a walk goes on with
+
+module _ (m : Mapping) (v : ℕ) where
+  pub has-none : _≡_ false true → Has m v
+  has-none e = let z : _≡_ {A = ℕ} 0 1 = cc in absurd (omega arith)
+
+  pub has-within : m .vmaddr ≤ v → ltb (v - m .vmaddr) (m .size) ≡ true → Has m v
+  has-within h e = record { from = h; to = omega (arith, ltb-true (v - m .vmaddr) (m .size) e) }
+
+module _ (segments : List ℕ) (m : Mapping) (v : ℕ) where
+  pub moved-same : Has m v → Moved segments m v m
+  moved-same h = record { mapped = λ w. w; has = λ o e. h }
+
+  pub moved-found : (r : Mapping) → Located segments v (Around.Mapping r) → Moved segments m v r
+  moved-found r l = record { mapped = λ w. l .0; has = λ o e. l .1 }
+
+  pub moved-nowhere : Located segments v Around.Nothing → Moved segments m v m
+  moved-nowhere l =
+      record {
+        mapped = λ w. w;
+        has = λ o e.
+            let f : _≡_ {A = Option ℕ} (some o) none = e ∙ sym l in
+            let z : _≡_ {A = ℕ} 0 1 = cc in
+            absurd (omega arith);
+      }

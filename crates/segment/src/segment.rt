@@ -1,8 +1,9 @@
 // From an address to a file offset, by the segments: a lent list of numbers, four to a segment.
 ghost use mathlib.Core.Path.{_≡_};
+ghost use mathlib.Core.Bool.{true};
 ghost use Prim.Native.Nat.{_+_, _≤_, _<_, _^_, min, max};
 ghost use Rattle.segment.specs.Segments.{fileOffset, segmentsOf, decides, offsetOf, decided};
-ghost use Rattle.segment.specs.Mapping.{InFile, Clipped, Located, withMapping};
+ghost use Rattle.segment.specs.Mapping.{Has, Moved, InFile, Clipped, Located, withMapping};
 
 pub enum FileOffset {
     At(u64),
@@ -194,6 +195,29 @@ pub fn locate(segments: &[u64], address: u64) -> Around
         }
     }
     Around::Nothing
+}
+
+// Whether an address is one of the mapping's.
+fn has(mapping: Mapping, address: u64) -> bool
+    ensures { λ r. ⌜ (r ≡ true → Has mapping address) ⌝ }
+{
+    if address < mapping.vmaddr {
+        return false;
+    }
+    address - mapping.vmaddr < mapping.size
+}
+
+// A mapping with the address, if that is in the file: the one that is given, or another.
+pub fn mapping_around(segments: &[u64], mapping: Mapping, address: u64) -> Mapping
+    ensures { λ r. ⌜ Moved (now (segments .entry)) mapping address r ⌝ }
+{
+    if has(mapping, address) {
+        return mapping;
+    }
+    match locate(segments, address) {
+        Around::Mapping(found) => found,
+        Around::Nothing => mapping,
+    }
 }
 
 // The file offset of an address, with no walk over the segments where the mapping has it: the mapping is asked as a segment before them.

@@ -39,8 +39,8 @@ same-length c = search needs
 returns : tie.Need-returns Inv-loop μ-loop
 returns c = full _ _ _ _ _ _ _ _ _ (c .before .before .before .before .before .before .loop .inv .1) (c .before .before .before .before .before .loop-test .taken) _ (told (descriptorOf _) (c .before .before .before .before .slot-row-near .ensures) (c .before .before .found .given .1) ∙ run-mapped _ _ _ (c .before .before .before .before .before .before .loop .inv .0) _) (c .if1 .taken)
 
-around-requires : tie.Need-around-requires Inv-loop μ-loop
-around-requires c κs = c .before .before .before .before .before .before .loop .inv .0
+mapping-around-requires : tie.Need-mapping-around-requires Inv-loop μ-loop
+mapping-around-requires c κs = search needs
 
 mul-put-record : tie.Need-mul-put-record Inv-loop μ-loop
 mul-put-record c =
@@ -69,8 +69,9 @@ loop-again : tie.Need-loop-again Inv-loop μ-loop
 loop-again c =
     let a = c .before .before .before .before .before .before .before .before .before .before .before .before .before .before .before .before .before .args in
     let l = c .before .before .before .before .before .before .before .before .before .before .before .loop in
-    let written = pasted-as (l .buffer) _ _ _ (58 * l .n) (c .before .before .put-record .ensures) (row-mapped (a .image .now) (a .segments .now) _ (c .before .before .before .before .around .ensures) (l .slot) (rowOf (a .image .now) (c .before .before .before .before .before .before .before .found .given .0 .0))) in
-    (c .before .before .before .before .around .ensures, goes-on _ _ _ _ _ _ _ _ _ (l .inv .1) (c .before .before .before .before .before .before .before .before .before .before .loop-test .taken) _ (told (descriptorOf _) (c .before .before .before .before .before .before .before .before .before .slot-row-near .ensures) (c .before .before .before .before .before .before .before .found .given .1) ∙ run-mapped _ _ _ (c .before .before .before .before .before .before .before .before .before .before .before .loop .inv .0) _) _ (omega (arith, c .before .before .before .before .before .if1 .left)) written)
+    let mapped = c .before .before .before .before .mapping-around .ensures .mapped (l .inv .0) in
+    let written = pasted-as (l .buffer) _ _ _ (58 * l .n) (c .before .before .put-record .ensures) (row-mapped (a .image .now) (a .segments .now) _ mapped (l .slot) (rowOf (a .image .now) (c .before .before .before .before .before .before .before .found .given .0 .0))) in
+    (mapped, goes-on _ _ _ _ _ _ _ _ _ (l .inv .1) (c .before .before .before .before .before .before .before .before .before .before .loop-test .taken) _ (told (descriptorOf _) (c .before .before .before .before .before .before .before .before .before .slot-row-near .ensures) (c .before .before .before .before .before .before .before .found .given .1) ∙ run-mapped _ _ _ (c .before .before .before .before .before .before .before .before .before .before .before .loop .inv .0) _) _ (omega (arith, c .before .before .before .before .before .if1 .left)) written)
 
 enum-told : tie.Need-enum-told Inv-loop μ-loop
 enum-told c = search needs
@@ -103,7 +104,7 @@ put-rows-spec =
     enum-known-found
     same-length
     returns
-    around-requires
+    mapping-around-requires
     mul-put-record
     put-record-requires
     add-n
