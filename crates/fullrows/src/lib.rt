@@ -6,3 +6,4 @@ mod rows;
 pub use calls::FullRows;
 pub use calls::full_rows;
 pub use rows::Given;
+pub use rows::put_four;

@@ -23,7 +23,7 @@ use Rattle.segment.specs.declared.segment.Around.{Around}
 use Rattle.refusal.specs.Refusal.{Guarded, answered, refused, mapped, answerOf}
 use Rattle.listing.specs.Calls.{guarded}
 use Rattle.listing.specs.CallsLaws.{ragged, whole}
-use Rattle.runtime.specs.Reads.{bytesPlace, run}
+use Rattle.runtime.specs.Reads.{bytesPlace, run, andThen}
 use Rattle.runtime.specs.CallsLaws.{bytes-at, bytes-past, bytes-nowhere, bytes-within}
 use Rattle.vtable.specs.Entries.{Word, Layout, Entry, entrySize, entryOf, entryAddress, entryAt, Step, entryStep, wordAt, wordsFrom}
 use Rattle.vtable.specs.EntriesLaws.{step-end, step-gives}
@@ -160,6 +160,26 @@ shape-least numbered (suc (suc n)) r stride e = ap (λ (n : ℕ). shape numbered
 words-long : (ws : List Word) (a o : ℕ) (h : List ℕ) → length (wordsFrom ws a o h) ≡ length ws
 words-long [] a o h = refl
 words-long (w ∷ ws) a o h = ap suc (words-long ws a (o + 4) h)
+
+-- how many numbers an entry has
+module _ (image segments : List ℕ) (l : Layout) (base k : ℕ) (x : Entry) where
+  wide-at : (p : Option ℕ) → some x ≡ andThen p (λ o. some (entryOf l (entryAddress l base k) (take (entrySize l) (drop o image)))) → length (entryNumbers x) ≡ width l
+  wide-at none e = let z : _≡_ {A = ℕ} 0 1 = cc in absurd (omega arith)
+  wide-at (some o) e =
+      let f : x ≡ entryOf l (entryAddress l base k) (take (entrySize l) (drop o image)) = cc in
+      rw f (ap suc (words-long (l .words) (entryAddress l base k) 0 (take (entrySize l) (drop o image))))
+
+  entry-wide : some x ≡ run image segments (entryAt l base k) → length (entryNumbers x) ≡ width l
+  unfolding entryAt run
+  entry-wide e = go (decLe (2 ^ 64) (entryAddress l base k + (entrySize l - 4)))
+    where
+      go : Dec (2 ^ 64 ≤ entryAddress l base k + (entrySize l - 4)) → length (entryNumbers x) ≡ width l
+      go (yes w) =
+          let f : _≡_ {A = Option Entry} (some x) none = simp (le-leb (2 ^ 64) (entryAddress l base k + (entrySize l - 4)) w) at e in
+          let z : _≡_ {A = ℕ} 0 1 = cc in
+          absurd (omega arith)
+      go (no w) =
+          wide-at (bytesPlace image segments (entryAddress l base k) (entrySize l)) (simp (lt-leb (2 ^ 64) (entryAddress l base k + (entrySize l - 4)) (omega arith)) at e)
 
 -- the last word of an entry lies below 2^64, also of one that starts so much further on
 pub below-word : (a x more last : ℕ) → a ≡ x % 2 ^ 64 → x + last + (4 + 4 * more - 4) < 2 ^ 64 → a + last + 4 * more < 2 ^ 64
@@ -354,6 +374,46 @@ module _ (image segments : List ℕ) (l : Layout) (base count : ℕ) where
           → left (suc n + m) k ≡ after (left (suc n) k .numbers) (suc n) (left m (suc n + k))
       go ih (yes h) = given ih h (run image segments (entryAt l base k)) refl
       go ih (no h) = never 0 (from-end (suc n) k (omega arith)) (λ z. omega arith)
+
+  -- how many numbers so many entries have; where the list is full there are more
+  pub record Sized (n k : ℕ) : Type 0 where
+    pub long : length (left n k .numbers) ≡ width l * left n k .entries
+    pub few : left n k .entries ≤ n
+    pub full : left n k .stop ≡ 1 → k + left n k .entries < count
+
+  none-sized : (n k s : ℕ) → left n k ≡ ended s → (s ≡ 1 → k < count) → Sized n k
+  none-sized n k s e h =
+      record {
+        long = ap (λ (r : WholeTable). length (r .numbers)) e ∙ sym (mul-zero (width l)) ∙ ap (λ (r : WholeTable). width l * r .entries) (sym e);
+        few = omega (arith, ap (λ (r : WholeTable). r .entries) e);
+        full = λ z. omega (arith, ap (λ (r : WholeTable). r .entries) e, h (sym (ap (λ (r : WholeTable). r .stop) e) ∙ z));
+      }
+
+  pub sized : (n k : ℕ) → Sized n k
+  sized zero k = go (decLt k count)
+    where
+      go : Dec (k < count) → Sized 0 k
+      go (yes h) = none-sized 0 k 1 (from-full k h) (λ z. h)
+      go (no h) = none-sized 0 k 0 (from-end 0 k (omega arith)) (λ z. omega arith)
+  sized (suc n) k = go (sized n (k + 1)) (decLt k count)
+    where
+      found : Sized n (k + 1) → k < count → (y : Option Entry) → y ≡ run image segments (entryAt l base k) → Sized (suc n) k
+      found ih h none f = none-sized (suc n) k 2 (from-none n k h f) (λ z. omega arith)
+      found ih h (some x) f =
+          let e = from-some n k x h f in
+          let rest : ℕ = left n (k + 1) .entries in
+          let more : left (suc n) k .entries ≡ suc rest = ap (λ (r : WholeTable). r .entries) e in
+          record {
+            long =
+                ap (λ (r : WholeTable). length (r .numbers)) e ∙ length-append (entryNumbers x) (left n (k + 1) .numbers)
+                ∙ omega (arith, entry-wide image segments l base k x f, ih .long, mul-suc (width l) rest) ∙ ap (λ (j : ℕ). width l * j) (sym more);
+            few = omega (arith, ih .few, more);
+            full = λ z. omega (arith, more, ih .full (sym (ap (λ (r : WholeTable). r .stop) e) ∙ z));
+          }
+
+      go : Sized n (k + 1) → Dec (k < count) → Sized (suc n) k
+      go ih (yes h) = found ih h (run image segments (entryAt l base k)) refl
+      go ih (no h) = none-sized (suc n) k 0 (from-end (suc n) k (omega arith)) (λ z. omega arith)
 
   module _ (b₀ : List ℕ) (k₀ : ℕ) where
     abbrev most : ℕ

@@ -11,3 +11,4 @@ pub use calls::methods;
 pub use calls::overrides;
 pub use calls::prespecializations;
 pub use list::Listed;
+pub use list::list_entries;

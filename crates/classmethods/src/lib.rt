@@ -1,0 +1,9 @@
+// The methods of all classes of a types section in one call, into a lent list of numbers. The call refuses a list of segment numbers that is no
+// multiple of four, before all else (refusal 1).
+mod calls;
+mod classes;
+mod vtables;
+
+pub use calls::ClassMethods;
+pub use calls::class_methods;
+pub use classes::Given;
