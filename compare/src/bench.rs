@@ -418,6 +418,79 @@ fn methods(input: &Input, count: usize, steps: bool) -> Times {
     })
 }
 
+/// A class with a vtable.
+const HAS_VTABLE: u32 = 0x8000_0010;
+
+/// Classes with names of 8 bytes and `count` methods each.
+fn classes(count: usize, segments: usize) -> Input {
+    let (all, size) = ((ENTRIES / count).max(1), 52 + 8 * count);
+    let mut image = vec![0; all * (size + 9)];
+    let mut put = |off: usize, n: usize| image[off..off + 4].copy_from_slice(&(n as u32).to_le_bytes());
+    for i in 0..all {
+        let off = i * size;
+        put(off, HAS_VTABLE as usize);
+        put(off + 8, all * size + 9 * i - (off + 8));
+        put(off + 48, count);
+        for w in 0..2 * count {
+            put(off + 52 + 4 * w, (i + w) * 37 + 1);
+        }
+    }
+    for i in 0..all {
+        let text = all * size + 9 * i;
+        image[text..text + 8].fill(b'a' + (i % 26) as u8);
+    }
+    let mut input = mapped(image, segments);
+    input.types_va = BASE + 0x4000_0000;
+    for i in 0..all {
+        let slot_va = input.types_va + 4 * i as u64;
+        let rel = (BASE + (i * size) as u64).wrapping_sub(slot_va) as i32;
+        input.types.extend_from_slice(&rel.to_le_bytes());
+    }
+    input
+}
+
+/// How many numbers the lent buffer for methods of classes holds: 32 kB.
+const NUMBERS: usize = 4096;
+
+/// The methods of all classes of a section: rows, bodies, the blocks up to the vtable, and its entries; the proved side in as many calls as a buffer of
+/// `NUMBERS` asks for.
+fn class_methods(input: &Input, count: usize) -> Times {
+    let rt = runtime(input);
+    let image = Image::of(input);
+    let items = input.types.len() / 4 * count;
+    let mut buffer = vec![0; NUMBERS];
+    both(
+        items,
+        || {
+            rt.types().fold(0usize, |s, row| {
+                let methods = row.vtable().into_iter().flatten();
+                methods.fold(s, |s, e| {
+                    s.wrapping_add(sum([e.address, e.flags.0.into(), e.impl_va]))
+                })
+            })
+        },
+        || {
+            let (mut slot, mut method, mut s) = (0, 0, 0usize);
+            loop {
+                let given = proved_fullrows::class_methods(image, input, slot, method, &mut buffer);
+                let given = given.expect("whole segments");
+                let mut left = &buffer[..];
+                for _ in 0..given.classes {
+                    let (head, rest) = left.split_at(4);
+                    let (methods, rest) = rest.split_at(3 * head[2] as usize);
+                    let (methods, _) = methods.as_chunks::<3>();
+                    s = methods.iter().fold(s, |s, &e| s.wrapping_add(sum(e)));
+                    left = rest;
+                }
+                if given.all == 1 {
+                    return s;
+                }
+                (slot, method) = (given.next as usize, given.method as u32);
+            }
+        },
+    )
+}
+
 /// Tables of records whose type names and names, of 8 bytes, lie behind them.
 fn record_tables(count: usize, segments: usize) -> Input {
     let all = (ENTRIES / count).max(1) * count;
@@ -594,6 +667,20 @@ fn full() {
             line(
                 &format!("{kind:10}, steps   | {segments:8}"),
                 bodies_in_steps(&input),
+            );
+        }
+    }
+    println!();
+    println!(
+        "Methods of all classes of a section, names of 8 bytes, nanoseconds per method: `classes` in calls for {NUMBERS} numbers at a time, rows, bodies and blocks up to the vtable included on both sides."
+    );
+    println!("methods             | count | segments |      Rust |    proved | ratio");
+    for segments in [2, 40] {
+        for count in [1, 16, 1000] {
+            let input = classes(count, segments);
+            line(
+                &format!("classes             | {count:5} | {segments:8}"),
+                class_methods(&input, count),
             );
         }
     }

@@ -3,6 +3,7 @@
 mod archive;
 mod bench;
 mod check;
+mod class_methods;
 mod cuts;
 mod exhaustive;
 mod flags;

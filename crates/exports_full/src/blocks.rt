@@ -6,7 +6,6 @@ ghost use Rattle.typebody.specs.Items.{trailersOf};
 ghost use Rattle.listing.specs.Calls.{guarded};
 ghost use Rattle.listing.specs.Blocks.{blockAnswer};
 ghost use Rattle.exports.specs.Numbers.{Tells};
-ghost use Rattle.exports_util.specs.Flags.{flagNumber};
 ghost use Rattle.exports_full.specs.Blocks.{startAt, startNumbers, walkAt, blockNumbers, blockNumbersOf, blockStepNumbers, kindBlockNumbers, kindNumbered, kindReadOf, blockNumbered};
 use crate::bodies::ANSWERED;
 use crate::bodies::THERE;
@@ -33,19 +32,13 @@ pub enum KindRead {
     Nothing,
 }
 
-fn flag(b: bool) -> u64
-    ensures { λ r. ⌜ r ≡ flagNumber b ⌝ }
-{
-    if b { 1 } else { 0 }
-}
-
 fn start_numbers(read: TrailingRead) -> [u64; 4]
     ensures { λ r. ⌜ r ≡ startNumbers (trailersOf read) ⌝ }
 {
     match read {
         TrailingRead::Start(first) => [
             THERE,
-            flag(first.is_class),
+            exports_util::flag(first.is_class),
             first.extra as u64,
             first.start,
         ],

@@ -13,7 +13,7 @@ use context::SwiftMethodKind;
 use context::TypeContextDescriptorFlags;
 use context::TypeReferenceKind;
 
-fn flag(b: bool) -> u64
+pub fn flag(b: bool) -> u64
     ensures { λ r. ⌜ r ≡ flagNumber b ⌝ }
 {
     if b { 1 } else { 0 }

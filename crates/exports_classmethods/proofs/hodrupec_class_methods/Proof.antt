@@ -1,13 +1,13 @@
--- `exports_fullrows::hodrupec_class_methods` meets its contract.
+-- `exports_classmethods::hodrupec_class_methods` meets its contract.
 -- Assumes nothing.
 use Rattle.util.specs.AnswersLaws.{told}
 use Rattle.classmethods.specs.ClassMethods.{classMethodsAnswer}
 use Rattle.exports.specs.NumbersLaws.{tells-as, refuses}
-use Rattle.exports_fullrows.specs.FullRows.{classesNumbers}
-use Rattle.exports_fullrows.specs.FullRowsLaws.{classes-known}
+use Rattle.exports_classmethods.specs.ClassMethods.{classesNumbers}
+use Rattle.exports_classmethods.specs.ClassMethodsLaws.{classes-known}
 use borrow.Author.Needs.{needs}
-use Rattle.exports_fullrows.proofs.hodrupec_class_methods.Statement.{statement}
-use Rattle.exports_fullrows.proofs.hodrupec_class_methods.Tie as tie
+use Rattle.exports_classmethods.proofs.hodrupec_class_methods.Statement.{statement}
+use Rattle.exports_classmethods.proofs.hodrupec_class_methods.Tie as tie
 
 class-methods-requires : tie.Need-class-methods-requires
 class-methods-requires c κs = search needs

@@ -1,0 +1,2 @@
+pub mod ClassMethods
+pub mod ClassMethodsLaws
