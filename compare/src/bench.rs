@@ -425,7 +425,8 @@ const HAS_VTABLE: u32 = 0x8000_0010;
 fn classes(count: usize, segments: usize) -> Input {
     let (all, size) = ((ENTRIES / count).max(1), 52 + 8 * count);
     let mut image = vec![0; all * (size + 9)];
-    let mut put = |off: usize, n: usize| image[off..off + 4].copy_from_slice(&(n as u32).to_le_bytes());
+    let mut put =
+        |off: usize, n: usize| image[off..off + 4].copy_from_slice(&(n as u32).to_le_bytes());
     for i in 0..all {
         let off = i * size;
         put(off, HAS_VTABLE as usize);

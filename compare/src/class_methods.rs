@@ -59,7 +59,11 @@ impl Checker {
                     break;
                 }
                 let next = (given.next as usize, given.method as u32);
-                same!(true, (start, first) < next, "slot {start}, method {first} and on");
+                same!(
+                    true,
+                    (start, first) < next,
+                    "slot {start}, method {first} and on"
+                );
                 (start, first) = next;
             }
         }
@@ -134,7 +138,10 @@ fn listed(
         numbers[head + 3] = stop;
         given += 1;
         if stop == 1 {
-            return (numbers, stopped(given, class.slot, from + entries as u32, 0));
+            return (
+                numbers,
+                stopped(given, class.slot, from + entries as u32, 0),
+            );
         }
     }
     let method = if start < slots { 0 } else { first };

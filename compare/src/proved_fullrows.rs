@@ -1,5 +1,5 @@
-//! The proved side of rows with body and all blocks and of the methods of all classes, the functions of crates/exports_fullrows, which write into a lent
-//! buffer of numbers.
+//! The proved side of rows with body and all blocks and of the methods of all classes, the functions of crates/exports_fullrows and of
+//! crates/exports_classmethods, which write into a lent buffer of numbers.
 
 use crate::input::Input;
 use crate::proved::{Answer, UNWRITTEN, refusal};
@@ -46,7 +46,10 @@ unsafe extern "C" {
         buffer_len: usize,
         out: &mut [u64; 3],
     ) -> u64;
+}
 
+#[link(name = "exports_classmethods", kind = "static")]
+unsafe extern "C" {
     fn hodrupec_class_methods(
         image: *const u8,
         image_len: usize,
