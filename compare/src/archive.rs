@@ -211,51 +211,63 @@ impl Checker {
         }
         for start in [0, 1, count.wrapping_sub(1), count, u32::MAX] {
             let mut list = std::mem::take(&mut self.list);
-            list.clear();
-            for (i, record) in from(start).take(LISTED).enumerate() {
-                let numbers = records.numbers(input, start + i as u32, &record);
-                list.extend_from_slice(&numbers[2..]);
+            for named in [false, true] {
+                list.clear();
+                for (i, record) in from(start).take(LISTED).enumerate() {
+                    let numbers = records.numbers(input, start + i as u32, &record);
+                    list.extend_from_slice(&numbers[2..]);
+                    if named {
+                        list.extend(text_numbers(input, record.mangled_type_name()));
+                        list.extend(field_numbers(input, record.field_name()));
+                    }
+                }
+                self.record_lists(input, records, start, &list, named)?;
             }
-            self.record_lists(input, records, start, &list)?;
             self.list = list;
         }
         Ok(())
     }
 
-    /// The records from one on, of which these are known, in buffers of all sizes around their length.
+    /// The records from one on, of which these are known, alone or with their names, in buffers of all sizes around their length.
     fn record_lists(
         &mut self,
         input: &Input,
         records: Records,
         start: u32,
         list: &[u64],
+        named: bool,
     ) -> Result<(), String> {
         let Records { base, count, size } = records;
-        let readable = list.len() / 4;
+        let width = if named { proved::NAMED } else { 4 };
+        let readable = list.len() / width;
         let at_end = u64::from(start) + readable as u64 >= u64::from(count);
-        let around = sizes(list.len(), 4).filter(|_| start == 0);
+        let around = sizes(list.len(), width).filter(|_| start == 0);
         // Of the record after the last known one it was not asked whether it can be read.
         let most = if readable == LISTED && !at_end {
-            4 * LISTED
+            width * LISTED
         } else {
             usize::MAX
         };
         for length in around.chain([list.len()]).filter(|&n| n <= most) {
-            let rust = listed(length, 4, readable, at_end);
+            let rust = listed(length, width, readable, at_end);
             self.numbers.clear();
             self.numbers.resize(length + 2 * NUMBER_GUARD, NUMBER);
             let lent = &mut self.numbers[NUMBER_GUARD..NUMBER_GUARD + length];
-            let ours =
-                proved_tables::field_records(Image::of(input), base, count, size, start, lent)?;
+            let image = Image::of(input);
+            let ours = if named {
+                proved::named_records(image, input, base, count, size, start, lent)?
+            } else {
+                proved_tables::field_records(image, base, count, size, start, lent)?
+            };
             same!(
                 rust,
                 ours,
-                "records of {count}, {size} apart from {base:x}, from {start} on in {length} numbers"
+                "records of {count}, {size} apart from {base:x}, from {start} on in {length} numbers, named: {named}"
             );
             same!(
                 true,
-                self.holds(&list[..4 * rust[0] as usize]),
-                "numbers of the records from {start} on, {size} apart from {base:x}, in {length} numbers"
+                self.holds(&list[..width * rust[0] as usize]),
+                "numbers of the records from {start} on, {size} apart from {base:x}, in {length} numbers, named: {named}"
             );
             self.counts.lists += 1;
         }

@@ -512,7 +512,7 @@ fn record_tables(count: usize, segments: usize) -> Input {
     mapped(image, segments)
 }
 
-/// All records of tables with both names, which the Rust looks up with each: in one call for each table, or step by step.
+/// All records of tables with both names, which the Rust looks up with each: in one call for each table, or by a step and two calls for each.
 fn records<const STEPS: bool>(input: &Input, count: usize) -> Times {
     let rt = runtime(input);
     let image = Image::of(input);
@@ -532,6 +532,20 @@ fn records<const STEPS: bool>(input: &Input, count: usize) -> Times {
             ]))
         })
     };
+    let mut buffer = vec![[0; proved_archive::NAMED]; count];
+    if !STEPS {
+        return both(items, rust, || {
+            starts.clone().fold(0usize, |s, va| {
+                let lent = buffer.as_flattened_mut();
+                let given = proved_archive::named_records(image, input, va, n, 12, 0, lent);
+                let [given, _] = given.expect("whole segments");
+                let entries = buffer[..given as usize].iter();
+                entries.fold(s, |s, &[_, flags, _, _, _, _, length, _, _, name]| {
+                    s.wrapping_add(sum_of_record::<STEPS>([flags, length, name]))
+                })
+            })
+        });
+    }
     let named = |flags: u64, type_va: u64, name_va: u64| {
         let [_, _, length] = proved_full::text_at(image, type_va).expect("whole segments");
         let name = proved::field_name(
@@ -544,18 +558,6 @@ fn records<const STEPS: bool>(input: &Input, count: usize) -> Times {
         let [_, _, name] = name.expect("whole segments");
         sum_of_record::<STEPS>([flags, length, name])
     };
-    let mut buffer = vec![[0; 4]; count];
-    if !STEPS {
-        return both(items, rust, || {
-            starts.clone().fold(0usize, |s, va| {
-                let lent = buffer.as_flattened_mut();
-                let given = proved_tables::field_records(image, va, n, 12, 0, lent);
-                let [given, _] = given.expect("whole segments");
-                let entries = buffer[..given as usize].iter();
-                entries.fold(s, |s, &[_, flags, a, b]| s.wrapping_add(named(flags, a, b)))
-            })
-        });
-    }
     both(items, rust, || {
         starts.clone().fold(0usize, |mut s, va| {
             let mut next = 0;

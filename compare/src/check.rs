@@ -370,6 +370,9 @@ impl Checker {
                 of(proved_full::singleton_pointer(image, target)),
                 of(proved_archive::next_field_record(image, target, 2, 12, 0)),
                 of(proved_tables::field_records(image, target, 2, 12, 0, lent)),
+                of(proved_archive::named_records(
+                    image, input, target, 2, 12, 0, lent,
+                )),
                 of(proved_tables::overrides(image, target, 2, 0, lent)),
                 of(proved_tables::default_overrides(image, target, 2, 0, lent)),
                 of(proved_tables::prespecializations(image, target, 2, 0, lent)),
@@ -377,7 +380,7 @@ impl Checker {
                 of(proved_archive::static_field_offsets(image, target, 17)),
             ];
             same!(
-                [Some(Refused(1)); 19],
+                [Some(Refused(1)); 20],
                 ours,
                 "{more} segment numbers too many for bodies, blocks, entries and fields"
             );

@@ -1,5 +1,7 @@
-//! The proved side of the archive level, the functions of crates/exports_archive: field descriptors, field records, field offsets.
+//! The proved side of the archive level, the functions of crates/exports_archive: field descriptors, field records alone and with their names, field
+//! offsets.
 
+use crate::input::Input;
 use crate::proved::{Answer, UNWRITTEN, refusal};
 use crate::proved_full::{Image, calls};
 
@@ -26,7 +28,26 @@ unsafe extern "C" {
         number: u32,
         out: &mut [u64; 2],
     ) -> u64;
+    fn hodrupec_named_records(
+        image: *const u8,
+        image_len: usize,
+        segments: *const u64,
+        segment_numbers: usize,
+        strings: *const u8,
+        strings_len: usize,
+        strings_va: u64,
+        base_va: u64,
+        count: u32,
+        size: u32,
+        next: u32,
+        buffer: *mut u64,
+        buffer_len: usize,
+        out: &mut [u64; 2],
+    ) -> u64;
 }
+
+/// How many numbers a record with its names has.
+pub const NAMED: usize = 10;
 
 #[inline]
 pub fn next_field(fields: &[u8], vmaddr: u64, at: usize) -> Answer<[u64; 8]> {
@@ -44,6 +65,42 @@ pub fn field_offset(image: &[u8], place: usize, count: u32, number: u32) -> Answ
     let mut out = [UNWRITTEN; 2];
     let status = unsafe {
         hodrupec_field_offset(image.as_ptr(), image.len(), place, count, number, &mut out)
+    };
+    if status != 0 {
+        return Err(refusal(status, &out));
+    }
+    Ok(out)
+}
+
+/// How many records from number `next` on are in the buffer with their names, by the input's string section, and why there are no more.
+#[inline]
+pub fn named_records(
+    image: Image<'_>,
+    input: &Input,
+    base_va: u64,
+    count: u32,
+    size: u32,
+    next: u32,
+    buffer: &mut [u64],
+) -> Answer<[u64; 2]> {
+    let mut out = [UNWRITTEN; 2];
+    let status = unsafe {
+        hodrupec_named_records(
+            image.bytes.as_ptr(),
+            image.bytes.len(),
+            image.segments.as_ptr(),
+            image.segments.len(),
+            input.strings.as_ptr(),
+            input.strings.len(),
+            input.strings_va,
+            base_va,
+            count,
+            size,
+            next,
+            buffer.as_mut_ptr(),
+            buffer.len(),
+            &mut out,
+        )
     };
     if status != 0 {
         return Err(refusal(status, &out));

@@ -25,15 +25,15 @@ use Rattle.typedescriptor.specs.Row.{TypeRow}
 use Rattle.typedescriptor.specs.Slots.{slots, slotRow}
 use Rattle.typebody.specs.Body.{Body, body}
 use Rattle.typebody.specs.Items.{Start, trailers}
-use Rattle.vtable.specs.Entries.{method}
+use Rattle.vtable.specs.Entries.{Entry, method, entryAt}
 use Rattle.items.specs.Items.{Table, tableOf}
 use Rattle.listing.specs.Blocks.{kindFrom}
 use Rattle.listing.specs.Calls.{guarded}
 use Rattle.listing.specs.CallsLaws.{ragged, whole}
 use Rattle.tables.specs.declared.list.Listed.{Listed}
-use Rattle.tables.specs.Tables.{WholeTable, Counts, tableIn, counts, Lists}
-use Rattle.tables.specs.TablesLaws.{Sized, sized}
-use Rattle.fullrows.specs.BlocksLaws.{pasted-long}
+use Rattle.tables.specs.Tables.{entryNumbers, WholeTable, Counts, tableIn, counts, Lists}
+use Rattle.tables.specs.TablesLaws.{entry-wide, Sized, sized}
+use Rattle.tables.specs.PastedLaws.{pasted-long}
 use Rattle.classmethods.specs.declared.classes.Given.{Given}
 use Rattle.classmethods.specs.ClassMethods.{methodTable, Class, classAt, rowClass, slotClass, classNumbers, methodsAt, ClassesListed, stopsAt, classThen, classesFrom, classesIn, givenOf, numbersOf}
 
@@ -203,8 +203,11 @@ module _ (image segments types : List ℕ) (start i₀ k₀ : ℕ) (b₀ : List 
           abbrev numbers : List ℕ
           numbers = classNumbers i (x .address) table
 
-          sizes : Sized image segments method (x .table .base) (x .table .count) ((length b - (at + 4)) / 3) k
-          sizes = sized image segments method (x .table .base) (x .table .count) ((length b - (at + 4)) / 3) k
+          wide : (k : ℕ) (y : Entry) → some y ≡ run image segments (entryAt method (x .table .base) k) → length (entryNumbers y) ≡ 3
+          wide k y e = entry-wide image segments method (x .table .base) k y e
+
+          sizes : Sized entryNumbers image segments method (x .table .base) (x .table .count) 3 wide ((length b - (at + 4)) / 3) k
+          sizes = sized entryNumbers image segments method (x .table .base) (x .table .count) 3 wide ((length b - (at + 4)) / 3) k
 
           is-entries : n ≡ table .entries
           is-entries = ap (λ (k : Counts). k .entries) t

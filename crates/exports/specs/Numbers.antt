@@ -6,8 +6,6 @@ use mathlib.Core.List.{List, [], _∷_}
 use mathlib.Core.Option.{Option, some, none}
 use Rattle.refusal.specs.Refusal.{Guarded, answered, refused}
 use Rattle.util.specs.Cstr.{Place, place, partOf}
-use Rattle.runtime.specs.FieldName.{inImage, inStrings}
-use Rattle.runtime.specs.FieldName as field
 use Rattle.typedescriptor.specs.Row.{TypeRow}
 use Rattle.typedescriptor.specs.Slots.{Found}
 use Rattle.parent.specs.Context as context
@@ -32,16 +30,6 @@ pub record Tells (answer : Guarded (List ℕ)) (out : List ℕ) (r : ℕ) (out�
 abbrev pub valueNumbers : Option ℕ → List ℕ
 valueNumbers none = 0 ∷ (0 ∷ [])
 valueNumbers (some o) = 1 ∷ (o ∷ [])
-
-abbrev pub textNumbers : Option Place → List ℕ
-textNumbers none = 0 ∷ (0 ∷ (0 ∷ []))
-textNumbers (some p) = 1 ∷ (p .start ∷ (p .size ∷ []))
-
--- 1 for the image, 2 for the string section
-abbrev pub fieldNumbers : Option field.NamePlace → List ℕ
-fieldNumbers none = 0 ∷ (0 ∷ (0 ∷ []))
-fieldNumbers (some (inImage p)) = 1 ∷ (p .start ∷ (p .size ∷ []))
-fieldNumbers (some (inStrings p)) = 2 ∷ (p .start ∷ (p .size ∷ []))
 
 abbrev pub rowNumbers : Option Found → List ℕ
 rowNumbers none = 0 ∷ (0 ∷ (0 ∷ (0 ∷ (0 ∷ (0 ∷ (0 ∷ (0 ∷ [])))))))

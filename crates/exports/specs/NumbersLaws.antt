@@ -7,10 +7,11 @@ use Rattle.refusal.specs.Refusal.{Guarded, answered, refused, mapped, answerOf}
 use Rattle.util.specs.Buffer.{atStart, overwritten}
 use Rattle.util.specs.Cstr.{textOf}
 use Rattle.util.specs.declared.cstr.Text.{Text}
+use Rattle.runtime.specs.PlaceNumbers.{textNumbers}
 use Rattle.parent.specs.Context.{nameRead}
 use Rattle.listing.specs.Calls.{guarded}
 use Rattle.listing.specs.CallsLaws.{ragged, whole}
-use Rattle.exports.specs.Numbers.{Tells, textNumbers, contextNumbers}
+use Rattle.exports.specs.Numbers.{Tells, contextNumbers}
 
 module _ {A : Type 0} (numbers : A → List ℕ) (g : Guarded A) (out : List ℕ) where
   pub tells-as : (a : A) (l : List ℕ) → answered a ≡ g → l ≡ numbers a → Tells (mapped numbers g) out 0 l

@@ -30,7 +30,8 @@ use Rattle.typebody.specs.declared.body.ClassSizes.{ClassSizes}
 use Rattle.typebody.specs.declared.body.TypeBody.{TypeBody}
 use Rattle.typebody.specs.Items.{Start, trailers}
 use Rattle.fullrows.specs.FullRows.{recordRow, bodyNumbers, blockFour, kindFours, blockFours, bodyAndBlocks, fullRow, fullRows, RecordsListed, nextSlot, noneLeft, recordsListed, fullRowsIn, givenOf, numbersOf}
-use Rattle.fullrows.specs.BlocksLaws.{block-long, pasted-then, pasted-long}
+use Rattle.tables.specs.PastedLaws.{pasted-then, pasted-long}
+use Rattle.fullrows.specs.BlocksLaws.{block-long}
 use Rattle.fullrows.specs.declared.rows.Given.{Given}
 
 -- ---- a record

@@ -51,6 +51,10 @@ module _ (image segments : List ℕ) (m : Mapping) (w : Mapped segments m) where
       rw (offset-mapped a)
       (then-same (textOffset segments a) _ _ (λ o. then-same (textAt image o) _ _ (λ p. run-mapped (k p (untilNul (drop o image))))))
 
+  pub name-mapped : (strings : List ℕ) (start a : ℕ) → fieldName image (withMapping m segments) strings start a ≡ fieldName image segments strings start a
+  unfolding fieldName
+  name-mapped strings start a = rw (text-mapped a)
+
 module _ (image segments : List ℕ) (a n : ℕ) where
   pub bytes-at : (o : ℕ) → some o ≡ fileOffset (segmentsOf segments) a → o + n ≤ length image → some o ≡ bytesPlace image segments a n
   unfolding bytesPlace within

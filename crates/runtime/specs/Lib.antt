@@ -3,4 +3,5 @@ pub mod CallsLaws
 pub mod FieldName
 pub mod Reads
 pub mod PathLaws
+pub mod PlaceNumbers
 pub mod ReadsLaws

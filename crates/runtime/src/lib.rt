@@ -13,3 +13,4 @@ pub use reads::vm_to_file_offset;
 pub use reflstr::FieldName;
 pub use reflstr::field_name_part;
 pub use reflstr::lookup_field_name;
+pub use reflstr::lookup_field_name_near;

@@ -1,6 +1,8 @@
 ghost use mathlib.Core.Path.{_≡_};
 ghost use Rattle.runtime.specs.FieldName.{fieldName, fieldNameOf, namePart, sectionText};
+ghost use Rattle.segment.specs.Mapping.{withMapping};
 ghost use Rattle.util.specs.Cstr.{textOf};
+use segment::Mapping;
 use util::Text;
 
 // Where a field's name lies: in the image, or in the string section.
@@ -25,6 +27,29 @@ fn section_text(strings: &[u8], vmaddr: u64, target_va: u64) -> Text
 }
 
 // The name at an address: by the image, else by the string section. A missing section is an empty one.
+pub fn lookup_field_name_near(
+    image: &[u8],
+    segments: &[u64],
+    mapping: Mapping,
+    strings: &[u8],
+    vmaddr: u64,
+    target_va: u64,
+) -> FieldName
+    ensures { λ r. ⌜ fieldNameOf r ≡ fieldName (now (image .entry)) (withMapping mapping (now (segments .entry))) (now (strings .entry)) vmaddr «target_va» ⌝ }
+{
+    if target_va == 0 {
+        return FieldName::Nothing;
+    }
+    match crate::read_cstr_near(image, segments, mapping, target_va) {
+        Text::At { place, length } => FieldName::Image { place, length },
+        Text::Nothing => match section_text(strings, vmaddr, target_va) {
+            Text::At { place, length } => FieldName::Strings { place, length },
+            Text::Nothing => FieldName::Nothing,
+        },
+    }
+}
+
+// The same with nothing known of the addresses around.
 pub fn lookup_field_name(
     image: &[u8],
     segments: &[u64],
@@ -34,16 +59,14 @@ pub fn lookup_field_name(
 ) -> FieldName
     ensures { λ r. ⌜ fieldNameOf r ≡ fieldName (now (image .entry)) (now (segments .entry)) (now (strings .entry)) vmaddr «target_va» ⌝ }
 {
-    if target_va == 0 {
-        return FieldName::Nothing;
-    }
-    match crate::read_cstr(image, segments, target_va) {
-        Text::At { place, length } => FieldName::Image { place, length },
-        Text::Nothing => match section_text(strings, vmaddr, target_va) {
-            Text::At { place, length } => FieldName::Strings { place, length },
-            Text::Nothing => FieldName::Nothing,
-        },
-    }
+    lookup_field_name_near(
+        image,
+        segments,
+        Mapping::empty(),
+        strings,
+        vmaddr,
+        target_va,
+    )
 }
 
 // The part of the image or of the string section that a name is: empty where there is none.

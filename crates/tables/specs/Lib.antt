@@ -1,2 +1,3 @@
+pub mod PastedLaws
 pub mod Tables
 pub mod TablesLaws

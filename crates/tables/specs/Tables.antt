@@ -33,17 +33,20 @@ pub record WholeTable : Type 0 where
 abbrev pub ended : ℕ → WholeTable
 ended stop = record { numbers = []; entries = 0; stop = stop }
 
-abbrev pub entryThen : Entry → WholeTable → WholeTable
-entryThen e t = record { numbers = entryNumbers e ++ t .numbers; entries = suc (t .entries); stop = t .stop }
+abbrev pub entryThen : (Entry → List ℕ) → Entry → WholeTable → WholeTable
+entryThen f e t = record { numbers = f e ++ t .numbers; entries = suc (t .entries); stop = t .stop }
 
--- the entries from where a walk stands up to the first that cannot be read, at most so many
-unfoldable pub tableFrom : List ℕ → List ℕ → Layout → ℕ → EntryCursor → WholeTable
-tableFrom image segments l zero c = ended (cond (ltb (c .next) (c .count)) 1 0)
-tableFrom image segments l (suc n) c =
+-- the entries from where a walk stands up to the first that cannot be read, at most so many, each by the numbers that `f` gives of it
+unfoldable pub tableBy : (Entry → List ℕ) → List ℕ → List ℕ → Layout → ℕ → EntryCursor → WholeTable
+tableBy f image segments l zero c = ended (cond (ltb (c .next) (c .count)) 1 0)
+tableBy f image segments l (suc n) c =
     elim (entryStep image segments l c) [
       | none ↦ ended 0
-      | some s ↦ elim (s .found) [ none ↦ ended 2 | some e ↦ entryThen e (tableFrom image segments l n (s .next)) ]
+      | some s ↦ elim (s .found) [ none ↦ ended 2 | some e ↦ entryThen f e (tableBy f image segments l n (s .next)) ]
     ]
+
+abbrev pub tableFrom : List ℕ → List ℕ → Layout → ℕ → EntryCursor → WholeTable
+tableFrom = tableBy entryNumbers
 
 -- how many numbers an entry has, and how many entries a list of so many numbers holds
 abbrev pub width : Layout → ℕ

@@ -1,5 +1,6 @@
 -- What the code finds of a table is `tableFrom`: where an entry lies (`no-place`, `a-place`), its numbers in the list (`set-put`, `set-more`), the
--- entries of a run (`Ran`), and run after run (`Going`). The table is the entries that stepping gives, as numbers (`table-listed`).
+-- entries of a run (`Ran`), and run after run (`Going`, for whatever numbers are said of an entry: `tableBy`). The table is the entries that stepping
+-- gives, as numbers (`table-listed`); its counts do not go by those numbers (`same-counts`).
 use Prim.Native.Nat.{ℕ, zero, suc, _+_, _-_, _*_, _/_, _%_, _^_, _≤_, _<_}
 use native.Mathlib.Nat.{mul-le-mul-left, mul-div-le, mul-zero, mul-suc, mul-add, mod-eq-of-lt, le-antisymm, le-trans, div-le-self, div-eq-of-lt, div-eq-sub-div, zero-add}
 use native.Mathlib.Decide.{decLe, decLt}
@@ -33,7 +34,7 @@ use Rattle.tables.specs.declared.list.Words.{Words}
 use Rattle.tables.specs.declared.list.Listed.{Listed}
 use Rattle.tables.specs.declared.calls.TableAnswer.{TableAnswer}
 use Rattle.tables.specs.declared.window.Window.{Window}
-use Rattle.tables.specs.Tables.{entryNumbers, WholeTable, Counts, ended, entryThen, tableFrom, tableIn, width, counts, tableNumbers, tableAnswer, bufferWith, GivesTable, first, shape, entryPlace, Opens, wordsIn, runNumbers, PutRun, Lists}
+use Rattle.tables.specs.Tables.{entryNumbers, WholeTable, Counts, ended, entryThen, tableBy, tableFrom, tableIn, width, counts, tableNumbers, tableAnswer, bufferWith, GivesTable, first, shape, entryPlace, Opens, wordsIn, runNumbers, PutRun, Lists}
 
 -- ---- where an entry lies
 
@@ -169,7 +170,7 @@ module _ (image segments : List ℕ) (l : Layout) (base k : ℕ) (x : Entry) whe
       let f : x ≡ entryOf l (entryAddress l base k) (take (entrySize l) (drop o image)) = cc in
       rw f (ap suc (words-long (l .words) (entryAddress l base k) 0 (take (entrySize l) (drop o image))))
 
-  entry-wide : some x ≡ run image segments (entryAt l base k) → length (entryNumbers x) ≡ width l
+  pub entry-wide : some x ≡ run image segments (entryAt l base k) → length (entryNumbers x) ≡ width l
   unfolding entryAt run
   entry-wide e = go (decLe (2 ^ 64) (entryAddress l base k + (entrySize l - 4)))
     where
@@ -305,26 +306,27 @@ module _ (image : List ℕ) (numbered : Bool) (more stride o last a most : ℕ) 
 
 -- ---- run after run
 
-module _ (image segments : List ℕ) (l : Layout) (base count : ℕ) where
+-- whatever numbers are said of an entry
+module _ (say : Entry → List ℕ) (image segments : List ℕ) (l : Layout) (base count : ℕ) where
   abbrev left : ℕ → ℕ → WholeTable
-  left n k = tableFrom image segments l n (walkAt base count k)
+  left n k = tableBy say image segments l n (walkAt base count k)
 
   from-end : (n k : ℕ) → count ≤ k → left n k ≡ ended 0
-  unfolding tableFrom
+  unfolding tableBy
   from-end zero k h = simp (le-ltb k count h)
-  from-end (suc n) k h = rw (tableFrom, sym (step-end image segments l (walkAt base count k) h))
+  from-end (suc n) k h = rw (tableBy, sym (step-end image segments l (walkAt base count k) h))
 
   from-full : (k : ℕ) → k < count → left 0 k ≡ ended 1
-  unfolding tableFrom
+  unfolding tableBy
   from-full k h = simp (lt-ltb k count h)
 
   from-none : (n k : ℕ) → k < count → none ≡ run image segments (entryAt l base k) → left (suc n) k ≡ ended 2
-  unfolding tableFrom
-  from-none n k h e = rw (tableFrom, sym (step-gives image segments l (walkAt base count k) none e h))
+  unfolding tableBy
+  from-none n k h e = rw (tableBy, sym (step-gives image segments l (walkAt base count k) none e h))
 
-  from-some : (n k : ℕ) (x : Entry) → k < count → some x ≡ run image segments (entryAt l base k) → left (suc n) k ≡ entryThen x (left n (k + 1))
-  unfolding tableFrom
-  from-some n k x h e = rw (tableFrom, sym (step-gives image segments l (walkAt base count k) (some x) e h))
+  from-some : (n k : ℕ) (x : Entry) → k < count → some x ≡ run image segments (entryAt l base k) → left (suc n) k ≡ entryThen say x (left n (k + 1))
+  unfolding tableBy
+  from-some n k x h e = rw (tableBy, sym (step-gives image segments l (walkAt base count k) (some x) e h))
 
   -- some entries are listed, and a walk stands at the next one
   abbrev after : List ℕ → ℕ → WholeTable → WholeTable
@@ -333,20 +335,20 @@ module _ (image segments : List ℕ) (l : Layout) (base count : ℕ) where
   after-none : (r : WholeTable) → r ≡ after [] 0 r
   after-none r = ap (λ (n : ℕ). record { numbers = r .numbers; entries = n; stop = r .stop }) (omega arith)
 
-  after-before : (t : List ℕ) (n : ℕ) (x : Entry) (r : WholeTable) → after t n (entryThen x r) ≡ after (t ++ entryNumbers x) (n + 1) r
+  after-before : (t : List ℕ) (n : ℕ) (x : Entry) (r : WholeTable) → after t n (entryThen say x r) ≡ after (t ++ say x) (n + 1) r
   after-before t n x r =
       let e : n + suc (r .entries) ≡ n + 1 + r .entries = omega arith in
-      let f : t ++ (entryNumbers x ++ r .numbers) ≡ (t ++ entryNumbers x) ++ r .numbers = sym (append-assoc t (entryNumbers x) (r .numbers)) in
+      let f : t ++ (say x ++ r .numbers) ≡ (t ++ say x) ++ r .numbers = sym (append-assoc t (say x) (r .numbers)) in
       cc
 
-  before-after : (x : Entry) (t : List ℕ) (n : ℕ) (r : WholeTable) → entryThen x (after t n r) ≡ after (entryNumbers x ++ t) (suc n) r
+  before-after : (x : Entry) (t : List ℕ) (n : ℕ) (r : WholeTable) → entryThen say x (after t n r) ≡ after (say x ++ t) (suc n) r
   before-after x t n r =
       let e : suc (n + r .entries) ≡ suc n + r .entries = omega arith in
-      let f : entryNumbers x ++ (t ++ r .numbers) ≡ (entryNumbers x ++ t) ++ r .numbers = sym (append-assoc (entryNumbers x) t (r .numbers)) in
+      let f : say x ++ (t ++ r .numbers) ≡ (say x ++ t) ++ r .numbers = sym (append-assoc (say x) t (r .numbers)) in
       cc
 
   none-listed : (k : ℕ) → left 0 k .numbers ≡ []
-  unfolding tableFrom
+  unfolding tableBy
   none-listed k = refl
 
   -- where the list was full, the table from the entry after its last gives the others
@@ -363,11 +365,11 @@ module _ (image segments : List ℕ) (l : Layout) (base count : ℕ) where
           → (y : Option Entry) → y ≡ run image segments (entryAt l base k) → left (suc n + m) k ≡ after (left (suc n) k .numbers) (suc n) (left m (suc n + k))
       given ih h none f = never 2 (from-none n k h f) (λ z. omega arith)
       given ih h (some x) f =
-          let first : left (suc n) k ≡ entryThen x (left n (k + 1)) = from-some n k x h f in
+          let first : left (suc n) k ≡ entryThen say x (left n (k + 1)) = from-some n k x h f in
           let rest = ih (sym (ap (λ (r : WholeTable). r .stop) first) ∙ e) in
           let next : n + (k + 1) ≡ suc n + k = omega arith in
           let sum : suc n + m ≡ suc (n + m) = omega arith in
-          ap (λ (j : ℕ). left j k) sum ∙ from-some (n + m) k x h f ∙ ap (entryThen x) rest ∙ before-after x (left n (k + 1) .numbers) n _
+          ap (λ (j : ℕ). left j k) sum ∙ from-some (n + m) k x h f ∙ ap (entryThen say x) rest ∙ before-after x (left n (k + 1) .numbers) n _
           ∙ rw (ap (λ (r : WholeTable). r .numbers) first, next)
 
       go : (left n (k + 1) .stop ≡ 1 → left (n + m) (k + 1) ≡ after (left n (k + 1) .numbers) n (left m (n + (k + 1)))) → Dec (k < count)
@@ -376,78 +378,80 @@ module _ (image segments : List ℕ) (l : Layout) (base count : ℕ) where
       go ih (no h) = never 0 (from-end (suc n) k (omega arith)) (λ z. omega arith)
 
   -- how many numbers so many entries have; where the list is full there are more
-  pub record Sized (n k : ℕ) : Type 0 where
-    pub long : length (left n k .numbers) ≡ width l * left n k .entries
-    pub few : left n k .entries ≤ n
-    pub full : left n k .stop ≡ 1 → k + left n k .entries < count
+  module _ (each : ℕ) (wide : (k : ℕ) (x : Entry) → some x ≡ run image segments (entryAt l base k) → length (say x) ≡ each) where
+    pub record Sized (n k : ℕ) : Type 0 where
+      pub long : length (left n k .numbers) ≡ each * left n k .entries
+      pub few : left n k .entries ≤ n
+      pub full : left n k .stop ≡ 1 → k + left n k .entries < count
 
-  none-sized : (n k s : ℕ) → left n k ≡ ended s → (s ≡ 1 → k < count) → Sized n k
-  none-sized n k s e h =
-      record {
-        long = ap (λ (r : WholeTable). length (r .numbers)) e ∙ sym (mul-zero (width l)) ∙ ap (λ (r : WholeTable). width l * r .entries) (sym e);
-        few = omega (arith, ap (λ (r : WholeTable). r .entries) e);
-        full = λ z. omega (arith, ap (λ (r : WholeTable). r .entries) e, h (sym (ap (λ (r : WholeTable). r .stop) e) ∙ z));
-      }
+    none-sized : (n k s : ℕ) → left n k ≡ ended s → (s ≡ 1 → k < count) → Sized n k
+    none-sized n k s e h =
+        record {
+          long = ap (λ (r : WholeTable). length (r .numbers)) e ∙ sym (mul-zero (each)) ∙ ap (λ (r : WholeTable). each * r .entries) (sym e);
+          few = omega (arith, ap (λ (r : WholeTable). r .entries) e);
+          full = λ z. omega (arith, ap (λ (r : WholeTable). r .entries) e, h (sym (ap (λ (r : WholeTable). r .stop) e) ∙ z));
+        }
 
-  pub sized : (n k : ℕ) → Sized n k
-  sized zero k = go (decLt k count)
-    where
-      go : Dec (k < count) → Sized 0 k
-      go (yes h) = none-sized 0 k 1 (from-full k h) (λ z. h)
-      go (no h) = none-sized 0 k 0 (from-end 0 k (omega arith)) (λ z. omega arith)
-  sized (suc n) k = go (sized n (k + 1)) (decLt k count)
-    where
-      found : Sized n (k + 1) → k < count → (y : Option Entry) → y ≡ run image segments (entryAt l base k) → Sized (suc n) k
-      found ih h none f = none-sized (suc n) k 2 (from-none n k h f) (λ z. omega arith)
-      found ih h (some x) f =
-          let e = from-some n k x h f in
-          let rest : ℕ = left n (k + 1) .entries in
-          let more : left (suc n) k .entries ≡ suc rest = ap (λ (r : WholeTable). r .entries) e in
-          record {
-            long =
-                ap (λ (r : WholeTable). length (r .numbers)) e ∙ length-append (entryNumbers x) (left n (k + 1) .numbers)
-                ∙ omega (arith, entry-wide image segments l base k x f, ih .long, mul-suc (width l) rest) ∙ ap (λ (j : ℕ). width l * j) (sym more);
-            few = omega (arith, ih .few, more);
-            full = λ z. omega (arith, more, ih .full (sym (ap (λ (r : WholeTable). r .stop) e) ∙ z));
-          }
+    pub sized : (n k : ℕ) → Sized n k
+    sized zero k = go (decLt k count)
+      where
+        go : Dec (k < count) → Sized 0 k
+        go (yes h) = none-sized 0 k 1 (from-full k h) (λ z. h)
+        go (no h) = none-sized 0 k 0 (from-end 0 k (omega arith)) (λ z. omega arith)
+    sized (suc n) k = go (sized n (k + 1)) (decLt k count)
+      where
+        found : Sized n (k + 1) → k < count → (y : Option Entry) → y ≡ run image segments (entryAt l base k) → Sized (suc n) k
+        found ih h none f = none-sized (suc n) k 2 (from-none n k h f) (λ z. omega arith)
+        found ih h (some x) f =
+            let e = from-some n k x h f in
+            let rest : ℕ = left n (k + 1) .entries in
+            let more : left (suc n) k .entries ≡ suc rest = ap (λ (r : WholeTable). r .entries) e in
+            record {
+              long =
+                  ap (λ (r : WholeTable). length (r .numbers)) e ∙ length-append (say x) (left n (k + 1) .numbers)
+                  ∙ omega (arith, wide k x f, ih .long, mul-suc (each) rest) ∙ ap (λ (j : ℕ). each * j) (sym more);
+              few = omega (arith, ih .few, more);
+              full = λ z. omega (arith, more, ih .full (sym (ap (λ (r : WholeTable). r .stop) e) ∙ z));
+            }
 
-      go : Sized n (k + 1) → Dec (k < count) → Sized (suc n) k
-      go ih (yes h) = found ih h (run image segments (entryAt l base k)) refl
-      go ih (no h) = none-sized (suc n) k 0 (from-end (suc n) k (omega arith)) (λ z. omega arith)
+        go : Sized n (k + 1) → Dec (k < count) → Sized (suc n) k
+        go ih (yes h) = found ih h (run image segments (entryAt l base k)) refl
+        go ih (no h) = none-sized (suc n) k 0 (from-end (suc n) k (omega arith)) (λ z. omega arith)
 
-  module _ (b₀ : List ℕ) (k₀ : ℕ) where
+  -- so many of each
+  module _ (each : ℕ) (b₀ : List ℕ) (k₀ : ℕ) where
     abbrev most : ℕ
-    most = length b₀ / width l
+    most = length b₀ / each
 
     pub record Going (k n : ℕ) (b : List ℕ) : Type 0 where
       pub few : n ≤ most
       pub long : length b ≡ length b₀
-      pub rest : drop (width l * n) b ≡ drop (width l * n) b₀
-      pub goes : left most k₀ ≡ after (take (width l * n) b) n (left (most - n) k)
+      pub rest : drop (each * n) b ≡ drop (each * n) b₀
+      pub goes : left most k₀ ≡ after (take (each * n) b) n (left (most - n) k)
 
     pub start-going : Going k₀ 0 b₀
     start-going =
-        let z : width l * 0 ≡ 0 = mul-zero (width l) in
+        let z : each * 0 ≡ 0 = mul-zero each in
         let m : most - 0 ≡ most = omega arith in
         record { few = omega arith; long = refl; rest = refl; goes = rw (z, m) (after-none (left most k₀)) }
 
     -- one more fits
-    pub fits : (n : ℕ) → n < most → width l * n + width l ≤ length b₀
+    pub fits : (n : ℕ) → n < most → each * n + each ≤ length b₀
     fits n h =
-        let more : width l * suc n ≤ width l * most = mul-le-mul-left (width l) h in
-        omega (arith, more, mul-suc (width l) n, mul-div-le (length b₀) (width l))
+        let more : each * suc n ≤ each * most = mul-le-mul-left each h in
+        omega (arith, more, mul-suc each n, mul-div-le (length b₀) each)
 
-    fits-in : (n : ℕ) → n ≤ most → width l * n ≤ length b₀
-    fits-in n h = omega (arith, mul-le-mul-left (width l) h, mul-div-le (length b₀) (width l))
+    fits-in : (n : ℕ) → n ≤ most → each * n ≤ length b₀
+    fits-in n h = omega (arith, mul-le-mul-left each h, mul-div-le (length b₀) each)
 
     module _ (k n : ℕ) (b : List ℕ) (g : Going k n b) where
       -- no more: what the call gives back, and what the list holds
       stops : (s : ℕ) → left (most - n) k ≡ ended s
           → (record { entries = n; stop = s } ≡ counts (left most k₀)) × (b ≡ atStart (tableNumbers (left most k₀)) b₀)
       stops s e =
-          let len : length (take (width l * n) b) ≡ width l * n = length-take-le (width l * n) b (omega (arith, fits-in n (g .few), g .long)) in
-          let all : left most k₀ ≡ after (take (width l * n) b) n (ended s) = g .goes ∙ ap (after (take (width l * n) b) n) e in
-          rw (all, append-nil, len) (ap (λ (j : ℕ). record { entries = j; stop = s }) (omega arith), sym (take-append-drop (width l * n) b) ∙ ap (λ (x : List ℕ). take (width l * n) b ++ x) (g .rest))
+          let len : length (take (each * n) b) ≡ each * n = length-take-le (each * n) b (omega (arith, fits-in n (g .few), g .long)) in
+          let all : left most k₀ ≡ after (take (each * n) b) n (ended s) = g .goes ∙ ap (after (take (each * n) b) n) e in
+          rw (all, append-nil, len) (ap (λ (j : ℕ). record { entries = j; stop = s }) (omega arith), sym (take-append-drop (each * n) b) ∙ ap (λ (x : List ℕ). take (each * n) b ++ x) (g .rest))
 
       pub stops-end : count ≤ k → (record { entries = n; stop = 0 } ≡ counts (left most k₀)) × (b ≡ atStart (tableNumbers (left most k₀)) b₀)
       stops-end h = stops 0 (from-end (most - n) k h)
@@ -471,20 +475,20 @@ module _ (image segments : List ℕ) (l : Layout) (base count : ℕ) where
             → (record { entries = n; stop = 2 } ≡ counts (left most k₀)) × (b ≡ atStart (tableNumbers (left most k₀)) b₀)
         stops-none e = stops 2 (ap (λ (j : ℕ). left j k) one-left ∙ from-none (most - (n + 1)) k h e)
 
-        pub goes-on : (x : Entry) (b′ : List ℕ) → some x ≡ run image segments (entryAt l base k) → length (entryNumbers x) ≡ width l
-            → b′ ≡ pasted b (width l * n) (entryNumbers x) → Going (k + 1) (n + 1) b′
+        pub goes-on : (x : Entry) (b′ : List ℕ) → some x ≡ run image segments (entryAt l base k) → length (say x) ≡ each
+            → b′ ≡ pasted b (each * n) (say x) → Going (k + 1) (n + 1) b′
         goes-on x b′ e w eb =
-            let t : List ℕ = entryNumbers x in
-            let at : ℕ = width l * n in
-            let next : width l * (n + 1) ≡ at + width l = ap (λ (j : ℕ). width l * j) (add-one n) ∙ mul-suc (width l) n in
+            let t : List ℕ = say x in
+            let at : ℕ = each * n in
+            let next : each * (n + 1) ≡ at + each = ap (λ (j : ℕ). each * j) (add-one n) ∙ mul-suc each n in
             let inside : at + length t ≤ length b = omega (arith, fits n m, g .long) in
             let len : length (take at b) ≡ at = length-take-le at b (omega arith) in
-            let both : length (take at b ++ t) ≡ width l * (n + 1) = length-append (take at b) t ∙ omega (arith, len, next, w) in
+            let both : length (take at b ++ t) ≡ each * (n + 1) = length-append (take at b) t ∙ omega (arith, len, next, w) in
             let split : b′ ≡ (take at b ++ t) ++ drop (at + length t) b = eb ∙ sym (append-assoc (take at b) t _) in
-            let front : take (width l * (n + 1)) b′ ≡ take at b ++ t = ap (take (width l * (n + 1))) split ∙ take-at (take at b ++ t) _ _ both in
-            let back : drop (width l * (n + 1)) b′ ≡ drop (at + length t) b = ap (drop (width l * (n + 1))) split ∙ drop-at (take at b ++ t) _ _ both in
-            let last : at + length t ≡ width l * (n + 1) = omega (arith, next, w) in
-            let step : left (most - n) k ≡ entryThen x (left (most - (n + 1)) (k + 1)) = ap (λ (j : ℕ). left j k) one-left ∙ from-some (most - (n + 1)) k x h e in
+            let front : take (each * (n + 1)) b′ ≡ take at b ++ t = ap (take (each * (n + 1))) split ∙ take-at (take at b ++ t) _ _ both in
+            let back : drop (each * (n + 1)) b′ ≡ drop (at + length t) b = ap (drop (each * (n + 1))) split ∙ drop-at (take at b ++ t) _ _ both in
+            let last : at + length t ≡ each * (n + 1) = omega (arith, next, w) in
+            let step : left (most - n) k ≡ entryThen say x (left (most - (n + 1)) (k + 1)) = ap (λ (j : ℕ). left j k) one-left ∙ from-some (most - (n + 1)) k x h e in
             record {
               few = omega arith;
               long = put-length b t b′ at (at + length t) (record { ends = refl; holds = eb }) inside ∙ g .long;
@@ -492,32 +496,37 @@ module _ (image segments : List ℕ) (l : Layout) (base count : ℕ) where
               goes = g .goes ∙ ap (after (take at b) n) step ∙ after-before (take at b) n x _ ∙ ap (λ (s : List ℕ). after s (n + 1) (left (most - (n + 1)) (k + 1))) (sym front);
             }
 
-    -- a run of entries
-    module _ (k n : ℕ) (b : List ℕ) (g : Going k n b) (o : ℕ) where
-      abbrev with-run : ℕ → List ℕ
-      with-run r = pasted b (width l * n) (runNumbers image l o (entryAddress l base k) r)
+-- the entries by their own numbers
+module _ (image segments : List ℕ) (l : Layout) (base count : ℕ) (b₀ : List ℕ) (k₀ : ℕ) where
+  abbrev pub Listing : ℕ → ℕ → List ℕ → Type 0
+  Listing = Going entryNumbers image segments l base count (width l) b₀ k₀
 
-      pub goes-along : (r : ℕ) → n + r ≤ most → k + r ≤ count
-          → ((i : ℕ) → i < r → some (o + l .stride * i) ≡ entryPlace image segments (entrySize l) (entryAddress l base k + l .stride * i)) → Going (k + r) (n + r) (with-run r)
-      goes-along zero m h f =
-          let ek : k + 0 ≡ k = omega arith in
-          let en : n + 0 ≡ n = omega arith in
-          rw (ek, en, ← put-none b (width l * n) .holds) g
-      goes-along (suc r) m h f =
-          let x : Entry = entryOf l (entryAddress l base k + l .stride * r) (take (entrySize l) (drop (o + l .stride * r) image)) in
-          let there : entryAddress l base k + l .stride * r ≡ entryAddress l base (k + r) = omega (arith, mul-add (l .stride) k r) in
-          let is : some x ≡ run image segments (entryAt l base (k + r)) =
-          ap (λ (z : ℕ). some (entryOf l z (take (entrySize l) (drop (o + l .stride * r) image)))) there
-          ∙ a-place image segments l base (k + r) (o + l .stride * r) (f r (omega arith) ∙ ap (entryPlace image segments (entrySize l)) there) in
-          let so-far : length (runNumbers image l o (entryAddress l base k) r) ≡ width l * r = run-length image l o (entryAddress l base k) r in
-          let at : width l * (n + r) ≡ width l * n + length (runNumbers image l o (entryAddress l base k) r) = omega (arith, mul-add (width l) n r, so-far) in
-          let inside : width l * n + length (runNumbers image l o (entryAddress l base k) r) ≤ length b = omega (arith, at, g .long, fits-in (n + r) (omega arith)) in
-          let put : with-run (suc r) ≡ pasted (with-run r) (width l * (n + r)) (entryNumbers x) =
-          sym (put-then b (runNumbers image l o (entryAddress l base k) r) (entryNumbers x) (with-run r) _ (width l * n) (width l * (n + r)) _ (record { ends = at; holds = refl }) (record { ends = refl; holds = refl }) inside .holds) in
-          let ek : k + suc r ≡ k + r + 1 = omega arith in
-          let en : n + suc r ≡ n + r + 1 = omega arith in
-          rw (ek, en)
-          (goes-on (k + r) (n + r) (with-run r) (goes-along r (omega arith) (omega arith) (λ i j. f i (omega arith))) (omega arith) (omega arith) x (with-run (suc r)) is (ap suc (words-long (l .words) _ 0 _)) put)
+  -- a run of entries
+  module _ (k n : ℕ) (b : List ℕ) (g : Listing k n b) (o : ℕ) where
+    abbrev with-run : ℕ → List ℕ
+    with-run r = pasted b (width l * n) (runNumbers image l o (entryAddress l base k) r)
+
+    pub goes-along : (r : ℕ) → n + r ≤ length b₀ / width l → k + r ≤ count
+        → ((i : ℕ) → i < r → some (o + l .stride * i) ≡ entryPlace image segments (entrySize l) (entryAddress l base k + l .stride * i)) → Listing (k + r) (n + r) (with-run r)
+    goes-along zero m h f =
+        let ek : k + 0 ≡ k = omega arith in
+        let en : n + 0 ≡ n = omega arith in
+        rw (ek, en, ← put-none b (width l * n) .holds) g
+    goes-along (suc r) m h f =
+        let x : Entry = entryOf l (entryAddress l base k + l .stride * r) (take (entrySize l) (drop (o + l .stride * r) image)) in
+        let there : entryAddress l base k + l .stride * r ≡ entryAddress l base (k + r) = omega (arith, mul-add (l .stride) k r) in
+        let is : some x ≡ run image segments (entryAt l base (k + r)) =
+        ap (λ (z : ℕ). some (entryOf l z (take (entrySize l) (drop (o + l .stride * r) image)))) there
+        ∙ a-place image segments l base (k + r) (o + l .stride * r) (f r (omega arith) ∙ ap (entryPlace image segments (entrySize l)) there) in
+        let so-far : length (runNumbers image l o (entryAddress l base k) r) ≡ width l * r = run-length image l o (entryAddress l base k) r in
+        let at : width l * (n + r) ≡ width l * n + length (runNumbers image l o (entryAddress l base k) r) = omega (arith, mul-add (width l) n r, so-far) in
+        let inside : width l * n + length (runNumbers image l o (entryAddress l base k) r) ≤ length b = omega (arith, at, g .long, fits-in entryNumbers image segments l base count (width l) b₀ k₀ (n + r) (omega arith)) in
+        let put : with-run (suc r) ≡ pasted (with-run r) (width l * (n + r)) (entryNumbers x) =
+        sym (put-then b (runNumbers image l o (entryAddress l base k) r) (entryNumbers x) (with-run r) _ (width l * n) (width l * (n + r)) _ (record { ends = at; holds = refl }) (record { ends = refl; holds = refl }) inside .holds) in
+        let ek : k + suc r ≡ k + r + 1 = omega arith in
+        let en : n + suc r ≡ n + r + 1 = omega arith in
+        rw (ek, en)
+        (goes-on entryNumbers image segments l base count (width l) b₀ k₀ (k + r) (n + r) (with-run r) (goes-along r (omega arith) (omega arith) (λ i j. f i (omega arith))) (omega arith) (omega arith) x (with-run (suc r)) is (ap suc (words-long (l .words) _ 0 _)) put)
 
 -- so many entries more fit
 pub room-for : (b : List ℕ) (w n r : ℕ) → n + r ≤ length b / w → w * n + w * r ≤ length b
@@ -544,20 +553,20 @@ module _ (image segments : List ℕ) (numbered : Bool) (more stride base count :
   by-size : (k : ℕ) (x : Option ℕ) → x ≡ entryPlace image segments (4 + 4 * more) (at k) → x ≡ entryPlace image segments (entrySize l) (entryAddress l base k)
   by-size k x e = rw (shape-size numbered more stride small, shape-stride numbered more stride) e
 
-  module _ (k n : ℕ) (b : List ℕ) (g : Going image segments l base count b₀ k₀ k n b) where
+  module _ (k n : ℕ) (b : List ℕ) (g : Listing image segments l base count b₀ k₀ k n b) where
     abbrev Done : ℕ → Type 0
     Done s = Lists (tableFrom image segments l (length b₀ / width l) (walkAt base count k₀)) b₀ (record { entries = n; stop = s }) b
 
     pub table-full : (s : ℕ) → length b₀ / (2 + more) ≤ n → (k < count → s ≡ 1) × (count ≤ k → s ≡ 0) → Done s
-    table-full s h f = stops-full image segments l base count b₀ k₀ k n b g (le-antisymm (g .few) (rw wide h)) s f
+    table-full s h f = stops-full entryNumbers image segments l base count (width l) b₀ k₀ k n b g (le-antisymm (g .few) (rw wide h)) s f
 
     module _ (h : k < count) (m : n < length b₀ / (2 + more)) where
       pub table-none : none ≡ entryPlace image segments (4 + 4 * more) (at k) → Done 2
-      table-none e = stops-none image segments l base count b₀ k₀ k n b g h (below n m) (no-place image segments l base k (by-size k none e))
+      table-none e = stops-none entryNumbers image segments l base count (width l) b₀ k₀ k n b g h (below n m) (no-place image segments l base k (by-size k none e))
 
       pub table-some : (o a : ℕ) (b′ : List ℕ) → some o ≡ entryPlace image segments (4 + 4 * more) (at k) → a ≡ at k % 2 ^ 64
           → b′ ≡ pasted b ((2 + more) * n) (entryNumbers (entryOf (shape numbered more 0) a (take (4 + 4 * more) (drop o image))))
-          → Going image segments l base count b₀ k₀ (k + 1) (n + 1) b′
+          → Listing image segments l base count b₀ k₀ (k + 1) (n + 1) b′
       table-some o a b′ e ea eb =
           let w = place-in image segments (4 + 4 * more) (at k) o e .0 in
           let same : a ≡ at k = ea ∙ mod-eq-of-lt (omega arith) in
@@ -565,10 +574,10 @@ module _ (image segments : List ℕ) (numbered : Bool) (more stride base count :
           let x : Entry = entryOf l (entryAddress l base k) (take (entrySize l) (drop o image)) in
           let put : b′ ≡ pasted b (width l * n) (entryNumbers x) =
           eb ∙ rw (wide, shape-size numbered more stride small, shape-stride numbered more stride, same, shape-words numbered more stride) in
-          goes-on image segments l base count b₀ k₀ k n b g h (below n m) x b′ is (ap suc (words-long (l .words) (entryAddress l base k) 0 _)) put
+          goes-on entryNumbers image segments l base count (width l) b₀ k₀ k n b g h (below n m) x b′ is (ap suc (words-long (l .words) (entryAddress l base k) 0 _)) put
 
     pub table-run : (o last a most r : ℕ) (b′ : List ℕ) → Opens image segments (4 + 4 * more) (at k) (Window.At o last) → a ≡ at k % 2 ^ 64 → most ≤ count - k
-        → most ≤ length b₀ / (2 + more) - n → k < count → PutRun image l o last a most b ((2 + more) * n) r b′ → Going image segments l base count b₀ k₀ (k + r) (n + r) b′
+        → most ≤ length b₀ / (2 + more) - n → k < count → PutRun image l o last a most b ((2 + more) * n) r b′ → Listing image segments l base count b₀ k₀ (k + r) (n + r) b′
     table-run o last a most r b′ w ea mc mr h p =
         let here = place-in image segments (4 + 4 * more) (at k) o (opens-here image segments (4 + 4 * more) (at k) o last w) .0 in
         let same : a ≡ entryAddress l base k = ea ∙ mod-eq-of-lt (omega arith) ∙ ap (λ (j : ℕ). base + j * k) (sym (shape-stride numbered more stride)) in
@@ -585,20 +594,20 @@ module _ (image segments : List ℕ) (numbered : Bool) (more stride base count :
   module _ (h : k₀ + 1 ≡ count) where
     pub one-full : length b₀ < 2 + more → Lists only b₀ (record { entries = 0; stop = 1 }) b₀
     one-full m =
-        table-full k₀ 0 b₀ (start-going image segments l base count b₀ k₀) 1 (omega (arith, div-eq-of-lt m)) ((λ _. refl), λ z. absurd (omega arith))
+        table-full k₀ 0 b₀ (start-going entryNumbers image segments l base count (width l) b₀ k₀) 1 (omega (arith, div-eq-of-lt m)) ((λ _. refl), λ z. absurd (omega arith))
 
     module _ (m : 2 + more ≤ length b₀) where
       one-fits : 0 < length b₀ / (2 + more)
       one-fits = omega (arith, div-eq-sub-div {m = 2 + more} {n = length b₀} (omega arith) m)
 
       pub one-none : none ≡ entryPlace image segments (4 + 4 * more) (at k₀) → Lists only b₀ (record { entries = 0; stop = 2 }) b₀
-      one-none e = table-none k₀ 0 b₀ (start-going image segments l base count b₀ k₀) (omega arith) one-fits e
+      one-none e = table-none k₀ 0 b₀ (start-going entryNumbers image segments l base count (width l) b₀ k₀) (omega arith) one-fits e
 
       pub one-some : (o last a : ℕ) (b′ : List ℕ) → Opens image segments (4 + 4 * more) (at k₀) (Window.At o last) → a ≡ at k₀ % 2 ^ 64
           → b′ ≡ pasted b₀ 0 (entryNumbers (entryOf (shape numbered more 0) a (take (4 + 4 * more) (drop o image)))) → Lists only b₀ (record { entries = 1; stop = 0 }) b′
       one-some o last a b′ w ea eb =
-          stops-end image segments l base count b₀ k₀ (k₀ + 1) 1 b′
-          (table-some k₀ 0 b₀ (start-going image segments l base count b₀ k₀) (omega arith) one-fits o a b′ (opens-here image segments (4 + 4 * more) (at k₀) o last w) ea (rw (mul-zero (2 + more)) eb))
+          stops-end entryNumbers image segments l base count (width l) b₀ k₀ (k₀ + 1) 1 b′
+          (table-some k₀ 0 b₀ (start-going entryNumbers image segments l base count (width l) b₀ k₀) (omega arith) one-fits o a b′ (opens-here image segments (4 + 4 * more) (at k₀) o last w) ea (rw (mul-zero (2 + more)) eb))
           (omega arith)
 
 -- a shape with more pointers than two is that with two
@@ -621,27 +630,82 @@ module _ (segments : List ℕ) (t : WholeTable) (b : List ℕ) where
 
 -- ---- what a table says
 
--- the numbers of the entries that stepping gives
-abbrev pub numbersIn : List Entry → List ℕ
-numbersIn [] = []
-numbersIn (e ∷ es) = entryNumbers e ++ numbersIn es
+-- the numbers of these entries
+abbrev pub numbersIn : (Entry → List ℕ) → List Entry → List ℕ
+numbersIn say [] = []
+numbersIn say (e ∷ es) = say e ++ numbersIn say es
 
--- a table of at most so many entries is what so many steps list, entry by entry
-module _ (image segments : List ℕ) (l : Layout) where
+module _ (say : Entry → List ℕ) (image segments : List ℕ) (l : Layout) where
+  abbrev table : ℕ → EntryCursor → WholeTable
+  table = tableBy say image segments l
+
+  abbrev steps : ℕ → EntryCursor → List Entry
+  steps = listed image segments l
+
+  -- a table of at most so many entries is what so many steps list, entry by entry
   abbrev Told : ℕ → EntryCursor → Type 0
-  Told n c =
-      (tableFrom image segments l n c .numbers ≡ numbersIn (listed image segments l n c))
-      × (tableFrom image segments l n c .entries ≡ length (listed image segments l n c))
+  Told n c = (table n c .numbers ≡ numbersIn say (steps n c)) × (table n c .entries ≡ length (steps n c))
 
   pub table-listed : (n : ℕ) (c : EntryCursor) → Told n c
-  unfolding tableFrom listed
+  unfolding tableBy listed
   table-listed zero c = (refl, refl)
   table-listed (suc n) c = go (table-listed n) (entryStep image segments l c) refl
     where
       found : ((c : EntryCursor) → Told n c) → (s : Step) → entryStep image segments l c ≡ some s → (y : Option Entry) → s .found ≡ y → Told (suc n) c
-      found ih s t none e = rw (tableFrom, listed, t, e) (refl, refl)
-      found ih s t (some x) e = rw (tableFrom, listed, t, e) (ap (λ (m : List ℕ). entryNumbers x ++ m) (ih (s .next) .0), ap suc (ih (s .next) .1))
+      found ih s t none e = rw (tableBy, listed, t, e) (refl, refl)
+      found ih s t (some x) e = rw (tableBy, listed, t, e) (ap (λ (m : List ℕ). say x ++ m) (ih (s .next) .0), ap suc (ih (s .next) .1))
 
       go : ((c : EntryCursor) → Told n c) → (x : Option Step) → entryStep image segments l c ≡ x → Told (suc n) c
-      go ih none t = rw (tableFrom, listed, t) (refl, refl)
+      go ih none t = rw (tableBy, listed, t) (refl, refl)
       go ih (some s) t = found ih s t (s .found) refl
+
+  -- how many entries, and why no more, does not go by the numbers that are said of an entry
+  abbrev Same : (Entry → List ℕ) → ℕ → EntryCursor → Type 0
+  Same other n c = counts (table n c) ≡ counts (tableBy other image segments l n c)
+
+  pub same-counts : (other : Entry → List ℕ) (n : ℕ) (c : EntryCursor) → Same other n c
+  unfolding tableBy
+  same-counts other zero c = refl
+  same-counts other (suc n) c = go (same-counts other n) (entryStep image segments l c) refl
+    where
+      found : ((c : EntryCursor) → Same other n c) → (s : Step) → entryStep image segments l c ≡ some s → (y : Option Entry) → s .found ≡ y → Same other (suc n) c
+      found ih s t none e = rw (tableBy, t, e)
+      found ih s t (some x) e = rw (tableBy, t, e) (ap (λ (k : Counts). record { entries = suc (k .entries); stop = k .stop }) (ih (s .next)))
+
+      go : ((c : EntryCursor) → Same other n c) → (x : Option Step) → entryStep image segments l c ≡ x → Same other (suc n) c
+      go ih none t = rw (tableBy, t)
+      go ih (some s) t = found ih s t (s .found) refl
+
+-- each entry has the words of its layout
+module _ (image segments : List ℕ) (l : Layout) where
+  entry-words : (base k : ℕ) (e : Entry) → run image segments (entryAt l base k) ≡ some e → length (e .words) ≡ length (l .words)
+  entry-words base k e t = go (entryPlace image segments (entrySize l) (entryAddress l base k)) refl
+    where
+      go : (x : Option ℕ) → entryPlace image segments (entrySize l) (entryAddress l base k) ≡ x → length (e .words) ≡ length (l .words)
+      go none p =
+          let f : _≡_ {A = Option Entry} none (some e) = no-place image segments l base k (sym p) ∙ t in
+          let z : _≡_ {A = ℕ} 0 1 = cc in
+          absurd (omega arith)
+      go (some o) p =
+          let h : List ℕ = take (entrySize l) (drop o image) in
+          let f : some (entryOf l (entryAddress l base k) h) ≡ some e = a-place image segments l base k o (sym p) ∙ t in
+          let q : e ≡ entryOf l (entryAddress l base k) h = cc in
+          ap (λ (x : Entry). length (x .words)) q ∙ words-long (l .words) (entryAddress l base k) 0 h
+
+  abbrev pub Whole : List Entry → Type 0
+  Whole [] = Unit {0}
+  Whole (e ∷ es) = (length (e .words) ≡ length (l .words)) × Whole es
+
+  pub listed-words : (n : ℕ) (c : EntryCursor) → Whole (listed image segments l n c)
+  unfolding listed
+  listed-words zero c = tt
+  listed-words (suc n) c = go (listed-words n) (decLt (c .next) (c .count))
+    where
+      given : ((c : EntryCursor) → Whole (listed image segments l n c)) → c .next < c .count → (y : Option Entry) → run image segments (entryAt l (c .«base_va») (c .next)) ≡ y
+          → Whole (listed image segments l (suc n) c)
+      given ih h none t = rw (listed, sym (step-gives image segments l c none (sym t) h)) tt
+      given ih h (some e) t = rw (listed, sym (step-gives image segments l c (some e) (sym t) h)) (entry-words (c .«base_va») (c .next) e t, ih _)
+
+      go : ((c : EntryCursor) → Whole (listed image segments l n c)) → Dec (c .next < c .count) → Whole (listed image segments l (suc n) c)
+      go ih (yes h) = given ih h (run image segments (entryAt l (c .«base_va») (c .next))) refl
+      go ih (no h) = rw (listed, sym (step-end image segments l c (omega arith))) tt

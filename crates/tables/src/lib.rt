@@ -10,5 +10,8 @@ pub use calls::field_records;
 pub use calls::methods;
 pub use calls::overrides;
 pub use calls::prespecializations;
+pub use list::ENDED;
 pub use list::Listed;
+pub use list::UNREADABLE;
 pub use list::list_entries;
+pub use list::stopped;

@@ -11,11 +11,11 @@ use crate::window::window_at;
 use vtable::EntryCursor;
 
 // Why there are no more entries.
-const ENDED: u64 = 0;
+pub const ENDED: u64 = 0;
 
 const FULL: u64 = 1;
 
-const UNREADABLE: u64 = 2;
+pub const UNREADABLE: u64 = 2;
 
 // How many entries the lent list has, and why there are no more: 0 the table ends, 1 the list is full, 2 the next entry cannot be read.
 pub struct Listed {
@@ -170,7 +170,8 @@ fn list_one(
     }
 }
 
-fn stopped(k: u32, count: u32) -> u64
+// Why a list with no room for entry `k` ends: it is full, unless the table ends there.
+pub fn stopped(k: u32, count: u32) -> u64
     ensures { λ r. ⌜ (k < count → r ≡ 1) × (count ≤ k → r ≡ 0) ⌝ }
 {
     if k < count { FULL } else { ENDED }

@@ -3,7 +3,7 @@
 use mathlib.Core.Path.{ap}
 use Rattle.util.specs.AnswersLaws.{told}
 use Rattle.runtime.specs.FieldName.{fieldNameOf}
-use Rattle.exports.specs.Numbers.{fieldNumbers}
+use Rattle.runtime.specs.PlaceNumbers.{fieldNumbers}
 use Rattle.exports.specs.NumbersLaws.{tells-whole, tells-ragged}
 use borrow.Author.Needs.{needs}
 use Rattle.exports.proofs.calls.hodrupec_field_name.Statement.{statement}

@@ -3,7 +3,7 @@
 use denote.Ref.{now}
 use mathlib.Core.Path.{refl, _∙_, ap}
 use Rattle.util.specs.Cstr.{textAt}
-use Rattle.exports.specs.Numbers.{textNumbers}
+use Rattle.runtime.specs.PlaceNumbers.{textNumbers}
 use Rattle.exports.specs.NumbersLaws.{tells-as}
 use borrow.Author.Needs.{needs}
 use Rattle.exports.proofs.calls.hodrupec_text.Statement.{statement}

@@ -2,7 +2,7 @@
 -- Assumes nothing.
 use mathlib.Core.Path.{sym, ap}
 use Rattle.util.specs.Cstr.{textOf}
-use Rattle.exports.specs.Numbers.{textNumbers}
+use Rattle.runtime.specs.PlaceNumbers.{textNumbers}
 use borrow.Author.Needs.{needs}
 use Rattle.exports.proofs.calls.text_numbers.Statement.{statement}
 use Rattle.exports.proofs.calls.text_numbers.Tie as tie

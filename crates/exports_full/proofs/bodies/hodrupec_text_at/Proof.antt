@@ -2,7 +2,7 @@
 -- Assumes nothing.
 use Rattle.util.specs.AnswersLaws.{told}
 use Rattle.listing.specs.Bodies.{textAnswer}
-use Rattle.exports.specs.Numbers.{textNumbers}
+use Rattle.runtime.specs.PlaceNumbers.{textNumbers}
 use Rattle.exports.specs.NumbersLaws.{tells-as, refuses}
 use borrow.Author.Needs.{needs}
 use Rattle.exports_full.proofs.bodies.hodrupec_text_at.Statement.{statement}

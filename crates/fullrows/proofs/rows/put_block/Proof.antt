@@ -1,6 +1,6 @@
 -- `fullrows::rows::put_block` meets its contract.
 -- Assumes nothing.
-use Rattle.fullrows.specs.BlocksLaws.{pasted-as}
+use Rattle.tables.specs.PastedLaws.{pasted-as}
 use borrow.Author.Needs.{needs}
 use Rattle.fullrows.proofs.rows.put_block.Statement.{statement}
 use Rattle.fullrows.proofs.rows.put_block.Tie as tie

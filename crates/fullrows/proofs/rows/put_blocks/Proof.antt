@@ -8,7 +8,8 @@ use Rattle.util.specs.AnswersLaws.{case}
 use Rattle.segment.specs.Mapping.{withMapping}
 use Rattle.classtrailers.specs.Calls.{trailingOf, Says}
 use Rattle.fullrows.specs.FullRows.{blockFour}
-use Rattle.fullrows.specs.BlocksLaws.{Putting, start-putting, all-put, absent-put, there-put, last-put, fails-put, pasted-long, block-long}
+use Rattle.tables.specs.PastedLaws.{pasted-long}
+use Rattle.fullrows.specs.BlocksLaws.{Putting, start-putting, all-put, absent-put, there-put, last-put, fails-put, block-long}
 use borrow.Author.Needs.{needs}
 use Rattle.fullrows.proofs.rows.put_blocks.Statement.{statement}
 use Rattle.fullrows.proofs.rows.put_blocks.Tie as tie

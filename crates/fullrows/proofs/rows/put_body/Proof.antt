@@ -1,7 +1,8 @@
 -- `fullrows::rows::put_body` meets its contract.
 -- Assumes nothing.
 use native.Mathlib.Omega.{arith}
-use Rattle.fullrows.specs.BlocksLaws.{pasted-as, eight-put}
+use Rattle.tables.specs.PastedLaws.{pasted-as}
+use Rattle.fullrows.specs.BlocksLaws.{eight-put}
 use Rattle.fullrows.specs.FullRowsLaws.{body-known}
 use borrow.Author.Needs.{needs}
 use Rattle.fullrows.proofs.rows.put_body.Statement.{statement}

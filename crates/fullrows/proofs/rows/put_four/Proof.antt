@@ -2,7 +2,7 @@
 -- Assumes nothing.
 use native.Mathlib.Omega.{arith}
 use lib.ListN.{length-set}
-use Rattle.fullrows.specs.BlocksLaws.{four-put}
+use Rattle.tables.specs.PastedLaws.{four-put}
 use borrow.Author.Needs.{needs}
 use Rattle.fullrows.proofs.rows.put_four.Statement.{statement}
 use Rattle.fullrows.proofs.rows.put_four.Tie as tie

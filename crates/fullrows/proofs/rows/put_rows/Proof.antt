@@ -8,7 +8,7 @@ use Rattle.segment.specs.Mapping.{Mapped}
 use Rattle.segment.specs.MappingLaws.{empty-mapped}
 use Rattle.runtime.specs.CallsLaws.{run-mapped}
 use Rattle.typedescriptor.specs.Row.{rowOf, descriptorOf}
-use Rattle.fullrows.specs.BlocksLaws.{pasted-as}
+use Rattle.tables.specs.PastedLaws.{pasted-as}
 use Rattle.fullrows.specs.FullRowsLaws.{Going, start-going, fits, ended, passes, full, goes-on, row-mapped}
 use borrow.Author.Needs.{needs}
 use Rattle.fullrows.proofs.rows.put_rows.Statement.{statement}

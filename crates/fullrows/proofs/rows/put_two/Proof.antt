@@ -2,7 +2,7 @@
 -- Assumes nothing.
 use native.Mathlib.Omega.{arith}
 use lib.ListN.{length-set}
-use Rattle.fullrows.specs.BlocksLaws.{two-put}
+use Rattle.tables.specs.PastedLaws.{two-put}
 use borrow.Author.Needs.{needs}
 use Rattle.fullrows.proofs.rows.put_two.Statement.{statement}
 use Rattle.fullrows.proofs.rows.put_two.Tie as tie

@@ -3,15 +3,15 @@
 use Prim.Native.Nat.{_+_, _-_, _*_}
 use native.Mathlib.Omega.{arith}
 use borrow.Author.Needs.{needs}
-use Rattle.tables.specs.Tables.{shape, Opens}
-use Rattle.tables.specs.TablesLaws.{Going, start-going, stops-end, room-for, room-few, opens-last, below-word, table-full, table-none, table-run}
+use Rattle.tables.specs.Tables.{entryNumbers, width, shape, Opens}
+use Rattle.tables.specs.TablesLaws.{Listing, start-going, stops-end, room-for, room-few, opens-last, below-word, table-full, table-none, table-run}
 use Rattle.util.specs.AnswersLaws.{case}
 use Rattle.tables.proofs.list.list_runs.Statement.{statement}
 use Rattle.tables.proofs.list.list_runs.Tie as tie
 
 abbrev Inv-loop : tie.InvT-loop
 Inv-loop image segments numbered more stride buffer₀ width base-va count room k₀ n₀ buffer k n =
-    Going image segments (shape numbered more stride) base-va count buffer₀ k₀ k n buffer
+    Listing image segments (shape numbered more stride) base-va count buffer₀ k₀ k n buffer
 
 abbrev μ-loop : tie.MeasureT-loop
 μ-loop image segments numbered more stride buffer₀ width base-va count room k₀ n₀ buffer k n = room - n
@@ -23,7 +23,7 @@ div-room : tie.Need-div-room Inv-loop μ-loop
 div-room c = search needs
 
 loop-holds : tie.Need-loop-holds Inv-loop μ-loop
-loop-holds c = start-going _ _ _ _ _ _ _
+loop-holds c = start-going _ _ _ _ _ _ _ _ _
 
 same-length : tie.Need-same-length Inv-loop μ-loop
 same-length c = search needs
@@ -32,7 +32,7 @@ returns : tie.Need-returns Inv-loop μ-loop
 returns c =
     let a = c .before .before in
     let s = a .before .before .before .before in
-    stops-end (s .args .image .now) (s .args .segments .now) (shape (s .args .numbered) (s .args .more) (s .args .stride)) (s .args .cursor .«base_va») (s .args .cursor .count) (s .args .buffer .now) (s .args .cursor .next) (a .loop .k) (a .loop .n) _ (a .loop .inv) (omega (arith, c .if1 .taken))
+    stops-end entryNumbers (s .args .image .now) (s .args .segments .now) (shape (s .args .numbered) (s .args .more) (s .args .stride)) (s .args .cursor .«base_va») (s .args .cursor .count) (width (shape (s .args .numbered) (s .args .more) (s .args .stride))) (s .args .buffer .now) (s .args .cursor .next) (a .loop .k) (a .loop .n) _ (a .loop .inv) (omega (arith, c .if1 .taken))
 
 window-at-requires : tie.Need-window-at-requires Inv-loop μ-loop
 window-at-requires c κs = search needs

@@ -1,0 +1,3 @@
+pub mod NamedRecords
+pub mod NamedRecordsLaws
+pub mod NamedTableLaws

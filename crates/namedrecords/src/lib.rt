@@ -1,0 +1,6 @@
+// The records of a field descriptor with both names in one call, ten numbers each in a lent list. The call refuses a list of segment numbers that
+// is no multiple of four, before all else (refusal 1).
+mod calls;
+mod records;
+
+pub use calls::named_records;

@@ -1,0 +1,53 @@
+-- `runtime::reflstr::lookup_field_name_near` meets its contract: each `return` is a case of `fieldName`.
+-- Assumes nothing.
+use Rattle.util.specs.AnswersLaws.{told}
+use Rattle.util.specs.Cstr.{textOf}
+use Rattle.runtime.specs.CallsLaws.{name-zero, name-image, name-strings}
+use borrow.Author.Needs.{needs}
+use Rattle.runtime.proofs.reflstr.lookup_field_name_near.Statement.{statement}
+use Rattle.runtime.proofs.reflstr.lookup_field_name_near.Tie as tie
+
+returns : tie.Need-returns
+returns c = name-zero _ _ _ _ _ (c .if1 .taken)
+
+read-cstr-near-requires : tie.Need-read-cstr-near-requires
+read-cstr-near-requires c κs = search needs
+
+enum-known-place : tie.Need-enum-known-place
+enum-known-place c = search needs
+
+enum-told : tie.Need-enum-told
+enum-told c = search needs
+
+section-text-requires : tie.Need-section-text-requires
+section-text-requires c κs = search needs
+
+enum-known-place-2 : tie.Need-enum-known-place-2
+enum-known-place-2 c = search needs
+
+enum-told-2 : tie.Need-enum-told-2
+enum-told-2 c = search needs
+
+returns-2 : tie.Need-returns-2
+returns-2 c = name-image _ _ _ _ _ (c .before .before .before .before .if1 .left) _ (told textOf (c .before .before .before .read-cstr-near .ensures) (c .before .place .given .1))
+
+returns-3 : tie.Need-returns-3
+returns-3 c = name-strings _ _ _ _ _ (c .before .before .before .before .before .before .before .if1 .left) _ (told textOf (c .before .before .before .before .before .before .read-cstr-near .ensures) (c .before .before .before .before .enum-told .given .1)) (told textOf (c .before .before .before .section-text .ensures) (c .before .place2 .given .1))
+
+returns-4 : tie.Need-returns-4
+returns-4 c = name-strings _ _ _ _ _ (c .before .before .before .before .before .before .if1 .left) _ (told textOf (c .before .before .before .before .before .read-cstr-near .ensures) (c .before .before .before .enum-told .given .1)) (told textOf (c .before .before .section-text .ensures) (c .enum-told2 .given .1))
+
+pub lookup-field-name-near-spec : {M : Type 1} → statement M
+lookup-field-name-near-spec =
+    tie.close
+    (tie.spec
+    returns
+    read-cstr-near-requires
+    enum-known-place
+    enum-told
+    section-text-requires
+    enum-known-place-2
+    enum-told-2
+    returns-2
+    returns-3
+    returns-4)
