@@ -1,7 +1,8 @@
--- What the code finds, class after class, is the definition (`Going`).
+-- What the code finds, class after class, is the definition (`Going`); where all are given they are all methods of each class (`all-told`).
 use Prim.Native.Nat.{ℕ, zero, suc, _+_, _-_, _*_, _/_, _%_, _≤_, _<_}
 use native.Mathlib.Nat.{mul-div-le, mul-le-mul-left, add-zero}
 use native.Mathlib.Numerals.{add-one}
+use native.Mathlib.Decide.{decLt}
 use native.Mathlib.Omega.{arith}
 use mathlib.Core.Path.{_≡_, refl, sym, ap, subst, _∙_}
 use mathlib.Core.List.{List, [], _∷_, _++_, append-assoc, append-nil}
@@ -10,10 +11,9 @@ use mathlib.Core.Option.{Option, some, none}
 use lib.ListN.{length, take, drop, length-append, length-drop, drop-of-length-le, take-append-drop}
 use lib.Seq.{take-all, take-at, drop-at, drop-drop, take-append-le, take-take, length-take-le}
 use lib.Dec.{ltb, eqb}
-use borrow.Author.Tests.{lt-ltb, le-ltb, eq-eqb, ne-eqb}
+use borrow.Author.Tests.{lt-ltb, le-ltb, eq-eqb, ne-eqb, eqb-false}
 use borrow.Rule.Slice.PartMut.{midOf, putMid, mid-len}
-use Rattle.refusal.specs.Refusal.{Guarded, answered, refused, mapped, answerOf}
-use Rattle.util.specs.Buffer.{pasted, atStart, overwritten}
+use Rattle.util.specs.Buffer.{pasted, atStart}
 use Rattle.segment.specs.Mapping.{withMapping, Mapped}
 use Rattle.segment.specs.declared.segment.Mapping.{Mapping}
 use Rattle.runtime.specs.Reads.{run, andThen}
@@ -28,11 +28,9 @@ use Rattle.typebody.specs.Items.{Start, trailers}
 use Rattle.vtable.specs.Entries.{Entry, method, entryAt}
 use Rattle.items.specs.Items.{Table, tableOf}
 use Rattle.listing.specs.Blocks.{kindFrom}
-use Rattle.listing.specs.Calls.{guarded}
-use Rattle.listing.specs.CallsLaws.{ragged, whole}
 use Rattle.tables.specs.declared.list.Listed.{Listed}
-use Rattle.tables.specs.Tables.{entryNumbers, WholeTable, Counts, tableIn, counts, Lists}
-use Rattle.tables.specs.TablesLaws.{entry-wide, Sized, sized}
+use Rattle.tables.specs.Tables.{entryNumbers, tableFrom, WholeTable, Counts, tableIn, counts, Lists}
+use Rattle.tables.specs.TablesLaws.{entry-wide, full-all, all-there, Sized, sized}
 use Rattle.tables.specs.PastedLaws.{pasted-long}
 use Rattle.classmethods.specs.declared.classes.Given.{Given}
 use Rattle.classmethods.specs.ClassMethods.{methodTable, Class, classAt, rowClass, slotClass, classNumbers, methodsAt, ClassesListed, stopsAt, classThen, classesFrom, classesIn, givenOf, numbersOf}
@@ -223,7 +221,9 @@ module _ (image segments types : List ℕ) (start i₀ k₀ : ℕ) (b₀ : List 
 
           -- the number of the method to go on from
           pub below-count : stop ≡ 1 → k + n < x .table .count
-          below-count f = omega (arith, is-entries, sizes .full (sym is-stop ∙ f))
+          below-count f =
+              let more = full-all entryNumbers image segments method (x .table .base) (x .table .count) ((length b - (at + 4)) / 3) k (sym is-stop ∙ f) in
+              omega (arith, is-entries, more .0, more .1)
 
           begun : left i k (length b₀ - at) ≡ classThen numbers (cond (eqb stop 1) (stopsAt i (k + n) false) (left (i + 1) 0 (length b₀ - end)))
           unfolding classesFrom
@@ -269,15 +269,43 @@ module _ (image segments types : List ℕ) (start i₀ k₀ : ℕ) (b₀ : List 
                   goes = g .goes ∙ ap (after (take at b) c) (begun ∙ rw (ne-eqb stop 1 f)) ∙ with-it (left (i + 1) 0 (length b₀ - end));
                 }
 
--- ---- the call
+-- ---- what is told
 
-module _ (segments : List ℕ) (r : ClassesListed) (b : List ℕ) where
-  abbrev G : Guarded ClassesListed
-  G = guarded segments (answered r)
+module _ (image segments types : List ℕ) (start : ℕ) where
+  -- all methods of a class from method `k` on, up to the first that cannot be read
+  abbrev allMethods : Class → ℕ → WholeTable
+  allMethods c k = tableFrom image segments method (c .table .count) (methodsAt (c .table) k)
 
-  pub classes-ragged : (length segments % 4 ≡ 0 → ⊥) → (refused 1 ≡ mapped givenOf G) × (b ≡ overwritten b (answerOf (mapped numbersOf G)))
-  classes-ragged h = rw (sym (ragged segments (answered r) h)) (refl, refl)
+  -- those of all classes of so many slots
+  unfoldable pub allClasses : ℕ → ℕ → ℕ → List ℕ
+  allClasses zero i k = []
+  allClasses (suc m) i k =
+      elim (slotClass image segments types start i) [
+        | none ↦ allClasses m (suc i) 0
+        | some c ↦ classNumbers i (c .address) (allMethods c k) ++ allClasses m (suc i) 0
+      ]
 
-  pub classes-whole : (x : Given) (b′ : List ℕ) → (x ≡ givenOf r) × (b′ ≡ atStart (numbersOf r) b) → length segments % 4 ≡ 0
-      → (answered x ≡ mapped givenOf G) × (b′ ≡ overwritten b (answerOf (mapped numbersOf G)))
-  classes-whole x b′ e h = rw (sym (whole segments (answered r) h)) (ap answered (e .0), e .1)
+  -- where all are given they are these, however long the list is
+  pub all-told : (m i k n : ℕ) → classesFrom image segments types start m i k n .all ≡ true → classesFrom image segments types start m i k n .numbers ≡ allClasses m i k
+  unfolding classesFrom allClasses
+  all-told zero i k n e = refl
+  all-told (suc m) i k n e = go (all-told m (suc i)) (slotClass image segments types start i) refl
+    where
+      never : _≡_ {A = Bool} false true → ⊥
+      never f = let z : _≡_ {A = ℕ} 0 1 = cc in omega arith
+
+      class : ((k n : ℕ) → classesFrom image segments types start m (suc i) k n .all ≡ true → classesFrom image segments types start m (suc i) k n .numbers ≡ allClasses m (suc i) k)
+          → (c : Class) → slotClass image segments types start i ≡ some c → Dec (n < 4) → (b : Bool) → eqb (tableIn image segments method (methodsAt (c .table) k) (n - 4) .stop) 1 ≡ b
+          → classesFrom image segments types start (suc m) i k n .numbers ≡ allClasses (suc m) i k
+      class ih c t (yes h) b s = absurd (never (rw (classesFrom, t, lt-ltb n 4 h) at e))
+      class ih c t (no h) true s = absurd (never (rw (classesFrom, t, le-ltb n 4 (omega arith), s) at e))
+      class ih c t (no h) false s =
+          let whole = all-there entryNumbers image segments method (c .table .base) (c .table .count) ((n - 4) / 3) k (eqb-false _ 1 s) in
+          rw (classesFrom, allClasses, t, le-ltb n 4 (omega arith), s)
+          (ap (λ (l : List ℕ). classNumbers i (c .address) (tableIn image segments method (methodsAt (c .table) k) (n - 4)) ++ l) (ih 0 _ (rw (classesFrom, t, le-ltb n 4 (omega arith), s) at e))
+          ∙ ap (λ (w : WholeTable). classNumbers i (c .address) w ++ allClasses m (suc i) 0) whole)
+
+      go : ((k n : ℕ) → classesFrom image segments types start m (suc i) k n .all ≡ true → classesFrom image segments types start m (suc i) k n .numbers ≡ allClasses m (suc i) k)
+          → (x : Option Class) → slotClass image segments types start i ≡ x → classesFrom image segments types start (suc m) i k n .numbers ≡ allClasses (suc m) i k
+      go ih none t = rw (classesFrom, allClasses, t) (ih 0 n (rw (classesFrom, t) at e))
+      go ih (some c) t = class ih c t (decLt n 4) (eqb (tableIn image segments method (methodsAt (c .table) k) (n - 4) .stop) 1) refl

@@ -10,11 +10,8 @@ use mathlib.Core.Bool.{Bool, true, false}
 use mathlib.Core.Option.{Option, some, none}
 use lib.ListN.{length, take, drop, length-append, length-drop, drop-of-length-le, take-append-drop}
 use lib.Seq.{take-all, take-at, drop-drop, drop-nil, drop-append-add}
-use Rattle.refusal.specs.Refusal.{Guarded, answered, refused, mapped, answerOf}
-use Rattle.util.specs.Buffer.{pasted, atStart, overwritten}
+use Rattle.util.specs.Buffer.{pasted, atStart}
 use Rattle.listing.specs.Blocks.{kindFrom}
-use Rattle.listing.specs.Calls.{guarded}
-use Rattle.listing.specs.CallsLaws.{ragged, whole}
 use Rattle.segment.specs.Mapping.{withMapping, Mapped}
 use Rattle.segment.specs.declared.segment.Mapping.{Mapping}
 use Rattle.runtime.specs.Reads.{run}
@@ -229,19 +226,6 @@ module _ (image segments types : List ℕ) (start i₀ : ℕ) (b₀ : List ℕ) 
                   text-more (fullRows image segments (take n all)) (fullRow image segments i r) b₀ b b′ (58 * n) (g .holds) text-long eb
                   ∙ ap (λ (t : List ℕ). atStart t b₀) (sym (rows-snoc image segments (take n all) (found i r)) ∙ ap (fullRows image segments) (sym (w .0)));
             }
-
--- ---- the call
-
-module _ (segments : List ℕ) (r : RecordsListed) (b : List ℕ) where
-  abbrev G : Guarded RecordsListed
-  G = guarded segments (answered r)
-
-  pub rows-ragged : (length segments % 4 ≡ 0 → ⊥) → (refused 1 ≡ mapped givenOf G) × (b ≡ overwritten b (answerOf (mapped numbersOf G)))
-  rows-ragged h = rw (sym (ragged segments (answered r) h)) (refl, refl)
-
-  pub rows-whole : (x : Given) (b′ : List ℕ) → (x ≡ givenOf r) × (b′ ≡ atStart (numbersOf r) b) → length segments % 4 ≡ 0
-      → (answered x ≡ mapped givenOf G) × (b′ ≡ overwritten b (answerOf (mapped numbersOf G)))
-  rows-whole x b′ e h = rw (sym (whole segments (answered r) h)) (ap answered (e .0), e .1)
 
 -- ---- what the records say
 

@@ -377,31 +377,81 @@ module _ (say : Entry → List ℕ) (image segments : List ℕ) (l : Layout) (ba
       go ih (yes h) = given ih h (run image segments (entryAt l base k)) refl
       go ih (no h) = never 0 (from-end (suc n) k (omega arith)) (λ z. omega arith)
 
-  -- how many numbers so many entries have; where the list is full there are more
+  abbrev stopOf : WholeTable → ℕ
+  stopOf r = r .stop
+
+  -- a full list has as many entries as it has room for, and there are more
+  pub full-all : (n k : ℕ) → left n k .stop ≡ 1 → (left n k .entries ≡ n) × (k + n < count)
+  full-all zero k e = go (decLt k count)
+    where
+      go : Dec (k < count) → (left 0 k .entries ≡ 0) × (k + 0 < count)
+      go (yes h) = (ap (λ (r : WholeTable). r .entries) (from-full k h), omega arith)
+      go (no h) = absurd (omega (arith, ap stopOf (from-end 0 k (omega arith))))
+  full-all (suc n) k e = go (full-all n (k + 1)) (decLt k count)
+    where
+      found : (left n (k + 1) .stop ≡ 1 → (left n (k + 1) .entries ≡ n) × (k + 1 + n < count)) → k < count → (y : Option Entry)
+          → y ≡ run image segments (entryAt l base k) → (left (suc n) k .entries ≡ suc n) × (k + suc n < count)
+      found ih h none f = absurd (omega (arith, ap stopOf (from-none n k h f)))
+      found ih h (some x) f =
+          let first = from-some n k x h f in
+          let rest = ih (sym (ap stopOf first) ∙ e) in
+          (ap (λ (r : WholeTable). r .entries) first ∙ ap suc (rest .0), omega (arith, rest .1))
+
+      go : (left n (k + 1) .stop ≡ 1 → (left n (k + 1) .entries ≡ n) × (k + 1 + n < count)) → Dec (k < count) → (left (suc n) k .entries ≡ suc n) × (k + suc n < count)
+      go ih (yes h) = found ih h (run image segments (entryAt l base k)) refl
+      go ih (no h) = absurd (omega (arith, ap stopOf (from-end (suc n) k (omega arith))))
+
+  -- a list that is not full has all entries: more room changes nothing
+  enough : (n m k : ℕ) → (left n k .stop ≡ 1 → ⊥) → n ≤ m → left n k ≡ left m k
+  enough zero m k f h = go (decLt k count)
+    where
+      go : Dec (k < count) → left 0 k ≡ left m k
+      go (yes l) = absurd (f (ap stopOf (from-full k l)))
+      go (no l) = from-end 0 k (omega arith) ∙ sym (from-end m k (omega arith))
+  enough (suc n) zero k f h = absurd (omega arith)
+  enough (suc n) (suc m) k f h = go (λ g. enough n m (k + 1) g (omega arith)) (decLt k count)
+    where
+      found : ((left n (k + 1) .stop ≡ 1 → ⊥) → left n (k + 1) ≡ left m (k + 1)) → k < count → (y : Option Entry) → y ≡ run image segments (entryAt l base k)
+          → left (suc n) k ≡ left (suc m) k
+      found ih h none e = from-none n k h e ∙ sym (from-none m k h e)
+      found ih h (some x) e =
+          let first = from-some n k x h e in
+          first ∙ ap (entryThen say x) (ih (λ z. f (ap stopOf first ∙ z))) ∙ sym (from-some m k x h e)
+
+      go : ((left n (k + 1) .stop ≡ 1 → ⊥) → left n (k + 1) ≡ left m (k + 1)) → Dec (k < count) → left (suc n) k ≡ left (suc m) k
+      go ih (yes h) = found ih h (run image segments (entryAt l base k)) refl
+      go ih (no h) = from-end (suc n) k (omega arith) ∙ sym (from-end (suc m) k (omega arith))
+
+  pub all-there : (n k : ℕ) → (left n k .stop ≡ 1 → ⊥) → left n k ≡ left count k
+  all-there n k f = go (decLe n count)
+    where
+      go : Dec (n ≤ count) → left n k ≡ left count k
+      go (yes h) = enough n count k f h
+      go (no h) = sym (enough count n k (λ z. omega (arith, full-all count k z .1)) (omega arith))
+
+  -- how many numbers so many entries have
   module _ (each : ℕ) (wide : (k : ℕ) (x : Entry) → some x ≡ run image segments (entryAt l base k) → length (say x) ≡ each) where
     pub record Sized (n k : ℕ) : Type 0 where
       pub long : length (left n k .numbers) ≡ each * left n k .entries
       pub few : left n k .entries ≤ n
-      pub full : left n k .stop ≡ 1 → k + left n k .entries < count
 
-    none-sized : (n k s : ℕ) → left n k ≡ ended s → (s ≡ 1 → k < count) → Sized n k
-    none-sized n k s e h =
+    none-sized : (n k s : ℕ) → left n k ≡ ended s → Sized n k
+    none-sized n k s e =
         record {
-          long = ap (λ (r : WholeTable). length (r .numbers)) e ∙ sym (mul-zero (each)) ∙ ap (λ (r : WholeTable). each * r .entries) (sym e);
+          long = ap (λ (r : WholeTable). length (r .numbers)) e ∙ sym (mul-zero each) ∙ ap (λ (r : WholeTable). each * r .entries) (sym e);
           few = omega (arith, ap (λ (r : WholeTable). r .entries) e);
-          full = λ z. omega (arith, ap (λ (r : WholeTable). r .entries) e, h (sym (ap (λ (r : WholeTable). r .stop) e) ∙ z));
         }
 
     pub sized : (n k : ℕ) → Sized n k
     sized zero k = go (decLt k count)
       where
         go : Dec (k < count) → Sized 0 k
-        go (yes h) = none-sized 0 k 1 (from-full k h) (λ z. h)
-        go (no h) = none-sized 0 k 0 (from-end 0 k (omega arith)) (λ z. omega arith)
+        go (yes h) = none-sized 0 k 1 (from-full k h)
+        go (no h) = none-sized 0 k 0 (from-end 0 k (omega arith))
     sized (suc n) k = go (sized n (k + 1)) (decLt k count)
       where
         found : Sized n (k + 1) → k < count → (y : Option Entry) → y ≡ run image segments (entryAt l base k) → Sized (suc n) k
-        found ih h none f = none-sized (suc n) k 2 (from-none n k h f) (λ z. omega arith)
+        found ih h none f = none-sized (suc n) k 2 (from-none n k h f)
         found ih h (some x) f =
             let e = from-some n k x h f in
             let rest : ℕ = left n (k + 1) .entries in
@@ -409,14 +459,13 @@ module _ (say : Entry → List ℕ) (image segments : List ℕ) (l : Layout) (ba
             record {
               long =
                   ap (λ (r : WholeTable). length (r .numbers)) e ∙ length-append (say x) (left n (k + 1) .numbers)
-                  ∙ omega (arith, wide k x f, ih .long, mul-suc (each) rest) ∙ ap (λ (j : ℕ). each * j) (sym more);
+                  ∙ omega (arith, wide k x f, ih .long, mul-suc each rest) ∙ ap (λ (j : ℕ). each * j) (sym more);
               few = omega (arith, ih .few, more);
-              full = λ z. omega (arith, more, ih .full (sym (ap (λ (r : WholeTable). r .stop) e) ∙ z));
             }
 
         go : Sized n (k + 1) → Dec (k < count) → Sized (suc n) k
         go ih (yes h) = found ih h (run image segments (entryAt l base k)) refl
-        go ih (no h) = none-sized (suc n) k 0 (from-end (suc n) k (omega arith)) (λ z. omega arith)
+        go ih (no h) = none-sized (suc n) k 0 (from-end (suc n) k (omega arith))
 
   -- so many of each
   module _ (each : ℕ) (b₀ : List ℕ) (k₀ : ℕ) where
@@ -616,6 +665,16 @@ pub lists-least : (image segments : List ℕ) (numbered : Bool) (more r stride :
 lists-least image segments numbered more r stride c b b′ x e h = subst (λ (l : Layout). Lists (tableIn image segments l c (length b)) b x b′) (shape-least numbered more r stride e) h
 
 -- ---- the calls
+
+-- one that lists into a buffer: what it tells, and the numbers at the buffer's start
+module _ {A B : Type 0} (tell : A → B) (say : A → List ℕ) (segments : List ℕ) (r : A) (b : List ℕ) where
+  pub listed-ragged : (length segments % 4 ≡ 0 → ⊥)
+      → (refused 1 ≡ mapped tell (guarded segments (answered r))) × (b ≡ overwritten b (answerOf (mapped say (guarded segments (answered r)))))
+  listed-ragged h = rw (sym (ragged segments (answered r) h)) (refl, refl)
+
+  pub listed-whole : (x : B) (b′ : List ℕ) → (x ≡ tell r) × (b′ ≡ atStart (say r) b) → length segments % 4 ≡ 0
+      → (answered x ≡ mapped tell (guarded segments (answered r))) × (b′ ≡ overwritten b (answerOf (mapped say (guarded segments (answered r)))))
+  listed-whole x b′ e h = rw (sym (whole segments (answered r) h)) (ap answered (e .0), e .1)
 
 module _ (segments : List ℕ) (t : WholeTable) (b : List ℕ) where
   abbrev G : Guarded WholeTable

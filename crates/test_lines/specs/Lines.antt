@@ -17,6 +17,13 @@ span stop (b ∷ s) = cond (eqb b stop) 0 (suc (span stop s))
 unfoldable pub findFrom : List ℕ → ℕ → ℕ → ℕ
 findFrom s at stop = at + span stop (drop at s)
 
+-- the line that starts at `at`, up to the next newline (10), and where the line after it starts: nowhere before the end where there is none
+unfoldable pub lineAt : List ℕ → ℕ → List ℕ
+lineAt s at = take (span 10 (drop at s)) (drop at s)
+
+unfoldable pub afterLine : List ℕ → ℕ → ℕ
+afterLine s at = cond (ltb (findFrom s at 10) (length s)) (findFrom s at 10 + 1) (findFrom s at 10)
+
 -- the field of a number, from 0 on: one space (32) stands between two fields, and those past the last one are empty
 unfoldable pub fieldOf : List ℕ → ℕ → List ℕ
 fieldOf s zero = take (span 32 s) s

@@ -2,7 +2,7 @@
 use Prim.Native.Nat.{ℕ, zero, suc, _+_, _-_, _*_, _/_, _%_, _^_, _≤_, _<_}
 use native.Mathlib.Nat.{zero-add}
 use native.Mathlib.Numerals.{add-one}
-use native.Mathlib.Decide.{decLe, ℕ-discrete}
+use native.Mathlib.Decide.{decLe, decLt, ℕ-discrete}
 use native.Mathlib.Omega.{arith}
 use mathlib.Core.Path.{_≡_, refl, sym, _∙_, ap}
 use mathlib.Core.List.{List, [], _∷_, _++_, append-assoc}
@@ -12,7 +12,7 @@ use lib.ListN.{length, take, drop, getD, set, length-drop, length-set, take-appe
 use lib.Seq.{drop-cons, drop-drop, length-take-le, paste-suc, take-length}
 use lib.Dec.{leb, ltb, eqb}
 use borrow.Author.Tests.{le-leb, lt-leb, lt-ltb, le-ltb, ltb-true, eq-eqb, ne-eqb, eqb-true}
-use Rattle.test_lines.specs.Lines.{span, findFrom, fieldOf, firstOf, equals, digitOf, allDigits, hexValue, hexNumber, digitPairs, hexBytes, fitting, numbersIn, listNumbers, listCount}
+use Rattle.test_lines.specs.Lines.{span, findFrom, lineAt, afterLine, fieldOf, firstOf, equals, digitOf, allDigits, hexValue, hexNumber, digitPairs, hexBytes, fitting, numbersIn, listNumbers, listCount}
 use Rattle.util.specs.Buffer.{overwritten}
 
 span-most : (stop : ℕ) (s : List ℕ) → span stop s ≤ length s
@@ -41,6 +41,32 @@ module _ (s : List ℕ) (i stop : ℕ) where
   pub find-bounds : (e : ℕ) → e ≡ findFrom s i stop → i ≤ length s → (i ≤ e) × (e ≤ length s)
   unfolding findFrom
   find-bounds e f h = let m : span stop (drop i s) ≤ length s - i = rw length-drop at (span-most stop (drop i s)) in (omega arith, omega arith)
+
+-- the line at a place, and the one after it
+module _ (s : List ℕ) (at : ℕ) where
+  pub line-past : length s < at → [] ≡ lineAt s at
+  unfolding lineAt span
+  line-past h = rw (drop-of-length-le s {i = at} (omega arith))
+
+  pub line-here : (e : ℕ) → e ≡ findFrom s at 10 → take (e - at) (drop at s) ≡ lineAt s at
+  unfolding lineAt findFrom
+  line-here e f = let n : e - at ≡ span 10 (drop at s) = omega arith in rw n
+
+  pub after-found : (e : ℕ) → e ≡ findFrom s at 10 → e < length s → e + 1 ≡ afterLine s at
+  unfolding afterLine
+  after-found e f h = rw (← f, lt-ltb e (length s) h)
+
+  pub after-last : (e : ℕ) → e ≡ findFrom s at 10 → length s ≤ e → e ≡ afterLine s at
+  unfolding afterLine
+  after-last e f h = rw (← f, le-ltb e (length s) h)
+
+  -- it starts further on
+  pub after-more : (n : ℕ) → n ≡ afterLine s at → at < length s → at < n
+  after-more n e h = go (decLt (findFrom s at 10) (length s))
+    where
+      go : Dec (findFrom s at 10 < length s) → at < n
+      go (yes l) = omega (arith, after-found (findFrom s at 10) refl l, find-bounds s at 10 (findFrom s at 10) refl (omega arith) .0)
+      go (no l) = omega (arith, after-last (findFrom s at 10) refl (omega arith))
 
 no-field : (n : ℕ) → [] ≡ fieldOf [] n
 unfolding fieldOf span

@@ -1,6 +1,6 @@
 // Lines and their fields.
 ghost use mathlib.Core.Path.{_≡_};
-ghost use Rattle.test_lines.specs.Lines.{findFrom, fieldOf, firstOf, equals};
+ghost use Rattle.test_lines.specs.Lines.{findFrom, lineAt, afterLine, fieldOf, firstOf, equals};
 
 // The first place of `stop` from `at` on, or the slice's length; `at` itself where it is past the end.
 pub fn find(s: &[u8], at: usize, stop: u8) -> usize
@@ -14,6 +14,25 @@ pub fn find(s: &[u8], at: usize, stop: u8) -> usize
         i += 1;
     }
     i
+}
+
+// The line that starts at `at`, without its newline: empty where `at` is past the end.
+pub fn line_at(s: &[u8], at: usize) -> &[u8]
+    ensures { λ r. ⌜ now r ≡ lineAt (now (s .entry)) at ⌝ }
+{
+    if s.len() < at {
+        return &s[..0];
+    }
+    let end = find(s, at, b'\n');
+    &s[at..end]
+}
+
+// Where the line after it starts: at the end or past it where there is none.
+pub fn after_line(s: &[u8], at: usize) -> usize
+    ensures { λ r. ⌜ r ≡ afterLine (now (s .entry)) at ⌝ }
+{
+    let end = find(s, at, b'\n');
+    if end < s.len() { end + 1 } else { end }
 }
 
 // A field by its number, from 0 on: empty where the line has fewer.

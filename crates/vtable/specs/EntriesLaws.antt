@@ -15,7 +15,7 @@ use Rattle.segment.specs.Mapping.{withMapping, Mapped}
 use Rattle.segment.specs.declared.segment.Mapping.{Mapping}
 use Rattle.runtime.specs.Reads.{Reads, bytesPlace, run, done}
 use Rattle.runtime.specs.Bytes.{bytesFrom, bytesRead}
-use Rattle.runtime.specs.CallsLaws.{bytes-within, run-bytes, run-no-bytes, run-mapped}
+use Rattle.runtime.specs.CallsLaws.{bytes-within, run-bytes, run-no-bytes, run-mapped, read-mapped}
 use Rattle.vtable.specs.declared.cursor.EntryCursor.{EntryCursor}
 use Rattle.vtable.specs.Entries.{Word, pointer, Layout, entrySize, wordAt, wordsFrom, Entry, entryOf, entryAddress, entryAt, moved, entryStep, entryBytes}
 
@@ -49,6 +49,11 @@ module _ (image segments : List ℕ) (size stride base k : ℕ) where
       → r ≡ entryBytes image segments size stride base k
   unfolding entryBytes
   below r h w e = simp (le-ltb size 4 h, lt-leb (2 ^ 64) (base + stride * k + (size - 4)) w) e
+
+  -- a true mapping changes none
+  pub bytes-mapped : (m : Mapping) → Mapped segments m → entryBytes image (withMapping m segments) size stride base k ≡ entryBytes image segments size stride base k
+  unfolding entryBytes
+  bytes-mapped m w = rw (read-mapped image segments m w (base + stride * k) size)
 
 -- ---- what its words say
 

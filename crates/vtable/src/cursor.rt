@@ -1,7 +1,6 @@
 // Walks over the entries of a table: by value, each step hands the walk back.
 ghost use mathlib.Core.Path.{_≡_};
 ghost use Prim.Native.Nat.{_+_, _*_, _%_, _^_, _<_};
-ghost use Rattle.segment.specs.Mapping.{withMapping, Mapped};
 ghost use Rattle.vtable.specs.Entries.{method, override, defaultOverride, prespecialization, entryOf, ofMethod, ofOverride, ofDefaultOverride, ofPrespecialization, start, moved, entryBytes, entryStep, methodStep, overrideStep, defaultOverrideStep, prespecializationStep};
 use crate::entry::DEFAULT_OVERRIDE_SIZE;
 use crate::entry::DefaultOverrideEntry;
@@ -13,7 +12,6 @@ use crate::entry::PrespecializationEntry;
 use crate::entry::VTableEntry;
 use crate::entry::entry_address;
 use crate::entry::entry_bytes;
-use segment::Around;
 use segment::Mapping;
 
 // The table's address, how many entries it has, and the number of the next one.
@@ -123,16 +121,6 @@ impl EntryCursor {
         }
     }
 
-    // What is in the file around the table's start. With it a step need not go through the segments again; without it the answers are the same.
-    pub fn locate(self, segments: &[u64]) -> Mapping
-        ensures { λ r. ⌜ Mapped (now (segments .entry)) r ⌝ }
-    {
-        match segment::locate(segments, self.base_va) {
-            Around::Mapping(mapping) => mapping,
-            Around::Nothing => Mapping::empty(),
-        }
-    }
-
     // The walk past its next entry.
     fn moved(self) -> EntryCursor
         requires { ⌜ self .next < self .count ⌝ }
@@ -152,19 +140,13 @@ impl EntryCursor {
         entry_address(self.base_va, size, self.next)
     }
 
-    fn bytes_near<'a>(
-        self,
-        image: &'a [u8],
-        segments: &[u64],
-        mapping: Mapping,
-        size: u32,
-    ) -> &'a [u8]
-        ensures { λ r. ⌜ now r ≡ entryBytes (now (image .entry)) (withMapping mapping (now (segments .entry))) size size (self .«base_va») (self .next) ⌝ }
+    fn bytes<'a>(self, image: &'a [u8], segments: &[u64], size: u32) -> &'a [u8]
+        ensures { λ r. ⌜ now r ≡ entryBytes (now (image .entry)) (now (segments .entry)) size size (self .«base_va») (self .next) ⌝ }
     {
         entry_bytes(
             image,
             segments,
-            mapping,
+            Mapping::empty(),
             self.base_va,
             size,
             size,
@@ -172,14 +154,14 @@ impl EntryCursor {
         )
     }
 
-    pub fn next_method_near(self, image: &[u8], segments: &[u64], mapping: Mapping) -> MethodStep
-        ensures { λ r. ⌜ methodStep r ≡ entryStep (now (image .entry)) (withMapping mapping (now (segments .entry))) method self ⌝ }
+    pub fn next_method(self, image: &[u8], segments: &[u64]) -> MethodStep
+        ensures { λ r. ⌜ methodStep r ≡ entryStep (now (image .entry)) (now (segments .entry)) method self ⌝ }
     {
         if self.count <= self.next {
             return MethodStep::End;
         }
         let next = self.moved();
-        let bytes = self.bytes_near(image, segments, mapping, METHOD_SIZE);
+        let bytes = self.bytes(image, segments, METHOD_SIZE);
         if bytes.len() == 0 {
             return MethodStep::Unreadable { next };
         }
@@ -187,19 +169,14 @@ impl EntryCursor {
         MethodStep::Entry { entry, next }
     }
 
-    pub fn next_override_near(
-        self,
-        image: &[u8],
-        segments: &[u64],
-        mapping: Mapping,
-    ) -> OverrideStep
-        ensures { λ r. ⌜ overrideStep r ≡ entryStep (now (image .entry)) (withMapping mapping (now (segments .entry))) override self ⌝ }
+    pub fn next_override(self, image: &[u8], segments: &[u64]) -> OverrideStep
+        ensures { λ r. ⌜ overrideStep r ≡ entryStep (now (image .entry)) (now (segments .entry)) override self ⌝ }
     {
         if self.count <= self.next {
             return OverrideStep::End;
         }
         let next = self.moved();
-        let bytes = self.bytes_near(image, segments, mapping, OVERRIDE_SIZE);
+        let bytes = self.bytes(image, segments, OVERRIDE_SIZE);
         if bytes.len() == 0 {
             return OverrideStep::Unreadable { next };
         }
@@ -207,19 +184,14 @@ impl EntryCursor {
         OverrideStep::Entry { entry, next }
     }
 
-    pub fn next_default_override_near(
-        self,
-        image: &[u8],
-        segments: &[u64],
-        mapping: Mapping,
-    ) -> DefaultOverrideStep
-        ensures { λ r. ⌜ defaultOverrideStep r ≡ entryStep (now (image .entry)) (withMapping mapping (now (segments .entry))) defaultOverride self ⌝ }
+    pub fn next_default_override(self, image: &[u8], segments: &[u64]) -> DefaultOverrideStep
+        ensures { λ r. ⌜ defaultOverrideStep r ≡ entryStep (now (image .entry)) (now (segments .entry)) defaultOverride self ⌝ }
     {
         if self.count <= self.next {
             return DefaultOverrideStep::End;
         }
         let next = self.moved();
-        let bytes = self.bytes_near(image, segments, mapping, DEFAULT_OVERRIDE_SIZE);
+        let bytes = self.bytes(image, segments, DEFAULT_OVERRIDE_SIZE);
         if bytes.len() == 0 {
             return DefaultOverrideStep::Unreadable { next };
         }
@@ -227,48 +199,18 @@ impl EntryCursor {
         DefaultOverrideStep::Entry { entry, next }
     }
 
-    pub fn next_prespecialization_near(
-        self,
-        image: &[u8],
-        segments: &[u64],
-        mapping: Mapping,
-    ) -> PrespecializationStep
-        ensures { λ r. ⌜ prespecializationStep r ≡ entryStep (now (image .entry)) (withMapping mapping (now (segments .entry))) prespecialization self ⌝ }
+    pub fn next_prespecialization(self, image: &[u8], segments: &[u64]) -> PrespecializationStep
+        ensures { λ r. ⌜ prespecializationStep r ≡ entryStep (now (image .entry)) (now (segments .entry)) prespecialization self ⌝ }
     {
         if self.count <= self.next {
             return PrespecializationStep::End;
         }
         let next = self.moved();
-        let bytes = self.bytes_near(image, segments, mapping, PRESPECIALIZATION_SIZE);
+        let bytes = self.bytes(image, segments, PRESPECIALIZATION_SIZE);
         if bytes.len() == 0 {
             return PrespecializationStep::Unreadable { next };
         }
         let entry = prespecialization_entry(bytes, self.address(PRESPECIALIZATION_SIZE));
         PrespecializationStep::Entry { entry, next }
-    }
-
-    // The same with nothing known of the addresses around.
-    pub fn next_method(self, image: &[u8], segments: &[u64]) -> MethodStep
-        ensures { λ r. ⌜ methodStep r ≡ entryStep (now (image .entry)) (now (segments .entry)) method self ⌝ }
-    {
-        self.next_method_near(image, segments, Mapping::empty())
-    }
-
-    pub fn next_override(self, image: &[u8], segments: &[u64]) -> OverrideStep
-        ensures { λ r. ⌜ overrideStep r ≡ entryStep (now (image .entry)) (now (segments .entry)) override self ⌝ }
-    {
-        self.next_override_near(image, segments, Mapping::empty())
-    }
-
-    pub fn next_default_override(self, image: &[u8], segments: &[u64]) -> DefaultOverrideStep
-        ensures { λ r. ⌜ defaultOverrideStep r ≡ entryStep (now (image .entry)) (now (segments .entry)) defaultOverride self ⌝ }
-    {
-        self.next_default_override_near(image, segments, Mapping::empty())
-    }
-
-    pub fn next_prespecialization(self, image: &[u8], segments: &[u64]) -> PrespecializationStep
-        ensures { λ r. ⌜ prespecializationStep r ≡ entryStep (now (image .entry)) (now (segments .entry)) prespecialization self ⌝ }
-    {
-        self.next_prespecialization_near(image, segments, Mapping::empty())
     }
 }

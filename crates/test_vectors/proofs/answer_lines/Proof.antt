@@ -1,14 +1,14 @@
--- `test_vectors::answer_lines` is safe and ends: `at` stays within the input.
+-- `test_vectors::answer_lines` is safe and ends: each line starts past the one before it.
 use borrow.Author.Needs.{needs}
 use Prim.Native.Nat.{_≤_, _-_}
 use native.Mathlib.Omega.{arith}
 use lib.ListN.{length}
-use Rattle.test_lines.specs.LinesLaws.{find-bounds}
+use Rattle.test_lines.specs.LinesLaws.{after-more}
 use Rattle.test_vectors.proofs.answer_lines.Statement.{statement}
 use Rattle.test_vectors.proofs.answer_lines.Tie as tie
 
 abbrev Inv-loop : tie.InvT-loop
-Inv-loop input at₀ at = at ≤ length input
+Inv-loop input at₀ at = 0 ≤ at
 
 abbrev μ-loop : tie.MeasureT-loop
 μ-loop input at₀ at = length input - at
@@ -16,35 +16,23 @@ abbrev μ-loop : tie.MeasureT-loop
 loop-holds : tie.Need-loop-holds Inv-loop μ-loop
 loop-holds c = search needs
 
-find-requires : tie.Need-find-requires Inv-loop μ-loop
-find-requires c κs = search needs
-
-sub-answer-line : tie.Need-sub-answer-line Inv-loop μ-loop
-sub-answer-line c = let b = find-bounds _ _ _ _ (c .find .ensures) (omega arith) in search needs
-
-part-answer-line-start : tie.Need-part-answer-line-start Inv-loop μ-loop
-part-answer-line-start c = let b = find-bounds _ _ _ _ (c .find .ensures) (omega arith) in search needs
-
-part-answer-line-end : tie.Need-part-answer-line-end Inv-loop μ-loop
-part-answer-line-end c = let b = find-bounds _ _ _ _ (c .find .ensures) (omega arith) in search needs
+line-at-requires : tie.Need-line-at-requires Inv-loop μ-loop
+line-at-requires c κs = search needs
 
 answer-line-requires : tie.Need-answer-line-requires Inv-loop μ-loop
 answer-line-requires c κs = search needs
 
-returns : tie.Need-returns Inv-loop μ-loop
-returns c = search needs
-
-add-at : tie.Need-add-at Inv-loop μ-loop
-add-at c = let b = find-bounds _ _ _ _ (c .before .before .before .find .ensures) (omega arith) in search needs
+after-line-requires : tie.Need-after-line-requires Inv-loop μ-loop
+after-line-requires c κs = search needs
 
 loop-less : tie.Need-loop-less Inv-loop μ-loop
-loop-less c = let b = find-bounds _ _ _ _ (c .before .before .before .find .ensures) (omega arith) in search needs
+loop-less c = omega (arith, after-more _ _ _ (c .after-line .ensures) (c .before .before .before .loop-test .taken), c .before .before .before .loop-test .taken)
 
 loop-again : tie.Need-loop-again Inv-loop μ-loop
-loop-again c = let b = find-bounds _ _ _ _ (c .before .before .before .find .ensures) (omega arith) in search needs
+loop-again c = search needs
 
-returns-2 : tie.Need-returns-2 Inv-loop μ-loop
-returns-2 c = search needs
+returns : tie.Need-returns Inv-loop μ-loop
+returns c = search needs
 
 pub answer-lines-spec : {M : Type 1} → statement M
 answer-lines-spec =
@@ -53,13 +41,9 @@ answer-lines-spec =
     Inv-loop
     μ-loop
     loop-holds
-    find-requires
-    sub-answer-line
-    part-answer-line-start
-    part-answer-line-end
+    line-at-requires
     answer-line-requires
-    returns
-    add-at
+    after-line-requires
     loop-less
     loop-again
-    returns-2)
+    returns)

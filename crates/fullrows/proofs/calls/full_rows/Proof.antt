@@ -1,12 +1,13 @@
 -- `fullrows::calls::full_rows` meets its contract.
 -- Assumes nothing.
-use Rattle.fullrows.specs.FullRowsLaws.{rows-ragged, rows-whole}
+use Rattle.tables.specs.TablesLaws.{listed-ragged, listed-whole}
+use Rattle.fullrows.specs.FullRows.{givenOf, numbersOf}
 use borrow.Author.Needs.{needs}
 use Rattle.fullrows.proofs.calls.full_rows.Statement.{statement}
 use Rattle.fullrows.proofs.calls.full_rows.Tie as tie
 
 returns : tie.Need-returns
-returns c = rows-ragged _ _ _ (c .if1 .taken)
+returns c = listed-ragged givenOf numbersOf _ _ _ (c .if1 .taken)
 
 put-rows-requires : tie.Need-put-rows-requires
 put-rows-requires c κs = search needs
@@ -15,7 +16,7 @@ same-length : tie.Need-same-length
 same-length c = search needs
 
 returns-2 : tie.Need-returns-2
-returns-2 c = rows-whole _ _ _ _ _ (c .before .before .put-rows .ensures) (c .before .before .before .before .if1 .left)
+returns-2 c = listed-whole givenOf numbersOf _ _ _ _ _ (c .before .before .put-rows .ensures) (c .before .before .before .before .if1 .left)
 
 pub full-rows-spec : {M : Type 1} → statement M
 full-rows-spec = tie.close (tie.spec returns put-rows-requires same-length returns-2)

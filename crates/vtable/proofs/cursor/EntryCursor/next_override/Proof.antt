@@ -1,20 +1,41 @@
--- `vtable::cursor::EntryCursor::next_override` meets its contract.
+-- `vtable::cursor::EntryCursor::next_override` meets its contract: each `return` is a case of `entryStep`.
 -- Assumes nothing.
-use mathlib.Core.Path.{_∙_}
-use Rattle.segment.specs.MappingLaws.{empty-mapped}
-use Rattle.vtable.specs.EntriesLaws.{step-mapped}
+use native.Mathlib.Omega.{arith}
+use Rattle.vtable.specs.Entries.{override}
+use Rattle.vtable.specs.EntriesLaws.{slots-below, no-entry, an-entry, step-end, step-moves}
 use borrow.Author.Needs.{needs}
 use Rattle.vtable.proofs.cursor.EntryCursor.next_override.Statement.{statement}
 use Rattle.vtable.proofs.cursor.EntryCursor.next_override.Tie as tie
 
-empty-requires : tie.Need-empty-requires
-empty-requires c κs = search needs
-
-next-override-near-requires : tie.Need-next-override-near-requires
-next-override-near-requires c κs = search needs
-
 returns : tie.Need-returns
-returns c = c .next-override-near .ensures ∙ step-mapped _ _ _ _ _ (empty-mapped _ _ (c .before .empty .ensures))
+returns c = step-end _ _ _ _ (omega arith)
+
+moved-requires : tie.Need-moved-requires
+moved-requires c κs = search needs
+
+bytes-requires : tie.Need-bytes-requires
+bytes-requires c κs = search needs
+
+returns-2 : tie.Need-returns-2
+returns-2 c = step-moves _ _ override _ _ _ (no-entry _ _ override _ _ (omega arith) _ (c .before .bytes .ensures) (c .if2 .taken)) (c .before .before .moved .ensures) (omega arith)
+
+address-requires : tie.Need-address-requires
+address-requires c κs = search needs
+
+override-entry-requires : tie.Need-override-entry-requires
+override-entry-requires c κs = slots-below _ _ override _ _ (omega arith) _ (c .before .before .bytes .ensures) (c .before .if2 .left) _ (c .address .ensures)
+
+returns-3 : tie.Need-returns-3
+returns-3 c = step-moves _ _ override _ _ _ (an-entry _ _ override _ _ (omega arith) _ (c .before .before .before .bytes .ensures) (c .before .before .if2 .left) _ _ (c .before .address .ensures) (c .override-entry .ensures)) (c .before .before .before .before .moved .ensures) (omega arith)
 
 pub next-override-spec : {M : Type 1} → statement M
-next-override-spec = tie.close (tie.spec empty-requires next-override-near-requires returns)
+next-override-spec =
+    tie.close
+    (tie.spec
+    returns
+    moved-requires
+    bytes-requires
+    returns-2
+    address-requires
+    override-entry-requires
+    returns-3)
