@@ -8,11 +8,11 @@ use mathlib.Core.Path.{_≡_, refl, sym, ap, subst, _∙_}
 use mathlib.Core.List.{List, [], _∷_, _++_, append-assoc, append-nil}
 use mathlib.Core.Bool.{Bool, true, false, cond}
 use mathlib.Core.Option.{Option, some, none}
-use lib.ListN.{length, take, drop, length-append, length-drop, drop-of-length-le, take-append-drop}
+use lib.ListN.{length, take, drop, set, length-set, length-append, length-drop, drop-of-length-le, take-append-drop}
 use lib.Seq.{take-all, take-at, drop-at, drop-drop, take-append-le, take-take, length-take-le}
 use lib.Dec.{ltb, eqb}
 use borrow.Author.Tests.{lt-ltb, le-ltb, eq-eqb, ne-eqb, eqb-false}
-use borrow.Rule.Slice.PartMut.{midOf, putMid, mid-len}
+use borrow.Rule.Slice.PartMut.{midOf, putMid, mid-len, same-len-mid}
 use Rattle.util.specs.Buffer.{pasted, atStart}
 use Rattle.segment.specs.Mapping.{withMapping, Mapped}
 use Rattle.segment.specs.declared.segment.Mapping.{Mapping}
@@ -31,7 +31,7 @@ use Rattle.listing.specs.Blocks.{kindFrom}
 use Rattle.tables.specs.declared.list.Listed.{Listed}
 use Rattle.tables.specs.Tables.{entryNumbers, tableFrom, WholeTable, Counts, tableIn, counts, Lists}
 use Rattle.tables.specs.TablesLaws.{entry-wide, full-all, all-there, Sized, sized}
-use Rattle.tables.specs.PastedLaws.{pasted-long}
+use Rattle.tables.specs.PastedLaws.{four-put, pasted-long}
 use Rattle.classmethods.specs.declared.classes.Given.{Given}
 use Rattle.classmethods.specs.ClassMethods.{methodTable, Class, classAt, rowClass, slotClass, classNumbers, methodsAt, ClassesListed, stopsAt, classThen, classesFrom, classesIn, givenOf, numbersOf}
 
@@ -88,6 +88,22 @@ module _ (b : List ℕ) (at : ℕ) (h : at + 4 ≤ length b) where
   abbrev back : List ℕ → List ℕ
   back ys = putMid (at + 4) (length b - (at + 4)) b ys
 
+  -- there is room for the four numbers
+  module _ (ys : List ℕ) (n : length ys ≡ length part) where
+    back-long : length (back ys) ≡ length b
+    back-long = same-len-mid (at + 4) (length b - (at + 4)) b ys n
+
+    pub room-one : (x : ℕ) → at + 1 < length (set (back ys) at x)
+    room-one x = rw (length-set (back ys) at x) (omega (arith, back-long))
+
+    pub room-two : (x y : ℕ) → at + 2 < length (set (set (back ys) at x) (at + 1) y)
+    room-two x y = rw (length-set (set (back ys) at x) (at + 1) y, length-set (back ys) at x) (omega (arith, back-long))
+
+    pub room-three : (x y z : ℕ) → at + 3 < length (set (set (set (back ys) at x) (at + 1) y) (at + 2) z)
+    room-three x y z =
+        rw (length-set (set (set (back ys) at x) (at + 1) y) (at + 2) z, length-set (set (back ys) at x) (at + 1) y, length-set (back ys) at x)
+        (omega (arith, back-long))
+
   back-is : (ys : List ℕ) → back ys ≡ take (at + 4) b ++ ys
   back-is ys =
       let out : drop (length b - (at + 4)) (drop (at + 4) b) ≡ [] = drop-of-length-le (drop (at + 4) b) {i = length b - (at + 4)} (omega (arith, length-drop (at + 4) b)) in
@@ -108,9 +124,13 @@ module _ (b : List ℕ) (at : ℕ) (h : at + 4 ≤ length b) where
       let all : at + (4 + length ns) ≡ at + suc (suc (suc (suc (length ns)))) = omega arith in
       f ∙ rw (front, rest) (ap (λ (j : ℕ). take at b ++ (x ∷ (y ∷ (z ∷ (w ∷ (ns ++ drop j b)))))) all)
 
-  pub told-put : (f : ℕ → WholeTable) (slot a : ℕ) (r : Listed) (ys b′ : List ℕ) → Lists (f (length part)) part r ys → b′ ≡ pasted (back ys) at (slot ∷ (a ∷ (r .entries ∷ (r .stop ∷ []))))
-      → (record { entries = r .entries; stop = r .stop } ≡ counts (f (length b - (at + 4)))) × (b′ ≡ pasted b at (classNumbers slot a (f (length b - (at + 4)))))
-  told-put f slot a r ys b′ e p =
+  pub told-put : (f : ℕ → WholeTable) (slot a : ℕ) (r : Listed) (ys : List ℕ) → Lists (f (length part)) part r ys → length ys ≡ length part
+      → (record { entries = r .entries; stop = r .stop } ≡ counts (f (length b - (at + 4))))
+      × (set (set (set (set (back ys) at slot) (at + 1) a) (at + 2) (r .entries)) (at + 3) (r .stop) ≡ pasted b at (classNumbers slot a (f (length b - (at + 4)))))
+  told-put f slot a r ys e n =
+      let b′ : List ℕ = set (set (set (set (back ys) at slot) (at + 1) a) (at + 2) (r .entries)) (at + 3) (r .stop) in
+      let long : length (back ys) ≡ length b = back-long ys n in
+      let p : b′ ≡ pasted (back ys) at (slot ∷ (a ∷ (r .entries ∷ (r .stop ∷ [])))) = four-put (back ys) at slot a (r .entries) (r .stop) (omega arith) in
       subst (λ (n : ℕ). (record { entries = r .entries; stop = r .stop } ≡ counts (f n)) × (b′ ≡ pasted b at (classNumbers slot a (f n)))) part-long (
         e .0,
         class-put (f (length part) .numbers) ys b′ slot a (r .entries) (r .stop) (e .1) p

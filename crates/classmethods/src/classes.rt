@@ -43,14 +43,10 @@ fn put_class(
 {
     let from = at + HEAD;
     let listed = tables::list_entries(image, segments, cursor, true, 1, 8, &mut buffer[from..]);
-    fullrows::put_four(
-        slot as u64,
-        address,
-        listed.entries as u64,
-        listed.stop,
-        buffer,
-        at,
-    );
+    buffer[at] = slot as u64;
+    buffer[at + 1] = address;
+    buffer[at + 2] = listed.entries as u64;
+    buffer[at + 3] = listed.stop;
     listed
 }
 

@@ -6,4 +6,3 @@ mod rows;
 pub use calls::FullRows;
 pub use calls::full_rows;
 pub use rows::Given;
-pub use rows::put_four;

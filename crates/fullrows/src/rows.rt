@@ -40,7 +40,7 @@ fn put_two(a: u64, b: u64, buffer: &mut [u64], at: usize)
     buffer[at + 1] = b;
 }
 
-pub fn put_four(a: u64, b: u64, c: u64, d: u64, buffer: &mut [u64], at: usize)
+fn put_four(a: u64, b: u64, c: u64, d: u64, buffer: &mut [u64], at: usize)
     requires { ⌜ at + 4 ≤ length (now buffer) ⌝ }
     ensures { λ _. ⌜ now (buffer .exit) ≡ pasted (now (buffer .entry)) at (a ∷ (b ∷ (c ∷ (d ∷ [])))) ⌝ }
 {

@@ -3,7 +3,7 @@
 use Prim.Native.Nat.{ℕ}
 use Rattle.tables.specs.Tables.{tableIn}
 use Rattle.vtable.specs.Entries.{method}
-use Rattle.classmethods.specs.ClassMethodsLaws.{told-put}
+use Rattle.classmethods.specs.ClassMethodsLaws.{room-one, room-two, room-three, told-put}
 use borrow.Author.Needs.{needs}
 use Rattle.classmethods.proofs.classes.put_class.Statement.{statement}
 use Rattle.classmethods.proofs.classes.put_class.Tie as tie
@@ -26,16 +26,46 @@ part-list-entries-end c = search needs
 list-entries-requires : tie.Need-list-entries-requires
 list-entries-requires c κs = search needs
 
-put-four-requires : tie.Need-put-four-requires
-put-four-requires c κs = search needs
+mul-buffer : tie.Need-mul-buffer
+mul-buffer c = search needs
+
+slice-write-buffer : tie.Need-slice-write-buffer
+slice-write-buffer c = search needs
+
+add-buffer : tie.Need-add-buffer
+add-buffer c = search needs
+
+mul-buffer-2 : tie.Need-mul-buffer-2
+mul-buffer-2 c = search needs
+
+slice-write-buffer-2 : tie.Need-slice-write-buffer-2
+slice-write-buffer-2 c = room-one (c .before .before .before .before .before .before .before .args .buffer .now) (c .before .before .before .before .before .before .before .args .at) (c .before .before .before .before .before .before .before .pre) (c .before .before .list-entries .last .1 .1 .1 .1 .1 .1 .0) (search needs) _
+
+add-buffer-2 : tie.Need-add-buffer-2
+add-buffer-2 c = search needs
+
+mul-buffer-3 : tie.Need-mul-buffer-3
+mul-buffer-3 c = search needs
+
+slice-write-buffer-3 : tie.Need-slice-write-buffer-3
+slice-write-buffer-3 c = room-two (c .before .before .before .before .before .before .before .args .buffer .now) (c .before .before .before .before .before .before .before .args .at) (c .before .before .before .before .before .before .before .pre) (c .before .before .list-entries .last .1 .1 .1 .1 .1 .1 .0) (search needs) _ _
+
+add-buffer-3 : tie.Need-add-buffer-3
+add-buffer-3 c = search needs
+
+mul-buffer-4 : tie.Need-mul-buffer-4
+mul-buffer-4 c = search needs
+
+slice-write-buffer-4 : tie.Need-slice-write-buffer-4
+slice-write-buffer-4 c = room-three (c .before .before .before .before .before .before .before .args .buffer .now) (c .before .before .before .before .before .before .before .args .at) (c .before .before .before .before .before .before .before .pre) (c .before .before .list-entries .last .1 .1 .1 .1 .1 .1 .0) (search needs) _ _ _
 
 same-length : tie.Need-same-length
 same-length c = search needs
 
 returns : tie.Need-returns
 returns c =
-    let a = c .before .before .before .before .before .before .before .before .before .before .before .args in
-    told-put (a .buffer .now) (a .at) (c .before .before .before .before .before .before .before .before .before .before .before .pre) (λ (n : ℕ). tableIn (a .image .now) (a .segments .now) method (a .cursor) n) _ _ _ _ _ (c .before .before .before .before .before .before .list-entries .ensures) (c .before .before .put-four .ensures)
+    let a = c .before .before .before .before .before .before .before .args in
+    told-put (a .buffer .now) (a .at) (c .before .before .before .before .before .before .before .pre) (λ (n : ℕ). tableIn (a .image .now) (a .segments .now) method (a .cursor) n) _ _ _ _ (c .before .before .list-entries .ensures) (search needs)
 
 pub put-class-spec : {M : Type 1} → statement M
 put-class-spec =
@@ -47,6 +77,16 @@ put-class-spec =
     part-list-entries-start
     part-list-entries-end
     list-entries-requires
-    put-four-requires
+    mul-buffer
+    slice-write-buffer
+    add-buffer
+    mul-buffer-2
+    slice-write-buffer-2
+    add-buffer-2
+    mul-buffer-3
+    slice-write-buffer-3
+    add-buffer-3
+    mul-buffer-4
+    slice-write-buffer-4
     same-length
     returns)
