@@ -1,2 +1,3 @@
 pub mod ClassMethods
 pub mod ClassMethodsLaws
+pub mod OakMethods
