@@ -13,11 +13,10 @@ use tables::Listed;
 use typedescriptor::Descriptor;
 use vtable::EntryCursor;
 
-// How many numbers there are before a class's methods.
+// How many numbers there are before a class's methods, and how many for each.
 const HEAD: usize = 4;
 
-// The number of the methods is no more than the buffer holds.
-const FULL: u64 = 1;
+const METHOD: usize = 3;
 
 // How many classes the list has, where to go on: the slot, and the number of a method of its class; and whether all are given.
 pub struct Given {
@@ -42,6 +41,7 @@ fn put_class(
     ensures { λ _. ⌜ now (buffer .exit) ≡ pasted (now (buffer .entry)) at (classNumbers slot address (tableIn (now (image .entry)) (now (segments .entry)) method cursor (length (now (buffer .entry)) - (at + 4)))) ⌝ }
 {
     let from = at + HEAD;
+    // A method is a number and a pointer, 8 bytes from the next.
     let listed = tables::list_entries(image, segments, cursor, true, 1, 8, &mut buffer[from..]);
     buffer[at] = slot as u64;
     buffer[at + 1] = address;
@@ -91,9 +91,9 @@ pub fn put_classes(
                             next: method,
                         };
                         let listed = put_class(image, segments, slot, address, cursor, buffer, at);
-                        at += HEAD + 3 * listed.entries;
+                        at += HEAD + METHOD * listed.entries;
                         classes += 1;
-                        if listed.stop == FULL {
+                        if listed.stop == tables::FULL {
                             return Given {
                                 classes,
                                 next: slot,
