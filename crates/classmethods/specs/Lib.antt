@@ -1,3 +1,4 @@
 pub mod ClassMethods
 pub mod ClassMethodsLaws
 pub mod OakMethods
+pub mod MethodItemsLaws
