@@ -1,18 +1,18 @@
 // The first entries of a table of each kind.
+ghost use mathlib.Core.Path.{_≡_};
+ghost use Prim.Native.Nat.{_-_, _^_, min};
+ghost use lib.Dec.{leb};
 use crate::words::SHOWN;
 use crate::words::after_shown;
-use crate::words::done;
 use crate::words::number_field;
 use crate::words::refused;
 use crate::words::three;
 use crate::words::two;
-use crate::words::unreadable;
 use crate::words::word;
 use listing::NextDefaultOverride;
 use listing::NextMethod;
 use listing::NextOverride;
 use listing::NextPrespecialization;
-use refusal::Refusal;
 use vtable::DefaultOverrideStep;
 use vtable::EntryCursor;
 use vtable::MethodStep;
@@ -30,121 +30,107 @@ pub enum Kind {
     Prespecialization,
 }
 
-// Where a walk goes on once a line is written, or that it is over.
-pub enum Written {
-    Next(EntryCursor),
-    Over,
-}
-
-fn passed(next: EntryCursor) -> Written {
-    unreadable();
-    Written::Next(next)
-}
-
-fn ended() -> Written {
-    done();
-    Written::Over
-}
-
-fn stopped(refusal: Refusal) -> Written {
-    refused(refusal);
-    Written::Over
-}
-
-fn method_line(step: MethodStep) -> Written {
+fn method_line(step: MethodStep) {
     match step {
-        MethodStep::Entry { entry, next } => {
+        MethodStep::Entry { entry, next: _ } => {
             word(b"method");
             three(entry.address, entry.flags as u64, entry.impl_va);
-            Written::Next(next)
         }
-        MethodStep::Unreadable { next } => passed(next),
-        MethodStep::End => ended(),
+        MethodStep::Unreadable { next: _ } => word(b"unreadable\n"),
+        MethodStep::End => word(b"bad line\n"),
     }
 }
 
-fn override_line(step: OverrideStep) -> Written {
+fn override_line(step: OverrideStep) {
     match step {
-        OverrideStep::Entry { entry, next } => {
+        OverrideStep::Entry { entry, next: _ } => {
             word(b"override");
             number_field(entry.address);
             three(entry.class_va, entry.method_va, entry.impl_va);
-            Written::Next(next)
         }
-        OverrideStep::Unreadable { next } => passed(next),
-        OverrideStep::End => ended(),
+        OverrideStep::Unreadable { next: _ } => word(b"unreadable\n"),
+        OverrideStep::End => word(b"bad line\n"),
     }
 }
 
-fn default_override_line(step: DefaultOverrideStep) -> Written {
+fn default_override_line(step: DefaultOverrideStep) {
     match step {
-        DefaultOverrideStep::Entry { entry, next } => {
+        DefaultOverrideStep::Entry { entry, next: _ } => {
             word(b"default");
             three(entry.address, entry.method_va, entry.impl_va);
-            Written::Next(next)
         }
-        DefaultOverrideStep::Unreadable { next } => passed(next),
-        DefaultOverrideStep::End => ended(),
+        DefaultOverrideStep::Unreadable { next: _ } => word(b"unreadable\n"),
+        DefaultOverrideStep::End => word(b"bad line\n"),
     }
 }
 
-fn prespecialization_line(step: PrespecializationStep) -> Written {
+fn prespecialization_line(step: PrespecializationStep) {
     match step {
-        PrespecializationStep::Entry { entry, next } => {
+        PrespecializationStep::Entry { entry, next: _ } => {
             word(b"metadata");
             two(entry.address, entry.metadata_va);
-            Written::Next(next)
         }
-        PrespecializationStep::Unreadable { next } => passed(next),
-        PrespecializationStep::End => ended(),
+        PrespecializationStep::Unreadable { next: _ } => word(b"unreadable\n"),
+        PrespecializationStep::End => word(b"bad line\n"),
     }
 }
 
-fn entry_line(image: &[u8], segments: &[u64], kind: Kind, cursor: EntryCursor) -> Written {
+fn entry_line(image: &[u8], segments: &[u64], kind: Kind, cursor: EntryCursor) {
     match kind {
         Kind::Method => match listing::next_method(image, segments, cursor) {
             NextMethod::Step(step) => method_line(step),
-            NextMethod::Refused(refusal) => stopped(refusal),
+            NextMethod::Refused(refusal) => refused(refusal),
         },
         Kind::Override => match listing::next_override(image, segments, cursor) {
             NextOverride::Step(step) => override_line(step),
-            NextOverride::Refused(refusal) => stopped(refusal),
+            NextOverride::Refused(refusal) => refused(refusal),
         },
         Kind::DefaultOverride => match listing::next_default_override(image, segments, cursor) {
             NextDefaultOverride::Step(step) => default_override_line(step),
-            NextDefaultOverride::Refused(refusal) => stopped(refusal),
+            NextDefaultOverride::Refused(refusal) => refused(refusal),
         },
         Kind::Prespecialization => match listing::next_prespecialization(image, segments, cursor) {
             NextPrespecialization::Step(step) => prespecialization_line(step),
-            NextPrespecialization::Refused(refusal) => stopped(refusal),
+            NextPrespecialization::Refused(refusal) => refused(refusal),
         },
     }
 }
 
-pub fn entries(image: &[u8], segments: &[u64], kind: Kind, base_va: u64, count: u32) {
-    let mut cursor = EntryCursor::new(base_va, count);
-    let mut shown: u32 = 0;
-    while shown < SHOWN {
-        match entry_line(image, segments, kind, cursor) {
-            Written::Next(next) => {
-                cursor = next;
-                shown += 1;
-            }
-            Written::Over => {
-                return;
-            }
-        }
-    }
-    after_shown(count);
+fn at_most_shown(count: u32) -> u32
+    ensures { λ r. ⌜ r ≡ min count 12 ⌝ }
+{
+    if count < SHOWN { count } else { SHOWN }
 }
 
-// Entries that no header tells of, at a row's own address: near 2^64 they pass it.
-pub fn at_row(image: &[u8], segments: &[u64], address: u64) {
+// The first ones of a table: how many they are. A step moves on past one that cannot be read, so there are as many steps as entries.
+pub fn entries(image: &[u8], segments: &[u64], kind: Kind, base_va: u64, count: u32) -> u32
+    ensures { λ r. ⌜ r ≡ min count 12 ⌝ }
+{
+    let most = at_most_shown(count);
+    let mut next: u32 = 0;
+    while next < most {
+        let cursor = EntryCursor {
+            base_va,
+            count,
+            next,
+        };
+        entry_line(image, segments, kind, cursor);
+        next += 1;
+    }
+    after_shown(count);
+    most
+}
+
+// Entries that no header tells of, at a row's own address, if that is one of the last 32: they pass 2^64. Tells whether it is.
+pub fn at_row(image: &[u8], segments: &[u64], address: u64) -> bool
+    ensures { λ r. ⌜ r ≡ leb (2 ^ 64 - 32) address ⌝ }
+{
     if address < 0xffff_ffff_ffff_ffe0 {
-        return;
+        return false;
     }
     entries(image, segments, Kind::Method, address, AT_ROW);
     entries(image, segments, Kind::Override, address, AT_ROW);
     entries(image, segments, Kind::DefaultOverride, address, AT_ROW);
     entries(image, segments, Kind::Prespecialization, address, AT_ROW);
+    true
 }

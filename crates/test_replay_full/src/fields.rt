@@ -1,14 +1,14 @@
 // The field descriptors, with their records.
+ghost use mathlib.Core.Path.{_≡_};
+ghost use Rattle.test_replay_full.specs.Shown.{walkEnd};
 use crate::words::SHOWN;
 use crate::words::after_shown;
-use crate::words::bad_line;
 use crate::words::done;
 use crate::words::nothing;
 use crate::words::number_field;
 use crate::words::one;
 use crate::words::text_line;
 use crate::words::three;
-use crate::words::unreadable;
 use crate::words::word;
 use context::FieldDescriptorKind;
 use field::FieldDescriptor;
@@ -30,6 +30,14 @@ fn kind_number(kind: FieldDescriptorKind) -> u64 {
         FieldDescriptorKind::ObjCClass => 7,
         FieldDescriptorKind::Other(n) => n as u64,
     }
+}
+
+fn bad_line() {
+    word(b"bad line\n");
+}
+
+fn unreadable() {
+    word(b"unreadable\n");
 }
 
 // Records.
@@ -132,7 +140,9 @@ fn walk_fields(
     strings: &[u8],
     strings_va: u64,
     from: FieldIter,
-) -> FieldIter {
+) -> FieldIter
+    ensures { λ r. ⌜ r .at ≡ walkEnd (now (fields .entry)) vmaddr 4096 (from .at) ⌝ }
+{
     let mut walk = from;
     let mut given: u32 = 0;
     while given < 4096 {
@@ -153,7 +163,7 @@ fn walk_fields(
     walk
 }
 
-// The descriptors of a section of fewer than 65,536 bytes: up to the end of the walk, and from there up to the next one.
+// The descriptors of a section of fewer than 65,536 bytes: up to the end of the walk, and from there up to the next one. Tells where that is.
 pub fn all_fields(
     image: &[u8],
     segments: &[u64],
@@ -161,7 +171,9 @@ pub fn all_fields(
     vmaddr: u64,
     strings: &[u8],
     strings_va: u64,
-) {
+) -> usize
+    ensures { λ r. ⌜ r ≡ walkEnd (now (fields .entry)) vmaddr 4096 (walkEnd (now (fields .entry)) vmaddr 4096 0) ⌝ }
+{
     let stopped = walk_fields(
         image,
         segments,
@@ -171,7 +183,7 @@ pub fn all_fields(
         strings_va,
         FieldIter::new(),
     );
-    walk_fields(
+    let again = walk_fields(
         image,
         segments,
         fields,
@@ -180,4 +192,5 @@ pub fn all_fields(
         strings_va,
         stopped,
     );
+    again.at
 }

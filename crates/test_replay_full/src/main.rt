@@ -39,8 +39,13 @@ mod words;
 
 use crate::fields::all_fields;
 use crate::rows::all_rows;
-use crate::words::bad_line;
+use crate::words::word;
 use test_lines::Count;
+
+// What stands in no expected line: for a line that cannot be read. An answer that none of the calls may give is written so too.
+fn bad_line() {
+    word(b"bad line\n");
+}
 
 // The line's sections, and all its answers.
 fn run_sections(

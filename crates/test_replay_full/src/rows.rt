@@ -1,9 +1,10 @@
 // The rows, with their bodies and blocks.
+ghost use mathlib.Core.Path.{_≡_};
+ghost use Rattle.test_replay_full.specs.Shown.{rowsShown};
 use crate::entries::Kind;
 use crate::entries::at_row;
 use crate::entries::entries;
 use crate::words::SHOWN;
-use crate::words::bad_line;
 use crate::words::newline;
 use crate::words::nothing;
 use crate::words::number_field;
@@ -31,6 +32,10 @@ use typebody::SingletonMetadataPointer;
 use typebody::TypeBody;
 use typedescriptor::Row;
 use typedescriptor::TypeIter;
+
+fn bad_line() {
+    word(b"bad line\n");
+}
 
 // Bodies.
 
@@ -168,11 +173,15 @@ fn detail_lines(image: &[u8], segments: &[u64], block: Block) {
             vtable_offset: _,
             vtable_size,
             entries_va,
-        } => entries(image, segments, Kind::Method, entries_va, vtable_size),
+        } => {
+            entries(image, segments, Kind::Method, entries_va, vtable_size);
+        }
         Block::OverrideTable {
             num_entries,
             entries_va,
-        } => entries(image, segments, Kind::Override, entries_va, num_entries),
+        } => {
+            entries(image, segments, Kind::Override, entries_va, num_entries);
+        }
         Block::ObjcResilientClassStub(_) => {}
         Block::Prespecializations { count, base_va } => {
             entries(image, segments, Kind::Prespecialization, base_va, count);
@@ -185,13 +194,15 @@ fn detail_lines(image: &[u8], segments: &[u64], block: Block) {
         Block::DefaultOverrideTable {
             num_entries,
             entries_va,
-        } => entries(
-            image,
-            segments,
-            Kind::DefaultOverride,
-            entries_va,
-            num_entries,
-        ),
+        } => {
+            entries(
+                image,
+                segments,
+                Kind::DefaultOverride,
+                entries_va,
+                num_entries,
+            );
+        }
     }
 }
 
@@ -324,8 +335,10 @@ fn rows_line(rows: u64) {
     one(rows);
 }
 
-// The rows of a types section of fewer than 4,096 slots.
-pub fn all_rows(image: &[u8], segments: &[u64], types: &[u8], vmaddr: u64) {
+// The first 4,096 rows of a types section: how many they are.
+pub fn all_rows(image: &[u8], segments: &[u64], types: &[u8], vmaddr: u64) -> u64
+    ensures { λ r. ⌜ r ≡ rowsShown (now (image .entry)) (now (segments .entry)) (now (types .entry)) vmaddr ⌝ }
+{
     let mut walk = TypeIter::new();
     let mut rows: u64 = 0;
     while rows < 4096 {
@@ -338,13 +351,14 @@ pub fn all_rows(image: &[u8], segments: &[u64], types: &[u8], vmaddr: u64) {
             }
             NextRow::End => {
                 rows_line(rows);
-                return;
+                return rows;
             }
             NextRow::Refused(refusal) => {
                 refused(refusal);
-                return;
+                return 0;
             }
         }
     }
     bad_line();
+    rows
 }

@@ -5,11 +5,6 @@ use util::Text;
 // How many entries of a table, records of a descriptor and offsets of a struct are written.
 pub const SHOWN: u32 = 12;
 
-// What stands in no expected line: for a line that cannot be read, or an answer that none of the calls may give.
-pub fn bad_line() {
-    io::write_all(1, b"bad line\n");
-}
-
 pub fn word(text: &[u8]) {
     io::write_all(1, text);
 }
@@ -57,10 +52,6 @@ pub fn text_line(name: &[u8], text: Text) {
         Text::At { place, length } => two(place as u64, length as u64),
         Text::Nothing => nothing(),
     }
-}
-
-pub fn unreadable() {
-    word(b"unreadable\n");
 }
 
 pub fn done() {

@@ -1,17 +1,25 @@
--- `test_replay_full::fields::walk_fields` is safe and ends: at most 4,096 descriptors are asked for.
-use Prim.Native.Nat.{_-_}
+-- `test_replay_full::fields::walk_fields` meets its contract, and ends: at most 4,096 descriptors are asked for.
+-- Assumes nothing.
+use Prim.Native.Nat.{_-_, _+_, _≤_}
+use native.Mathlib.Omega.{arith}
+use mathlib.Core.Path.{_≡_, refl, sym, _∙_}
+use Rattle.util.specs.AnswersLaws.{told}
+use Rattle.field.specs.Fields.{fieldStepOf}
+use Rattle.test_replay_full.specs.Shown.{walkEnd}
+use Rattle.test_replay_full.specs.ShownLaws.{end-here, end-further, end-over}
 use borrow.Author.Needs.{needs}
 use Rattle.test_replay_full.proofs.fields.walk_fields.Statement.{statement}
 use Rattle.test_replay_full.proofs.fields.walk_fields.Tie as tie
 
 abbrev Inv-loop : tie.InvT-loop
-Inv-loop image segments fields vmaddr strings strings-va walk₀ given₀ walk given = Unit
+Inv-loop image segments fields vmaddr strings strings-va walk₀ given₀ walk given =
+    (given ≤ 4096) × (walkEnd fields vmaddr 4096 (walk₀ .at) ≡ walkEnd fields vmaddr (4096 - given) (walk .at))
 
 abbrev μ-loop : tie.MeasureT-loop
 μ-loop image segments fields vmaddr strings strings-va walk₀ given₀ walk given = 4096 - given
 
 loop-holds : tie.Need-loop-holds Inv-loop μ-loop
-loop-holds c = search needs
+loop-holds c = (omega arith, refl)
 
 next-requires : tie.Need-next-requires Inv-loop μ-loop
 next-requires c κs = search needs
@@ -29,7 +37,7 @@ loop-less : tie.Need-loop-less Inv-loop μ-loop
 loop-less c = search needs
 
 loop-again : tie.Need-loop-again Inv-loop μ-loop
-loop-again c = search needs
+loop-again c = (omega (arith, c .before .before .before .before .before .loop-test .taken), c .before .before .before .before .before .before .loop .inv .1 ∙ end-further _ _ _ _ _ (told fieldStepOf (c .before .before .before .before .next .ensures) (c .before .before .step .given .1)) (c .before .before .before .before .before .loop-test .taken) _ refl)
 
 enum-known-step-2 : tie.Need-enum-known-step-2 Inv-loop μ-loop
 enum-known-step-2 c = search needs
@@ -38,13 +46,13 @@ end-line-requires : tie.Need-end-line-requires Inv-loop μ-loop
 end-line-requires c κs = search needs
 
 returns : tie.Need-returns Inv-loop μ-loop
-returns c = search needs
+returns c = sym (c .before .before .before .before .before .before .loop .inv .1 ∙ end-here _ _ _ _ _ (told fieldStepOf (c .before .before .before .before .next .ensures) (c .before .before .step2 .given .1)) (c .before .before .before .before .before .loop-test .taken) refl)
 
 bad-line-requires : tie.Need-bad-line-requires Inv-loop μ-loop
 bad-line-requires c κs = search needs
 
 returns-2 : tie.Need-returns-2 Inv-loop μ-loop
-returns-2 c = search needs
+returns-2 c = end-over _ _ _ _ (omega (arith, c .before .loop-test .left)) ∙ sym (c .before .before .loop .inv .1)
 
 pub walk-fields-spec : {M : Type 1} → statement M
 walk-fields-spec =

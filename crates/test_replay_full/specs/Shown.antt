@@ -1,0 +1,23 @@
+-- How much the program shows of a line's sections: docs/SPECIFICATION.md, "Type rows", "Fields" and "Refusals".
+use Prim.Native.Nat.{ℕ, zero, suc, _%_}
+use mathlib.Core.List.{List}
+use mathlib.Core.Bool.{cond}
+use mathlib.Core.Option.{some, none}
+use lib.ListN.{length}
+use lib.Dec.{eqb}
+use Rattle.typedescriptor.specs.SlotsLaws.{stepped}
+use Rattle.field.specs.Fields.{fieldStep}
+
+-- how many rows: those of at most 4,096 steps, and none where the segments are refused
+unfoldable pub rowsShown : List ℕ → List ℕ → List ℕ → ℕ → ℕ
+rowsShown image segments types start =
+    cond (eqb (length segments % 4) 0) (length (stepped image segments types start 4096 0)) 0
+
+-- where a walk over a fields section stands after the first step that gives no descriptor, or after so many steps
+unfoldable pub walkEnd : List ℕ → ℕ → ℕ → ℕ → ℕ
+walkEnd fields start zero at = at
+walkEnd fields start (suc n) at =
+    elim (fieldStep fields start at .found) [
+      | none ↦ fieldStep fields start at .next
+      | some d ↦ walkEnd fields start n (fieldStep fields start at .next)
+    ]
