@@ -1,5 +1,8 @@
+pub mod Ash
 pub mod Clue
 pub mod CutLaws
+pub mod Elm
+pub mod ElmTexts
 pub mod Items
 pub mod Keys
 pub mod ListedLaws
