@@ -1,13 +1,12 @@
 -- The premise on texts, worked whole on the image `Elm`: at which cuts it holds for the names of slots' descriptors, of contexts and of field records, and at which it does not. A text
 -- that no name leads to asks for nothing (`ivy`, 149 to 152), though the word behind a context without a name leads to it; nor does the name of a field's type (`Si`, 160 to 162).
-use Prim.Native.Nat.{ℕ, zero, suc, _+_, _≤_, _<_}
+use Prim.Native.Nat.{ℕ, zero, suc, _≤_, _<_}
 use native.Mathlib.Omega.{arith}
-use mathlib.Core.Path.{_≡_, refl, ap}
-use mathlib.Core.Logic.{_⊎_, inl, inr, ⊎-elim}
-use mathlib.Core.List.{List, [], _∷_, _++_}
+use mathlib.Core.Path.{_≡_, refl}
+use mathlib.Core.Logic.{inl, inr, ⊎-elim}
+use mathlib.Core.List.{List}
 use mathlib.Core.Bool.{Bool, true, false, cond}
 use mathlib.Core.Option.{Option, some, none}
-use lib.ListN.{drop}
 use lib.Dec.{ltb}
 use borrow.Author.Tests.{le-ltb}
 use Rattle.utf8.specs.Table.{table}
@@ -28,6 +27,7 @@ use Rattle.parent.specs.Context.{Header, headerIn, header}
 use Rattle.parent.specs.Chain.{contextsMost, headerAt}
 use Rattle.items.specs.Items.{mapReads, rowOfSlot, contextOfSlot}
 use Rattle.items.specs.Texts.{NameKey, descriptorName, slotNameAddress, contextNameAt, nameOf, ClearOf}
+use Rattle.items.specs.ClearLaws.{Outside, nowhere, there, asked}
 use Rattle.items.specs.Elm.{image, segments, sections}
 
 -- the premise for one name, and where the name is looked up
@@ -36,22 +36,6 @@ Clears c n = ClearOf image segments sections c n
 
 abbrev named : NameKey → Option ℕ
 named n = run image segments (nameOf sections n)
-
--- the cut falls before `o`, or at or behind `e`
-abbrev Outside : ℕ → ℕ → ℕ → Type 0
-Outside o e c = (c < o) ⊎ (e ≤ c)
-
-module _ (c : ℕ) (n : NameKey) where
-  -- a name that is looked up nowhere asks for nothing
-  nowhere : named n ≡ none → Clears c n
-  nowhere e a f = let z : _≡_ {A = ℕ} 0 1 = cc in absurd (omega arith)
-
-  -- one that is looked up at an address asks for the text there, and for no other
-  there : (a o : ℕ) → named n ≡ some a → textOffset segments a ≡ some o → Outside o (o + extent (drop o image)) c → Clears c n
-  there a o e t h b f p u _ =
-      let q : a ≡ b = cc in
-      let r : o ≡ p = cc (ap (textOffset segments) q) in
-      rw r at h
 
 -- ---- names that are looked up nowhere
 
@@ -131,24 +115,24 @@ worked =
       rows-clear = rows;
       contexts-clear = contexts;
       fields-clear = fields;
-      row-not-clear = λ c h w. ⊎-elim (λ l. omega arith) (λ l. omega arith) (w 0x1000 refl 0 refl refl);
-      module-not-clear = λ c h g w. ⊎-elim (λ l. omega arith) (λ l. omega arith) (w 0x1090 refl 144 refl refl);
-      field-0-not-clear = λ c h g w. ⊎-elim (λ l. omega arith) (λ l. omega arith) (w 0x1099 refl 153 refl refl);
-      field-1-not-clear = λ c h g w. ⊎-elim (λ l. omega arith) (λ l. omega arith) (w 0x109d refl 157 refl refl);
+      row-not-clear = λ c h w. ⊎-elim (λ l. omega arith) (λ l. omega arith) (asked image segments sections c ofRow 0x1000 0 refl refl w);
+      module-not-clear = λ c h g w. ⊎-elim (λ l. omega arith) (λ l. omega arith) (asked image segments sections c ofModule 0x1090 144 refl refl w);
+      field-0-not-clear = λ c h g w. ⊎-elim (λ l. omega arith) (λ l. omega arith) (asked image segments sections c (ofField 0) 0x1099 153 refl refl w);
+      field-1-not-clear = λ c h g w. ⊎-elim (λ l. omega arith) (λ l. omega arith) (asked image segments sections c (ofField 1) 0x109d 157 refl refl w);
     }
   where
     rows : (c : ℕ) → 4 ≤ c → (i : ℕ) → Clears c (NameKey.descriptor i)
-    rows c h zero = there c ofRow 0x1000 0 refl refl (inr h)
-    rows c h (suc i) = nowhere c (NameKey.descriptor (suc i)) (no-row i)
+    rows c h zero = there image segments sections c ofRow 0x1000 0 refl refl (inr h)
+    rows c h (suc i) = nowhere image segments sections c (NameKey.descriptor (suc i)) (no-row i)
 
     contexts : (c : ℕ) → Outside 144 149 c → (i k : ℕ) → Clears c (NameKey.context i k)
-    contexts c h zero zero = nowhere c (NameKey.context 0 0) anonymous
-    contexts c h zero (suc zero) = there c ofModule 0x1090 144 refl refl h
-    contexts c h zero (suc (suc k)) = nowhere c (NameKey.context 0 (suc (suc k))) (no-context k)
-    contexts c h (suc i) k = nowhere c (NameKey.context (suc i) k) (no-slot i k)
+    contexts c h zero zero = nowhere image segments sections c (NameKey.context 0 0) anonymous
+    contexts c h zero (suc zero) = there image segments sections c ofModule 0x1090 144 refl refl h
+    contexts c h zero (suc (suc k)) = nowhere image segments sections c (NameKey.context 0 (suc (suc k))) (no-context k)
+    contexts c h (suc i) k = nowhere image segments sections c (NameKey.context (suc i) k) (no-slot i k)
 
     fields : (c : ℕ) → Outside 153 160 c → (j k : ℕ) → Clears c (NameKey.field j k)
-    fields c h zero zero = there c (ofField 0) 0x1099 153 refl refl (⊎-elim (λ l. inl l) (λ l. inr (omega arith)) h)
-    fields c h zero (suc zero) = there c (ofField 1) 0x109d 157 refl refl (⊎-elim (λ l. inl (omega arith)) (λ l. inr l) h)
-    fields c h zero (suc (suc k)) = nowhere c (NameKey.field 0 (suc (suc k))) (no-record k)
-    fields c h (suc j) k = nowhere c (NameKey.field (suc j) k) (no-descriptor j k)
+    fields c h zero zero = there image segments sections c (ofField 0) 0x1099 153 refl refl (⊎-elim (λ l. inl l) (λ l. inr (omega arith)) h)
+    fields c h zero (suc zero) = there image segments sections c (ofField 1) 0x109d 157 refl refl (⊎-elim (λ l. inl (omega arith)) (λ l. inr l) h)
+    fields c h zero (suc (suc k)) = nowhere image segments sections c (NameKey.field 0 (suc (suc k))) (no-record k)
+    fields c h (suc j) k = nowhere image segments sections c (NameKey.field (suc j) k) (no-descriptor j k)

@@ -1,4 +1,5 @@
 pub mod Ash
+pub mod ClearLaws
 pub mod Clue
 pub mod CutLaws
 pub mod Elm
