@@ -77,6 +77,19 @@ prespecializedReads = genericReads ++ (bytesTo 80 84 ∷ [])
 abbrev overridesReads : List Range
 overridesReads = prespecializedReads ++ (bytesTo 100 102 ∷ bytesTo 104 108 ∷ [])
 
+-- the four blocks: at an address; so many entries from one on; a set, and how many bits of it are set
+abbrev genericAt : ℕ → Block
+genericAt a = Block.Generic a
+
+abbrev prespecializationsFrom : ℕ → ℕ → Block
+prespecializationsFrom n a = Block.Prespecializations n a
+
+abbrev invertibleSet : ℕ → ℕ → Block
+invertibleSet s n = Block.InvertibleProtocolSet s n
+
+abbrev defaultOverridesFrom : ℕ → ℕ → Block
+defaultOverridesFrom n a = Block.DefaultOverrideTable n a
+
 pub record Worked : Type 0 where
   pub generic : reads (Key.block 0 BlockKind.Generic) ≡ genericReads
   pub prespecializations : reads (Key.block 0 BlockKind.Prespecializations) ≡ prespecializedReads
@@ -87,10 +100,10 @@ pub record Worked : Type 0 where
   pub default-override-1 : reads (Key.entry 0 EntryKind.defaultOverrides 1) ≡ overridesReads ++ (bytesTo 108 116 ∷ bytesTo 116 124 ∷ [])
   -- what they say; nothing past the last
   pub says-body : told image (Key.body 0) ≡ some (Answer.body (ofClass 0 (fixed 2 13) 3 0 10))
-  pub says-generic : told image (Key.block 0 BlockKind.Generic) ≡ some (Answer.block (Block.Generic 0x1030))
-  pub says-prespecializations : told image (Key.block 0 BlockKind.Prespecializations) ≡ some (Answer.block (Block.Prespecializations 2 0x1054))
-  pub says-invertible : told image (Key.block 0 BlockKind.InvertibleProtocolSet) ≡ some (Answer.block (Block.InvertibleProtocolSet 5 2))
-  pub says-default-overrides : told image (Key.block 0 BlockKind.DefaultOverrideTable) ≡ some (Answer.block (Block.DefaultOverrideTable 2 0x106c))
+  pub says-generic : told image (Key.block 0 BlockKind.Generic) ≡ some (Answer.block (genericAt 0x1030))
+  pub says-prespecializations : told image (Key.block 0 BlockKind.Prespecializations) ≡ some (Answer.block (prespecializationsFrom 2 0x1054))
+  pub says-invertible : told image (Key.block 0 BlockKind.InvertibleProtocolSet) ≡ some (Answer.block (invertibleSet 5 2))
+  pub says-default-overrides : told image (Key.block 0 BlockKind.DefaultOverrideTable) ≡ some (Answer.block (defaultOverridesFrom 2 0x106c))
   pub says-prespecialization-1 : told image (Key.entry 0 EntryKind.prespecializations 1) ≡ some (Answer.entry (record { address = 0x1058; words = 0x1110 ∷ [] }))
   pub no-prespecialization-2 : told image (Key.entry 0 EntryKind.prespecializations 2) ≡ none
   pub says-default-override-1 : told image (Key.entry 0 EntryKind.defaultOverrides 1) ≡ some (Answer.entry (record { address = 0x1074; words = 0x1100 ∷ 0x1110 ∷ [] }))

@@ -96,6 +96,13 @@ rowReads = bytesTo 4 24 ∷ record { from = 0; to = 4; isText = true } ∷ []
 abbrev bodyReads : List Range
 bodyReads = rowReads ++ (bytesTo 24 32 ∷ [])
 
+-- the two blocks at an address
+abbrev initializationAt : ℕ → Block
+initializationAt a = Block.SingletonMetadataInit a
+
+abbrev pointerAt : ℕ → Block
+pointerAt a = Block.SingletonMetadataPointer a
+
 pub record Worked : Type 0 where
   pub row : reads (Key.row 0) ≡ rowReads
   pub body : reads (Key.body 0) ≡ bodyReads
@@ -114,8 +121,8 @@ pub record Worked : Type 0 where
   -- what they say; nothing past the last
   pub says-row : told image (Key.row 0) ≡ some (Answer.row (record { address = 0x1004; flags = 0x90011; parent = 0x1078; name = place 0 3; nameBytes = 69 ∷ 108 ∷ 109 ∷ [] }))
   pub says-body : told image (Key.body 0) ≡ some (Answer.body (ofStruct 2 2))
-  pub says-block-initialization : told image (Key.block 0 BlockKind.SingletonMetadataInit) ≡ some (Answer.block (Block.SingletonMetadataInit 0x1020))
-  pub says-block-pointer : told image (Key.block 0 BlockKind.SingletonMetadataPointer) ≡ some (Answer.block (Block.SingletonMetadataPointer 0x102c))
+  pub says-block-initialization : told image (Key.block 0 BlockKind.SingletonMetadataInit) ≡ some (Answer.block (initializationAt 0x1020))
+  pub says-block-pointer : told image (Key.block 0 BlockKind.SingletonMetadataPointer) ≡ some (Answer.block (pointerAt 0x102c))
   pub says-initialization : told image (Key.initialization 0) ≡ some (Answer.initialization (record { cache = 0; incomplete = 0x1030; completion = 0x1100 }))
   pub says-pointer : told image (Key.pointer 0) ≡ some (Answer.pointer 0x1030)
   pub says-offsets : told image (Key.offsets 0 0x1030) ≡ some (Answer.offsets (0 ∷ 8 ∷ []))
