@@ -1,5 +1,9 @@
+pub mod Ash
+pub mod ClearLaws
 pub mod Clue
 pub mod CutLaws
+pub mod Elm
+pub mod ElmTexts
 pub mod Items
 pub mod Keys
 pub mod ListedLaws
