@@ -1,9 +1,11 @@
+pub mod Beside
 pub mod Clue
 pub mod CutLaws
 pub mod Items
 pub mod Keys
 pub mod ListedLaws
 pub mod Oak
+pub mod OffsetsLaws
 pub mod PathsLaws
 pub mod PremiseLaws
 pub mod ProgramLaws
