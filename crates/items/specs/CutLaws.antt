@@ -111,10 +111,21 @@ module _ (image segments strings : List ℕ) (start : ℕ) (s : Sections) (c : �
         texts = λ n own. cut-beside image segments c strings start s n (λ i e. clear i) own;
       }
 
-  -- nor into any text that the listing of the whole image looks up: nothing more is asked of the texts
-  pub cut-listing : ((n : NameKey) → ClearOf image segments s c n)
+  -- nor into one of a context or of a field record: these are the texts that docs/SPECIFICATION.md has in the premise
+  pub cut-listing : ((i : ℕ) → ClearOf image segments s c (NameKey.descriptor i))
+      → ((i k : ℕ) → ClearOf image segments s c (NameKey.context i k))
+      → ((j k : ℕ) → ClearOf image segments s c (NameKey.field j k))
+      → ((k : Key) → Claim image segments s c k)
+      × ((i k : ℕ) → TextClaim image segments c strings start s (NameKey.context i k))
+      × ((j k : ℕ) → TextClaim image segments c strings start s (NameKey.field j k))
+  cut-listing rows contexts fields =
+      let w = the-cut rows in
+      (w .items, (λ i k. w .texts (NameKey.context i k) (contexts i k)), (λ j k. w .texts (NameKey.field j k) (fields j k)))
+
+  -- nor into any text that the listing of the whole image looks up
+  pub cut-all : ((n : NameKey) → ClearOf image segments s c n)
       → ((k : Key) → Claim image segments s c k) × ((n : NameKey) → TextClaim image segments c strings start s n)
-  cut-listing clear =
+  cut-all clear =
       let w = the-cut (λ i. clear (NameKey.descriptor i)) in
       (w .items, (λ n. w .texts n (clear n)))
 

@@ -1,6 +1,7 @@
 pub mod Beside
 pub mod Clue
 pub mod CutLaws
+pub mod Elder
 pub mod Items
 pub mod Keys
 pub mod ListedLaws
@@ -11,3 +12,4 @@ pub mod PremiseLaws
 pub mod ProgramLaws
 pub mod Texts
 pub mod TextsLaws
+pub mod Yew

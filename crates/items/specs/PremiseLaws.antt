@@ -1,7 +1,7 @@
 -- The premise on texts by addresses and by paths. Where the cut falls into no text of a name, it falls into none of the path that reads the name (`name-clear`), and
 -- the other way round (`clear-name`): the premise asks for no more. What reads a row's name is the row (`row-text`), what reads a context's is the crate `parent`'s
 -- program (`context-text`), so the premise for them is that of the calls (`row-clear` and `clear-row`, `clear-context`, `clear-field`).
-use Prim.Native.Nat.{ℕ, _+_, _*_, _^_}
+use Prim.Native.Nat.{ℕ, _+_, _*_, _^_, _≤_}
 use native.Mathlib.Omega.{arith}
 use mathlib.Core.Path.{_≡_, refl, sym, ap, _∙_, fun-ext}
 use mathlib.Core.List.{List, [], _∷_, _++_}
@@ -9,6 +9,7 @@ use mathlib.Core.Bool.{Bool, true, false, cond}
 use mathlib.Core.Option.{Option, some, none, Option·map}
 use lib.ListN.{drop}
 use lib.Dec.{leb, ltb, eqb}
+use borrow.Author.Tests.{le-ltb}
 use Rattle.utf8.specs.Text.{untilNul}
 use Rattle.util.specs.LittleEndian.{unsignedIn, signedIn}
 use Rattle.util.specs.Pointer.{relativePointer}
@@ -145,6 +146,24 @@ module _ (image segments : List ℕ) (c : ℕ) where
     pub clear-name : (n : NameKey) → All (Clear c) (path image segments (readName s n)) → ClearOf image segments s c n
     unfolding readName
     clear-name n h = clear-text (nameOf s n) h
+
+    -- a name that is not looked up is clear
+    pub no-name : (n : NameKey) → run image segments (nameOf s n) ≡ none → ClearOf image segments s c n
+    no-name n e a f = let z : _≡_ {A = ℕ} 0 1 = cc in absurd (omega arith)
+
+    -- as that of a slot past the last
+    pub no-slot-name : (i : ℕ) → slots (s .types) ≤ i → ClearOf image segments s c (NameKey.descriptor i)
+    unfolding nameOf slotNameAddress run
+    no-slot-name i h = no-name (NameKey.descriptor i) (simp (le-ltb i (slots (s .types)) h))
+
+    -- one that is looked up at an address is clear where the range of the text there is
+    pub name-at : (n : NameKey) (a o : ℕ) → run image segments (nameOf s n) ≡ some a → textOffset segments a ≡ some o → Clear c (textRange image o)
+        → ClearOf image segments s c n
+    name-at n a o e t h b f p g =
+        let q : a ≡ b = cc in
+        let u : textOffset segments a ≡ some p = rw q g in
+        let r : o ≡ p = cc in
+        rw r at h
 
     -- by what the calls read: a row; a context and its name; a field record and the text at its third word
     pub clear-row : (i : ℕ) → All (Clear c) (path image segments (rowOfSlot s i)) → ClearOf image segments s c (NameKey.descriptor i)

@@ -28,7 +28,7 @@ use Rattle.items.specs.Keys.{Sections, Key, Answer}
 use Rattle.items.specs.Items.{mapReads, item, rowOfSlot, bodyOfSlot, contextOfSlot}
 use Rattle.items.specs.Texts.{NameKey, contextNameAt, recordName, recordTypeName, superclassAt, nameOf, lookup, readName, ClearAt, ClearOf}
 use Rattle.items.specs.Beside.{toldAt, Beside, withPart, besideOf, isField, sectionBeside, sectionOf}
-use Rattle.items.specs.ProgramLaws.{run-map, path-map, every-append, besideRow, on-name, on-context-name}
+use Rattle.items.specs.ProgramLaws.{run-map, path-map, map-none, bind-none, un-map-none, every-append, besideRow, on-name, on-context-name}
 use Rattle.items.specs.PremiseLaws.{rowNamed, row-text, header-text, lookup-clear, ClearBy, text-clear, row-clear}
 
 -- ---- what is looked up at an address
@@ -246,6 +246,9 @@ module _ (image segments : List ℕ) (s : Sections) where
   by-key : (n : NameKey) (k j : Key) → Stands n j → some j ≡ some k → Stands n k
   by-key n k j h e = let q : j ≡ k = cc in rw q at h
 
+  its : (k j : Key) → some j ≡ some k → run image segments (item s k) ≡ none → run image segments (item s j) ≡ none
+  its k j e f = let q : j ≡ k = cc in rw q f
+
   pub beside-path : (n : NameKey) (k : Key) → besideKey n ≡ some k → Stands n k
   unfolding nameOf item
   beside-path (NameKey.descriptor i) k e = let z : _≡_ {A = ℕ} 0 1 = cc in absurd (omega arith)
@@ -259,6 +262,29 @@ module _ (image segments : List ℕ) (s : Sections) where
   beside-path (NameKey.descriptorType j) k e = by-key (NameKey.descriptorType j) k (Key.fieldDescriptor j) (beside-item (λ d. d .«mangled_type_name_va») Answer.fieldDescriptor _) e
   beside-path (NameKey.descriptorSuperclass j) k e =
       by-key (NameKey.descriptorSuperclass j) k (Key.fieldDescriptor j) (beside-item (λ d. d .«superclass_va») Answer.fieldDescriptor _) e
+
+  -- without its item a text is not looked up
+  pub no-item : (n : NameKey) (k : Key) → besideKey n ≡ some k → run image segments (item s k) ≡ none → run image segments (nameOf s n) ≡ none
+  unfolding nameOf item
+  no-item (NameKey.descriptor i) k e f = let z : _≡_ {A = ℕ} 0 1 = cc in absurd (omega arith)
+  no-item (NameKey.context i j) k e f = bind-none image segments (contextOfSlot s i j) (un-map-none image segments Answer.context (contextOfSlot s i j) (its k (Key.context i j) e f)) contextNameAt
+  no-item (NameKey.field j i) k e f = map-none image segments _ (un-map-none image segments Answer.fieldRecord _ (its k (Key.fieldRecord j i) e f)) recordName
+  no-item (NameKey.superclass i) k e f = bind-none image segments (bodyOfSlot s i) (un-map-none image segments Answer.body (bodyOfSlot s i) (its k (Key.body i) e f)) superclassAt
+  no-item (NameKey.fieldType j i) k e f = map-none image segments _ (un-map-none image segments Answer.fieldRecord _ (its k (Key.fieldRecord j i) e f)) recordTypeName
+  no-item (NameKey.descriptorType j) k e f = map-none image segments _ (un-map-none image segments Answer.fieldDescriptor _ (its k (Key.fieldDescriptor j) e f)) _
+  no-item (NameKey.descriptorSuperclass j) k e f = map-none image segments _ (un-map-none image segments Answer.fieldDescriptor _ (its k (Key.fieldDescriptor j) e f)) _
+
+  -- and not told
+  pub no-beside : (strings : List ℕ) (start : ℕ) (n : NameKey) (k : Key) → besideKey n ≡ some k → run image segments (item s k) ≡ none
+      → besideOf image segments strings start s n ≡ none
+  no-beside strings start n k e f = beside-by image segments strings start s n ∙ rw (no-item n k e f)
+
+-- the addresses that a record's call tells
+pub record-name : (r : FieldRecord) → recordName (ofRecord r) ≡ r .«field_name_va»
+record-name r = refl
+
+pub record-type : (r : FieldRecord) → recordTypeName (ofRecord r) ≡ r .«mangled_type_name_va»
+record-type r = refl
 
 -- ---- contexts, as the calls give them
 
