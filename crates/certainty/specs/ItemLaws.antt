@@ -21,7 +21,8 @@ use Rattle.runtime.specs.Reads.{Reads, done, nothing, bytes, text, andThen, wit
 use Rattle.runtime.specs.PathLaws.{BytesRead, TextRead, bytes-read, text-read, text-at-is}
 use Rattle.runtime.specs.FieldName.{fieldName}
 use Rattle.typedescriptor.specs.Row.{TypeRow, typeRow, nameAddress, rowName, descriptor}
-use Rattle.typedescriptor.specs.Slots.{slots, slotAddress, slotRow}
+use Rattle.typedescriptor.specs.Slots.{slotAddress, slotRow}
+use Rattle.typedescriptor.specs.PathLaws.{slot-program}
 use Rattle.context.specs.Context.{contextKind, hasName}
 use Rattle.parent.specs.Context.{Name, slotName, nameAt, name}
 use Rattle.items.specs.Keys.{Sections, Key, Answer, slotOf}
@@ -35,7 +36,7 @@ use Rattle.certainty.specs.CertainLaws.{nul-is, certain-run, certain-fir
 -- ---- a text
 
 -- the NUL of a text at an offset arrived where the text ends before the last byte
-nul-before : (arrived : List ℕ) (o : ℕ) → o ≤ length arrived → hasNul (drop o arrived) ≡ ltb (o + length (untilNul (drop o arrived))) (length arrived)
+pub nul-before : (arrived : List ℕ) (o : ℕ) → o ≤ length arrived → hasNul (drop o arrived) ≡ ltb (o + length (untilNul (drop o arrived))) (length arrived)
 nul-before arrived o h = nul-is (drop o arrived) ∙ go (decLt (length (untilNul (drop o arrived))) (length (drop o arrived)))
   where
     go : Dec (length (untilNul (drop o arrived)) < length (drop o arrived))
@@ -62,7 +63,7 @@ place-looked image segments a = go (textOffset segments a)
 
 module _ (arrived segments : List ℕ) where
   -- a text at an offset past the end is none
-  found-inside : (o : ℕ) (p : Place) → textAt arrived o ≡ some p → o ≤ length arrived
+  pub found-inside : (o : ℕ) (p : Place) → textAt arrived o ≡ some p → o ≤ length arrived
   unfolding textAt
   found-inside o p e = go (decLe o (length arrived))
     where
@@ -143,14 +144,9 @@ module _ (arrived segments : List ℕ) where
   -- a row that is in the listing of what arrived is certain where its name ends before the last byte
   pub row-certain : (types : List ℕ) (start i : ℕ) (r : TypeRow) → run arrived segments (slotRow types start i) ≡ some r
       → certain arrived segments (slotRow types start i) ≡ ltb (r .name .start + r .name .size) (length arrived)
-  unfolding slotRow run certain
-  row-certain types start i r e = go (ltb i (slots types)) (eqb (unsignedIn 4 types (4 * i)) 0) e
-    where
-      go : (b d : Bool) → run arrived segments (cond b (cond d nothing (descriptor (slotAddress types start i))) nothing) ≡ some r
-          → certain arrived segments (cond b (cond d nothing (descriptor (slotAddress types start i))) nothing) ≡ ltb (r .name .start + r .name .size) (length arrived)
-      go true false f = descriptor-certain (slotAddress types start i) r f
-      go true true f = let z : _≡_ {A = ℕ} 0 1 = cc in absurd (omega arith)
-      go false d f = let z : _≡_ {A = ℕ} 0 1 = cc in absurd (omega arith)
+  row-certain types start i r e =
+      let p : slotRow types start i ≡ descriptor (slotAddress types start i) = slot-program arrived segments types start i r e in
+      ap (certain arrived segments) p ∙ descriptor-certain (slotAddress types start i) r (rw p at e)
 
   -- ---- what one comparison says: the answer is that of every image that starts with these bytes
 

@@ -4,5 +4,6 @@ pub mod CertainLaws
 pub mod ItemLaws
 pub mod JoinedName
 pub mod JoinedNameLaws
+pub mod OpenLaws
 pub mod ReadLaws
 pub mod Worked
