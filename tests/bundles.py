@@ -4,17 +4,21 @@
 usage: tests/bundles.py             write the files
        tests/bundles.py --check     write nothing; exit status 1 if a file on disk is not what would be written
        tests/bundles.py --run LIST  run the listing program LIST on every bundle, and on what is no bundle; exit status 1 if it
-                                    writes anything else than it should, on standard output or on standard error
+                                    writes anything else than it should, on standard output or on standard error, or does not end well
 
 The listings come from the rules as written down here and in tests/vectors.py, and from nothing of the crates. The samples are
 samples/*.bundle with samples/*.listing; the crate `list` runs on one of them in every check.
 """
+import fcntl
 import os
 import pathlib
+import re
 import struct
 import subprocess
 import sys
 import tempfile
+import termios
+import time
 
 ROOT = pathlib.Path(__file__).resolve().parent.parent
 sys.path[:0] = [str(ROOT / "tests"), str(ROOT / "scripts")]
@@ -68,8 +72,14 @@ def broken(bundle):
     return None if image else ("there is no image", at)
 
 
+MAGICS = [bytes.fromhex(magic) for magic in ("cffaedfe", "cefaedfe", "feedfacf", "feedface", "cafebabe", "cafebabf")]
+
+
 def said(bundle):
     """What the program says of a bundle on standard error."""
+    if bundle[:4] in MAGICS:
+        what = b"this is a Mach-O file and not a bundle; `scripts/make_bundle.py --macho FILE` makes a bundle of it"
+        return b"list: refused %d: %s\n" % (5 if len(bundle) > BUNDLE_BYTES else 2, what)
     if len(bundle) > BUNDLE_BYTES:
         return b"list: refused 5: a bundle has at most 65536 bytes\n"
     rule = broken(bundle)
@@ -447,58 +457,103 @@ def files():
     return out
 
 
-USAGE = b"usage: list [FILE]\n"
+# The program's texts.
+
+HELP = (b"usage: list [FILE]\n", b"\n    scripts/make_bundle.py --macho Name.framework/Name | target/bin/list\n")
+MORE = b" (list --help says more)\n"
+
+
+def version():
+    """The version, from the only place that has it."""
+    return re.search(r'b"(list \d+\.\d+\.\d+)\\n"', (ROOT / "crates/list/src/main.rt").read_text())[1].encode() + b"\n"
+
+
+def other_files():
+    """What a user may take for a bundle: Mach-O files, their first bytes, and what only nearly starts as they do."""
+    for magic in MAGICS:
+        yield magic
+        yield magic + bytes(100)
+        yield magic[:3]
+        yield magic[:3] + bytes([magic[3] ^ 1]) + bytes(100)
+        yield bytes([magic[0] ^ 1]) + magic[1:] + bytes(100)
+    yield MAGICS[0] + bytes(BUNDLE_BYTES - 4)
+    yield MAGICS[0] + bytes(BUNDLE_BYTES - 3)
+    yield MAGICS[4] + bytes(200000)
+
+
+def in_pieces(program, data, size):
+    """The ended program and what it wrote, where a pipe hands the bundle over in pieces: each is read before the next one comes."""
+    ran = subprocess.Popen([program], stdin=subprocess.PIPE, stdout=subprocess.PIPE, stderr=subprocess.PIPE, bufsize=0)
+    try:
+        for at in range(0, len(data), size):
+            ran.stdin.write(data[at : at + size])
+            end = time.monotonic() + 5
+            while ran.poll() is None and time.monotonic() < end:
+                time.sleep(0.02)  # and then the program waits for more
+                if not any(fcntl.ioctl(ran.stdin, termios.FIONREAD, bytes(4))):
+                    break
+    except BrokenPipeError:
+        pass
+    out, err = ran.communicate(timeout=60)
+    return ran.returncode, out, err
 
 
 def runs(program):
-    """(what is tried, standard output, standard error, the outputs expected) of the program on everything that is tried."""
+    """(what is tried, the exit status, standard output, standard error, the outputs expected) of all that is tried."""
 
     def run(what, out, err, *words, **given):
-        got = subprocess.run([program, *words], capture_output="stdout" not in given, stderr=subprocess.PIPE if "stdout" in given else None, **given)
-        return what, got.stdout or b"", got.stderr, out, err
+        got = subprocess.run([program, *words], stderr=subprocess.PIPE, timeout=60, **{"stdout": subprocess.PIPE, **given})
+        return what, got.returncode, got.stdout or b"", got.stderr, out, err
 
     for number, data in enumerate(BUNDLES, 1):
         yield run(f"bundle {number}", listing(data), said(data), input=data)
+    for data in other_files():
+        yield run(f"{len(data)} bytes from {data[:4].hex()} on", listing(data), said(data), input=data)
     with tempfile.TemporaryDirectory() as folder:
         path = os.path.join(folder, "garden.bundle")
         pathlib.Path(path).write_bytes(garden())
         yield run("a file", listing(garden()), b"", path)
         yield run("a file, from its folder", listing(garden()), b"", "garden.bundle", cwd=folder)
-        yield run("no such file", b"", path.encode() + b"x: No such file or directory\n", path + "x")
-        yield run("a folder", b"", folder.encode() + b": Is a directory\n", folder)
+        yield run("no such file", b"", b"list: " + path.encode() + b"x: No such file or directory\n", path + "x")
+        yield run("a folder", b"", b"list: " + folder.encode() + b": Is a directory\n", folder)
         yield run("a word that is too long", b"", b"list: argument: File name too long\n", "x" * 5000)
-        yield run("an empty word", b"", b": No such file or directory\n", "")
-        for words in (["--help"], ["-x"], ["-"], [path, path]):
-            yield run(" ".join(words), b"", USAGE, *words)
+        yield run("an empty word", b"", b"list: : No such file or directory\n", "")
+        yield run("--help", HELP, b"", "--help")
+        yield run("--version", version(), b"", "--version")
+        for word in ("-x", "-", "--", "--hel", "--helpx", "--versio", "--version=1", "-help"):
+            yield run(word, b"", b"list: no such option: " + word.encode() + MORE, word)
+        for words in ([path, path], ["--help", path]):
+            yield run(" ".join(words), b"", b"list: one FILE at most" + MORE, *words)
         with open(os.devnull, "rb") as empty:
             yield run("an empty input", b"refused 2\n", said(b""), stdin=empty)
         directory = os.open(folder, os.O_RDONLY)
         yield run("a folder as standard input", b"", b"list: standard input: Is a directory\n", stdin=directory)
         os.close(directory)
-        if os.path.exists("/dev/full"):
+        for word in (path, "--help", "--version"):
             with open("/dev/full", "wb") as full:
-                yield run("output that is full", b"", b"list: standard output: No space left on device\n", path, stdout=full)
-    # A pipe that hands the bundle over in pieces.
-    pieces = subprocess.Popen([program], stdin=subprocess.PIPE, stdout=subprocess.PIPE, stderr=subprocess.PIPE)
-    for at in range(0, len(garden()), 7):
-        pieces.stdin.write(garden()[at : at + 7])
-        pieces.stdin.flush()
-    yield ("pieces", *pieces.communicate(), listing(garden()), b"")
+                yield run(f"{word}, output full", b"", b"list: standard output: No space left on device\n", word, stdout=full)
+    # A slow pipe: a small bundle, and the largest one.
+    largest = next(data for data in BUNDLES if len(data) == BUNDLE_BYTES)
+    for data, size in ((garden(), 57), (largest, 4096 + 512)):
+        yield (f"{len(data)} bytes in pieces of {size}", *in_pieces(program, data, size), listing(data), b"")
     # A terminal.
     manager, terminal = os.openpty()
     at_terminal = subprocess.Popen([program], stdin=terminal, stdout=subprocess.PIPE, stderr=subprocess.PIPE)
     os.write(manager, b"\x04")
     hint = b"list: reading a bundle from the terminal; `list --help` says more\n"
-    yield ("a terminal", *at_terminal.communicate(), b"refused 2\n", hint + said(b""))
+    out, err = at_terminal.communicate(timeout=60)
+    yield "a terminal", at_terminal.returncode, out, err, b"refused 2\n", hint + said(b"")
 
 
 def try_program(program):
     tried = wrong = 0
-    for what, out, err, expected, complaint in runs(os.path.abspath(program)):
+    for what, status, out, err, expected, complaint in runs(os.path.abspath(program)):
         tried += 1
-        if out != expected or not (err == complaint or complaint == USAGE and err.startswith(USAGE)):
+        right = out.startswith(HELP[0]) and out.endswith(HELP[1]) if expected is HELP else out == expected
+        if status or not right or err != complaint:
             wrong += 1
-            print(f"{what}: wrote {out[:200]!r} and said {err[:200]!r}, not {expected[:200]!r} and {complaint!r}")
+            ended = f"ended with status {status}, " if status else ""
+            print(f"{what}: {ended}wrote {out[:200]!r} and said {err[:200]!r}, not {expected[:200]!r} and {complaint!r}")
     print(f"{program}: {tried} runs, {wrong} wrong")
     return 1 if wrong else 0
 

@@ -1,10 +1,12 @@
 #!/usr/bin/env python3
 """Test scripts/make_bundle.py: bundles byte for byte, each error's sentence, and files damaged or cut short.
 
-usage: tests/make_bundle_test.py [--check]        (--check: leave out what needs the program target/bin/list)
+usage: tests/make_bundle_test.py             needs the program target/bin/list, clang and an lld for Mach-O
+       tests/make_bundle_test.py --check     without all three
+       tests/make_bundle_test.py --link      link tests/orchard.dylib anew
 
-Mach-O files are packed by hand here. One more is made by clang and lld where they are there. Bundles are listed by the program
-where it has been built.
+Mach-O files are packed by hand here. tests/orchard.dylib was made by a linker, and more are made by clang and lld at each run: the
+former has what a linker writes where they are missing, the latter shows that it is still what one writes.
 """
 import argparse
 import contextlib
@@ -21,6 +23,7 @@ import tempfile
 
 ROOT = pathlib.Path(__file__).resolve().parent.parent
 SCRIPT, PROGRAM = ROOT / "scripts" / "make_bundle.py", ROOT / "target" / "bin" / "list"
+KEPT, KEPT_TREE = ROOT / "tests" / "orchard.dylib", 0x2DC
 sys.path.insert(0, str(ROOT / "scripts"))
 sys.dont_write_bytecode = True
 
@@ -406,11 +409,11 @@ def commands():
             expect("a full device", command("--sample", "clue", stdout=full), (2, sentence, None))
 
 
-# A file made by a real assembler and linker. The descriptors' section is aligned so that its address is the same for every linker.
+# Files made by a real assembler and linker.
 
 ASSEMBLY = """
         .section __TEXT,__const
-        .p2align 12
+        .p2align ALIGNED
 _module: .long 0x40, 0, _orchard - (_module + 8)
 _Tree:  .long 0x51, _module - (_Tree + 4), _tree - (_Tree + 8), 0, 0, 0, 0
 _Leaf:  .long 0x51, _Tree - (_Leaf + 4), _leaf - (_Leaf + 8), 0, 0, 0, 0
@@ -422,74 +425,91 @@ _leaf:  .asciz "Leaf"
 _first: .long _Tree - _first
 _second: .long _Leaf - _second
 """
-LINKED = "000000000000100c struct Orchard.Tree\n0000000000001028 struct Orchard.Tree.Leaf\nend 2\n"
+
+
+def linked_listing(tree):
+    """The listing, where the first of the two types is at this address."""
+    return f"{tree:016x} struct Orchard.Tree\n{tree + 28:016x} struct Orchard.Tree.Leaf\nend 2\n"
 
 
 def tool(name):
     return next(filter(None, (shutil.which(n) for n in [name] + [f"{name}-{version}" for version in range(40, 12, -1)])), None)
 
 
-def linked(arch, assembly):
-    """A dylib's name and None, or None and what failed."""
-    source, object_file, dylib = (FOLDER / f"{arch}.{end}" for end in ("s", "o", "dylib"))
-    source.write_text(assembly)
+def linked(arch, aligned, dylib):
+    """None, or what failed. Where the descriptors' section is aligned to 2^12, its address is the same for every linker."""
+    source, object_file = FOLDER / f"{arch}.s", FOLDER / f"{arch}.o"
+    source.write_text(ASSEMBLY.replace("ALIGNED", str(aligned)))
     clang = [tool("clang"), "-target", f"{arch}-apple-macos11", "-c", source, "-o", object_file]
-    lld = [tool("ld64.lld"), "-arch", arch, "-platform_version", "macos", "11.0", "11.0", "-dylib", "-o", dylib, object_file]
-    for words in (clang, lld):
+    lld = [tool("ld64.lld"), "-arch", arch, "-platform_version", "macos", "11.0", "11.0", "-dylib", "-install_name", "Orchard", "-o", dylib]
+    for words in (clang, [*lld, object_file]):
         ended = subprocess.run(words, stdout=subprocess.PIPE, stderr=subprocess.STDOUT)
         if ended.returncode:
-            return None, ended.stdout.decode(errors="replace").partition("\n")[0]
-    return dylib, None
+            return ended.stdout.decode(errors="replace").partition("\n")[0]
+    return None
 
 
-def by_a_linker():
-    """The names of the architectures that were tried."""
+def by_a_linker(arch, cpu, tree, dylib):
+    """The bundle and the listing of a file that a linker made, with its first type at this address; alone, and in a fat file."""
+    data = dylib.read_bytes()
+    status, said, out = made("--macho", dylib, "--arch", arch)
+    expect(f"{arch}: bundle", (status, said, out[: 6 + len(data)]), (0, "", record(1, data)))
+    size = int.from_bytes(out[6 + len(data) :][:4], "little")
+    types = out[6 + len(data) + 6 + size :]
+    address, first, second = struct.unpack("<Qii", types[6:])
+    expect(f"{arch}: types", (types[:6], address + first, address + 4 + second), (record(3, bytes(16))[:6], tree, tree + 28))
+    other = fat((I386, b"other"), (cpu, data))
+    expect(f"{arch}: in a fat file", macho(other, "--arch", arch), (0, "", out))
+    if USE_PROGRAM:
+        expect(f"{arch}: listing", listed(out), linked_listing(tree))
+        pipe = f"'{SCRIPT}' --macho '{dylib}' | '{PROGRAM}'"
+        expect(f"{arch}: pipe", subprocess.run(pipe, shell=True, stdout=subprocess.PIPE).stdout.decode(), linked_listing(tree))
+
+
+def kept_file():
+    by_a_linker("x86_64", X86_64, KEPT_TREE, KEPT)
+
+
+def linked_anew():
+    """None, or why nothing was linked."""
     if not tool("clang") or not tool("ld64.lld"):
         return "there is no clang with an ld64.lld"
-    files = []
     for arch, cpu in (("x86_64", X86_64), ("arm64", ARM64)):
-        _, why = linked(arch, "")
+        dylib = FOLDER / f"{arch}.dylib"
+        why = linked(arch, 12, dylib)
         if why:
-            continue
-        dylib, why = linked(arch, ASSEMBLY)
-        expect(f"{arch}: linked", why, None)
-        if why:
-            continue
-        data = dylib.read_bytes()
-        files.append((arch, cpu, data))
-        status, said, out = made("--macho", dylib, "--arch", arch)
-        expect(f"{arch}: bundle", (status, said, out[: 6 + len(data)]), (0, "", record(1, data)))
-        size = int.from_bytes(out[6 + len(data) :][:4], "little")
-        types = out[6 + len(data) + 6 + size :]
-        address, first, second = struct.unpack("<Qii", types[6:])
-        expect(f"{arch}: types", (types[:6], address + first, address + 4 + second), (record(3, bytes(16))[:6], 0x100C, 0x1028))
-    for arch, _, data in files:
-        both = macho(fat(*[(cpu, data) for _, cpu, data in files]), "--arch", arch)
-        expect(f"{arch}: in a fat file", both, made("--macho", FOLDER / f"{arch}.dylib"))
-        if USE_PROGRAM:
-            expect(f"{arch}: listing", listed(both[2]), LINKED)
-            pipe = f"'{SCRIPT}' --macho '{FOLDER}/{arch}.dylib' | '{PROGRAM}'"
-            expect(f"{arch}: pipe", subprocess.run(pipe, shell=True, stdout=subprocess.PIPE).stdout.decode(), LINKED)
-    return None if files else f"clang or ld64.lld makes no Mach-O file: {why}"
+            return f"clang or ld64.lld makes no Mach-O file for {arch}: {why}"
+        by_a_linker(arch, cpu, 0x100C, dylib)
+    return None
+
+
+def not_run(what, why):
+    """Fails where CI=true."""
+    global failures
+    failures += subprocess.run([ROOT / "scripts" / "not-run", what, why]).returncode
 
 
 def main():
-    for group in (whole_files, small_files, other_files, damaged_commands, cut_files, damaged_files, parts, part_of_a_file, commands):
+    if WORDS == ["--link"]:
+        sys.exit(linked("x86_64", 2, KEPT))
+    for group in (whole_files, small_files, other_files, damaged_commands, cut_files, damaged_files, parts, part_of_a_file, commands, kept_file):
         group()
-    why = by_a_linker()
-    if why:
-        print(f"make_bundle_test: the file made by a linker was skipped: {why}")
-    if not PROGRAM.exists() and sys.argv[1:] == []:
-        print("make_bundle_test: nothing was listed: target/bin/list is not built")
+    if WORDS == []:
+        why = linked_anew()
+        if why:
+            not_run("files linked anew", why)
+        if not USE_PROGRAM:
+            not_run("listings of the bundles of make_bundle.py", "target/bin/list is not built")
     if failures:
         sys.exit(f"tests/make_bundle_test.py: {failures} of {checks} checks failed")
     print(f"make_bundle_test: {checks} checks")
 
 
 if __name__ == "__main__":
-    if sys.argv[1:] not in ([], ["--check"]):
+    WORDS = sys.argv[1:]
+    if WORDS not in ([], ["--check"], ["--link"]):
         sys.exit(__doc__)
-    USE_PROGRAM = sys.argv[1:] == [] and PROGRAM.exists()
+    USE_PROGRAM = WORDS == [] and PROGRAM.exists()
     with tempfile.TemporaryDirectory() as folder:
         FOLDER = pathlib.Path(folder)
         main()

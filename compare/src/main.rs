@@ -73,7 +73,32 @@ fn usage() -> ! {
     std::process::exit(2);
 }
 
+/// Ends the run unless each word is one of these options, those with a number followed by one.
+fn only(args: &[String], numbers: &[&str], flags: &[&str]) {
+    let mut rest = args.iter();
+    while let Some(word) = rest.next() {
+        let known = if numbers.contains(&word.as_str()) {
+            rest.next().is_some_and(|n| n.parse::<u64>().is_ok())
+        } else {
+            flags.contains(&word.as_str())
+        };
+        if !known {
+            eprintln!("compare: not an option here, or without its number: {word}");
+            usage();
+        }
+    }
+}
+
+/// The words of a command that takes so many at most, none of them an option.
+fn words(args: &[String], most: usize) -> &[String] {
+    if args.len() > most || args.iter().any(|a| a.starts_with('-')) {
+        usage();
+    }
+    args
+}
+
 fn run(args: &[String]) {
+    only(args, &["--seed", "--count", "--seconds"], &["--full", "--unshrunk"]);
     let seed = number(args, "--seed").unwrap_or(1);
     let seconds = number(args, "--seconds");
     let count = number(args, "--count").unwrap_or(if seconds.is_some() {
@@ -116,9 +141,13 @@ fn run(args: &[String]) {
 
 fn main() {
     let args: Vec<String> = std::env::args().skip(1).collect();
-    match args.first().map(String::as_str) {
-        Some("run") => run(&args[1..]),
-        Some("exhaustive") => {
+    let Some((command, args)) = args.split_first() else {
+        usage();
+    };
+    match command.as_str() {
+        "run" => run(args),
+        "exhaustive" => {
+            only(args, &[], &["--few", "--unshrunk"]);
             let start = Instant::now();
             let calls = told(util_calls::exhaustive()) + told(flags::exhaustive());
             let time = start.elapsed().as_secs_f64();
@@ -127,26 +156,38 @@ fn main() {
             );
             exhaustive::run(args.iter().any(|a| a == "--few"));
         }
-        Some("cuts") => cuts::run(
-            number(&args, "--seed").unwrap_or(1),
-            number(&args, "--count").unwrap_or(10_000),
-        ),
-        Some("one") => match args.get(1).and_then(|line| Input::of_line(line)) {
-            Some(input) => match Checker::default().input(&input) {
-                Ok(()) => println!("no difference"),
-                Err(what) => report(&input, &what),
+        "cuts" => {
+            only(args, &["--seed", "--count"], &[]);
+            cuts::run(
+                number(args, "--seed").unwrap_or(1),
+                number(args, "--count").unwrap_or(10_000),
+            );
+        }
+        "one" => match words(args, 1) {
+            [line] => match Input::of_line(line) {
+                Some(input) => match Checker::default().input(&input) {
+                    Ok(()) => println!("no difference"),
+                    Err(what) => report(&input, &what),
+                },
+                None => usage(),
             },
-            None => usage(),
+            _ => usage(),
         },
-        Some("sample") => match args.get(1) {
-            Some(out) => sample::run(out, args.get(2).map(String::as_str)),
-            None => usage(),
+        "sample" | "sample-full" => match words(args, 2) {
+            [] => usage(),
+            [out, rest @ ..] => {
+                let dir = rest.first().map(String::as_str);
+                if command == "sample" {
+                    sample::run(out, dir);
+                } else {
+                    sample_full::run(out, dir);
+                }
+            }
         },
-        Some("sample-full") => match args.get(1) {
-            Some(out) => sample_full::run(out, args.get(2).map(String::as_str)),
-            None => usage(),
+        "bench" => match words(args, 1).first().map(String::as_str) {
+            part @ (None | Some("rows" | "full")) => bench::run(part),
+            Some(_) => usage(),
         },
-        Some("bench") => bench::run(args.get(1).map(String::as_str)),
         _ => usage(),
     }
 }

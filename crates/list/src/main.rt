@@ -20,6 +20,7 @@ use printer::LINES;
 use printer::PrintStep;
 use printer::Printer;
 use printing::LINE_BYTES;
+use util::ReadU32;
 
 // One byte more than any bundle has, so that a longer input shows.
 const INPUT_BYTES: usize = BUNDLE_BYTES + 1;
@@ -30,7 +31,7 @@ pub struct Written {
     pub all: bool,
 }
 
-// Writes the line that the step from `pending` gives: the only place that writes to standard output.
+// Writes the line that the step from `pending` gives: the only place that writes to standard output but for --help and --version.
 fn write_line(bytes: &[u8], segments: &[u64], pending: Printer, text: &[u8]) -> bool
     requires { ⌜ lineText (answered (printStep (now bytes) (now segments) (pendingOf pending))) ≡ some (now text) ⌝ }
 {
@@ -87,6 +88,12 @@ fn say(text: &[u8]) {
     io::write_all(STDERR_FILENO, text);
 }
 
+// Says why a call failed, by errno, which a write that succeeds leaves alone.
+fn fail(what: &[u8]) {
+    say(b"list: ");
+    os::fail(what);
+}
+
 fn say_rule(rule: Rule) {
     match rule {
         Rule::CutShort => say(b"a record is cut short"),
@@ -112,8 +119,31 @@ fn say_broken(bytes: &[u8]) {
     }
 }
 
-fn say_refused(bytes: &[u8]) {
+// Whether a file starts as a Mach-O file does: thin or fat, of either width and byte order. No bundle does, for its first record would
+// have more bytes than any bundle.
+fn is_macho(bytes: &[u8]) -> bool {
+    match util::read_u32_le_at(bytes, 0) {
+        ReadU32::Value(magic) => match magic {
+            0xFEEDFACF | 0xFEEDFACE | 0xCFFAEDFE | 0xCEFAEDFE | 0xBEBAFECA | 0xBFBAFECA => true,
+            _ => false,
+        },
+        ReadU32::Nothing => false,
+    }
+}
+
+fn say_macho(bytes: &[u8]) {
     if BUNDLE_BYTES < bytes.len() {
+        say(b"list: refused 5: ");
+    } else {
+        say(b"list: refused 2: ");
+    }
+    say(b"this is a Mach-O file and not a bundle; `scripts/make_bundle.py --macho FILE` makes a bundle of it\n");
+}
+
+fn say_refused(bytes: &[u8]) {
+    if is_macho(bytes) {
+        say_macho(bytes);
+    } else if BUNDLE_BYTES < bytes.len() {
         say(b"list: refused 5: a bundle has at most 65536 bytes\n");
     } else {
         say_broken(bytes);
@@ -127,7 +157,7 @@ fn print_input(space: &[u8], count: usize)
     let bytes = &space[..count];
     let written = print_listing(bytes);
     if !written.all {
-        os::fail(b"list: standard output");
+        fail(b"standard output");
     }
     say_refused(bytes);
 }
@@ -161,54 +191,75 @@ fn print_from(fd: i32, name: &[u8]) {
     let mut space = [0u8; INPUT_BYTES];
     match read_input(fd, &mut space) {
         Input::Bytes(count) => print_input(&space, count),
-        Input::Failed => os::fail(name),
+        Input::Failed => fail(name),
     }
 }
 
 fn print_file(path: &[u8]) {
     let fd = os::open_read(path);
     if fd < 0 {
-        os::fail(path);
+        fail(path);
         return;
     }
     print_from(fd, path);
     libc::close(fd);
 }
 
-fn usage() {
-    say(
-        b"usage: list [FILE]\nPrints the types that a bundle lists: the file's, or standard input's where there is no FILE.\nA line has a type's address, its kind and its name; the last one is `end` and the number of types.\n",
+fn print(text: &[u8]) {
+    if !io::write_all(STDOUT_FILENO, text) {
+        fail(b"standard output");
+    }
+}
+
+fn print_help() {
+    print(
+        b"usage: list [FILE]\n       list --help | --version\nPrints the types that a bundle lists: the file's, or standard input's where there is no FILE.\nA line has a type's address, its kind and its name; the last one is `end` and the number of types.\nA bundle comes from a Mach-O file, such as a framework's, by scripts/make_bundle.py:\n    scripts/make_bundle.py --macho Name.framework/Name | target/bin/list\n",
     );
 }
 
-// A word that begins with `-` is no file: no option is known but --help, and both get the usage.
+// The only place that has the version.
+fn print_version() {
+    print(b"list 0.1.0\n");
+}
+
+fn say_option(word: &[u8]) {
+    say(b"list: no such option: ");
+    say(word);
+    say(b" (list --help says more)\n");
+}
+
+// A word that begins with `-` is an option and no file.
 fn print_argument(word: &[u8]) {
-    if 0 < word.len() {
-        if word[0] == b'-' {
-            usage();
-            return;
-        }
+    if word.len() == 0 {
+        print_file(word);
+    } else if word[0] != b'-' {
+        print_file(word);
+    } else if check::same(word, b"--help") {
+        print_help();
+    } else if check::same(word, b"--version") {
+        print_version();
+    } else {
+        say_option(word);
     }
-    print_file(word);
 }
 
 fn main() {
     let count = os::arg_count();
     if 2 < count {
-        usage();
+        say(b"list: one FILE at most (list --help says more)\n");
         return;
     }
     if count < 2 {
         if libc::isatty(STDIN_FILENO) == 1 {
             say(b"list: reading a bundle from the terminal; `list --help` says more\n");
         }
-        print_from(STDIN_FILENO, b"list: standard input");
+        print_from(STDIN_FILENO, b"standard input");
         return;
     }
     let mut path = io::buffer();
     let length = os::arg(1, &mut path);
     if os::errno() != 0 {
-        os::fail(b"list: argument");
+        fail(b"argument");
         return;
     }
     print_argument(&path[..length]);
