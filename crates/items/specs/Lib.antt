@@ -1,7 +1,12 @@
+pub mod Ash
 pub mod Beside
+pub mod ClearLaws
 pub mod Clue
 pub mod CutLaws
 pub mod Elder
+pub mod Elm
+pub mod ElmBeside
+pub mod ElmTexts
 pub mod Items
 pub mod Keys
 pub mod ListedLaws
@@ -12,4 +17,3 @@ pub mod PremiseLaws
 pub mod ProgramLaws
 pub mod Texts
 pub mod TextsLaws
-pub mod Yew
