@@ -2,7 +2,7 @@
 -- is `Su`: cut to 49 they are clear of every such name, the body is there, and the name of its superclass comes out as `S`.
 use Prim.Native.Nat.{ℕ, zero, suc, _≤_, _<_}
 use native.Mathlib.Omega.{arith}
-use mathlib.Core.Path.{_≡_, refl, _∙_, ap}
+use mathlib.Core.Path.{_≡_, refl}
 use mathlib.Core.Logic.{inl, inr, ⊎-elim}
 use mathlib.Core.List.{List, [], _∷_, _++_}
 use mathlib.Core.Bool.{Bool, true, false, cond}
@@ -15,12 +15,12 @@ use Rattle.util.specs.LittleEndian.{littleEndian, bytesAt, littleAt, twosComple
 use Rattle.util.specs.Pointer.{relativePointer, relativeAddress}
 use Rattle.util.specs.Cstr.{place, textAt, partOf}
 use Rattle.segment.specs.Segments.{segmentsOf, fileOffset, decides, inFile}
-use Rattle.runtime.specs.Reads.{nothing, within, bytesPlace, textOffset, textPlace, run, extent, path, bind, Clear}
+use Rattle.runtime.specs.Reads.{nothing, within, bytesPlace, textOffset, textPlace, run, extent, path, bind}
 use Rattle.runtime.specs.FieldName.{inImage}
 use Rattle.context.specs.Context.{kindOf}
 use Rattle.typedescriptor.specs.Row.{rowName, descriptor}
 use Rattle.typedescriptor.specs.Slots.{slotRow}
-use Rattle.typebody.specs.Body.{Body, ofClass, fixed, classBody, bodyBytes, body, slotBody}
+use Rattle.typebody.specs.Body.{ofClass, fixed, classBody, bodyBytes, body, slotBody}
 use Rattle.field.specs.Fields.{fieldStep, descriptorFrom, descriptorAt}
 use Rattle.parent.specs.Context.{headerIn, header}
 use Rattle.parent.specs.Chain.{contextsMost, headerAt}

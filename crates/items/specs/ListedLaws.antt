@@ -1,6 +1,6 @@
 -- The calls give the items. Stepping from a walk's start to its end gives the items of a kind, in order and with their keys, and nothing else: the rows of a types
--- section (`rows-listed`), the blocks behind a body (`blocks-listed`), the entries of a block (`entries-listed`), the contexts around a row (`contexts-listed`), the
--- descriptors of a fields section (`descriptors-listed`) and their records (`records-listed`). What is read by one call is its item (`body-listed`, `block-listed`,
+-- section (`rows-listed`), the blocks behind a body (`blocks-listed`), the entries of a block (`entries-listed`), the contexts around a row (`contexts-listed`,
+-- with their names `contexts-named`), the descriptors of a fields section (`descriptors-listed`) and their records (`records-listed`). What is read by one call is its item (`body-listed`, `block-listed`,
 -- `init-listed`, `pointer-listed`, `offsets-listed`, `static-listed`). An item of a slot without a row is none (`no-row`).
 use Prim.Native.Nat.{ℕ, zero, suc, _+_, _*_, _^_, _≤_, _<_}
 use native.Mathlib.Decide.{decLt}
@@ -38,13 +38,17 @@ use Rattle.field.specs.Fields.{descriptorAt}
 use Rattle.field.specs.FieldsLaws.{listed as listedDescriptors, listed-all as descriptors-all}
 use Rattle.field.specs.Records.{recordsOf, descriptorRecord}
 use Rattle.field.specs.RecordsLaws.{listed as steppedRecords, listed-records}
-use Rattle.parent.specs.Context.{Header, Context, withName}
+use Rattle.parent.specs.Context.{Header, Context, name, contextName, withName}
 use Rattle.parent.specs.Chain.{contextsMost, headerAt, contextAt, chain}
 use Rattle.parent.specs.ChainLaws.{chain-at, stepped as steppedContexts, stepped-all}
 use Rattle.parent.specs.PathLaws.{chain-length}
 use Rattle.items.specs.Keys.{Sections, EntryKind, Key, Answer, slotOf}
 use Rattle.items.specs.Items.{rowOfSlot, bodyOfSlot, blockOfSlot, initOfSlot, pointerOfSlot, offsetsOfSlot, tableKind, entryLayout, Table, tableOf, entryOfSlot, contextOfSlot, item}
+use Rattle.items.specs.Texts.{NameKey, readName}
+use Rattle.items.specs.Beside.{besideOf}
 use Rattle.items.specs.ProgramLaws.{run-map, un-map, un-map-none, map-none, bind-none}
+use Rattle.items.specs.PremiseLaws.{context-text}
+use Rattle.items.specs.TextsLaws.{ofName, beside-read}
 
 -- a key with its answer
 pub record Item : Type 0 where
@@ -297,6 +301,33 @@ module _ (image segments : List ℕ) (s : Sections) (i : ℕ) (r : TypeRow) (is-
           let its : run image segments (contextOfSlot s i k) ≡ run image segments (headerAt k (r .parent))
           = simp (lt-ltb k contextsMost l) (run-bind image segments (λ r. headerAt k (r .parent)) (rowOfSlot s i) ∙ rw the-row) in
           rw (chain-at image segments contextsMost k (r .parent) l) (header (run image segments (headerAt k (r .parent))) ∙ ap (Option·map Answer.context) (sym its))
+      go (no l) =
+          rw (past-end (chain image segments contextsMost (r .parent)) k (omega (arith, chain-length image segments contextsMost (r .parent))))
+          (simp (le-ltb k contextsMost (omega arith)))
+
+  -- and its name is the text beside that item, place and bytes
+  pub contexts-named : (strings : List ℕ) (start n k : ℕ) → contextsMost ≤ n
+      → Option·map ofName (andThen (getElem? (steppedContexts image segments n (r .parent) 0) k) (λ c. c .name)) ≡ besideOf image segments strings start s (NameKey.context i k)
+  unfolding contextOfSlot run contextAt withName contextName
+  contexts-named strings start n k h =
+      rw (stepped-all image segments n (r .parent) h)
+      (ap (Option·map ofName) (go (decLt k contextsMost))
+      ∙ sym (beside-read image segments strings start s (NameKey.context i k) refl ∙ ap (Option·map ofName) its-run))
+    where
+      its-run : run image segments (readName s (NameKey.context i k)) ≡ andThen (run image segments (contextOfSlot s i k)) (λ h. run image segments (name (h .address) (h .flags)))
+      its-run = ap (run image segments) (context-text s i k) ∙ run-bind image segments (λ h. name (h .address) (h .flags)) (contextOfSlot s i k)
+
+      named : (x : Option Header) → andThen (Option·map (withName image segments) x) (λ c. c .name) ≡ andThen x (λ h. run image segments (name (h .address) (h .flags)))
+      named none = refl
+      named (some h) = refl
+
+      go : Dec (k < contextsMost)
+          → andThen (getElem? (chain image segments contextsMost (r .parent)) k) (λ c. c .name)
+          ≡ andThen (run image segments (contextOfSlot s i k)) (λ h. run image segments (name (h .address) (h .flags)))
+      go (yes l) =
+          let its : run image segments (contextOfSlot s i k) ≡ run image segments (headerAt k (r .parent))
+          = simp (lt-ltb k contextsMost l) (run-bind image segments (λ r. headerAt k (r .parent)) (rowOfSlot s i) ∙ rw the-row) in
+          rw (chain-at image segments contextsMost k (r .parent) l, its) (named (run image segments (headerAt k (r .parent))))
       go (no l) =
           rw (past-end (chain image segments contextsMost (r .parent)) k (omega (arith, chain-length image segments contextsMost (r .parent))))
           (simp (le-ltb k contextsMost (omega arith)))

@@ -15,7 +15,7 @@ use Rattle.util.specs.LittleEndian.{unsignedIn, signedIn}
 use Rattle.util.specs.Pointer.{relativePointer}
 use Rattle.util.specs.Cstr.{Place, textAt}
 use Rattle.runtime.specs.Reads.{Reads, done, nothing, bytes, text, textOffset, run, Range, bytesRange, textRange, also, path, bind, All, Clear}
-use Rattle.runtime.specs.ReadsLaws.{run-bind, path-bind}
+use Rattle.runtime.specs.ReadsLaws.{path-bind}
 use Rattle.runtime.specs.PathLaws.{bytes-clear}
 use Rattle.context.specs.Context.{contextKind, hasName}
 use Rattle.typedescriptor.specs.Row.{TypeRow, nameAddress, typeRow, rowName, descriptor}

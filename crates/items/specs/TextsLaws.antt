@@ -1,25 +1,23 @@
--- Texts by the cut. What the calls tell of a text, and the bytes that they hand out for it, is what is looked up at its name's address (`beside-read`): the bytes too.
--- So under the premise for a text, and for the name of the row that it hangs on, the cut image tells the whole image's, or nothing, or of a field's name what the
--- string section has (`cut-beside`). The item that a text stands beside does not depend on it, and the text is there no longer than the item (`beside-path`).
+-- Texts by the cut. What the calls tell of a text, and the bytes that they hand out for it, is what is looked up at the address of its name, the bytes too (`part-read`,
+-- `field-part`, `beside-by`, `beside-read`). So under the premise for a text, and for the name of the row that it hangs on, the cut image tells the whole image's, or nothing, or
+-- of a field's name what the string section has (`cut-beside`). A text is read where its item is (`beside-path`), and without the item it is not told (`no-beside`).
 use Prim.Native.Nat.{ℕ, _+_, _<_}
 use native.Mathlib.Decide.{decLt}
 use native.Mathlib.Omega.{arith}
 use mathlib.Core.Path.{_≡_, refl, sym, ap, _∙_}
-use mathlib.Core.List.{List, [], _∷_, _++_, append-nil}
-use mathlib.Core.Bool.{Bool, true, false, cond, _&&_}
+use mathlib.Core.List.{List, [], _++_, append-nil}
+use mathlib.Core.Bool.{Bool, true, false, cond, _&&_, false≢true}
 use mathlib.Core.Option.{Option, some, none, Option·map}
 use lib.ListN.{take}
-use lib.Dec.{eqb}
 use borrow.Author.Tests.{eq-eqb, ne-eqb}
 use Rattle.util.specs.Cstr.{Place, partOf}
-use Rattle.runtime.specs.Reads.{Reads, done, andThen, textPlace, run, Range, bytesRange, also, path, bind, All, every, Clear, endsBy}
+use Rattle.runtime.specs.Reads.{Reads, done, andThen, textPlace, run, Range, bytesRange, also, path, bind, every, Clear, endsBy}
 use Rattle.runtime.specs.ReadsLaws.{run-bind, path-bind, cut}
 use Rattle.runtime.specs.PathLaws.{bytes-clear, path-text-zero}
 use Rattle.runtime.specs.CallsLaws.{run-text, run-no-text}
 use Rattle.runtime.specs.FieldName.{NamePlace, inImage, inStrings, sectionText, orElse, fieldName}
 use Rattle.typebody.specs.Body.{Body, ofClass, ofStruct, ofEnum, superclassName}
 use Rattle.field.specs.declared.record.FieldRecord.{FieldRecord}
-use Rattle.field.specs.declared.iter.FieldDescriptor.{FieldDescriptor}
 use Rattle.field.specs.Fields.{descriptorAt}
 use Rattle.field.specs.Records.{descriptorRecord, ofRecord}
 use Rattle.parent.specs.Context.{Name, Header, name, contextName, withName}
@@ -37,7 +35,7 @@ use Rattle.items.specs.PremiseLaws.{rowNamed, row-text, header-text, loo
 abbrev nameIn : Place → List ℕ → Name
 nameIn p t = record { place = p; bytes = t }
 
-abbrev ofName : Name → Beside
+abbrev pub ofName : Name → Beside
 ofName n = record { place = inImage (n .place); bytes = n .bytes }
 
 module _ (image segments : List ℕ) where
@@ -122,6 +120,16 @@ module _ (image segments strings : List ℕ) (start : ℕ) where
         go : (x : Option ℕ) → withPart image strings (andThen x (placeAt (isField n))) ≡ andThen x (λ a. withPart image strings (placeAt (isField n) a))
         go none = refl
         go (some a) = refl
+
+    -- so of a text that is no field's name it is what the program of the name answers
+    pub beside-read : (n : NameKey) → isField n ≡ false → besideOf image segments strings start s n ≡ Option·map ofName (run image segments (readName s n))
+    unfolding readName
+    beside-read n e = beside-by n ∙ rw (run-bind image segments lookup (nameOf s n)) (go (isField n) e (run image segments (nameOf s n)))
+      where
+        go : (b : Bool) → b ≡ false → (x : Option ℕ) → andThen x (λ a. withPart image strings (placeAt b a)) ≡ Option·map ofName (andThen x (λ a. run image segments (lookup a)))
+        go true f x = absurd (false≢true (sym f))
+        go false f none = refl
+        go false f (some a) = part-read image segments strings a
 
   -- a field's name: the image's text, else the string section's
   pub field-part : (a : ℕ) → (a ≡ 0 → ⊥)
