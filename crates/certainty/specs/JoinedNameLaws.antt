@@ -2,7 +2,7 @@
 -- (`name-kept`, `name-first`).
 use Prim.Native.Nat.{ℕ, zero, suc, _+_, _^_}
 use mathlib.Core.Path.{_≡_, refl, sym, _∙_, ap}
-use mathlib.Core.List.{List, [], _∷_, _++_}
+use mathlib.Core.List.{List, _++_}
 use mathlib.Core.Bool.{Bool, true, false, cond, _&&_, _||_, and-eq-true-iff}
 use mathlib.Core.Option.{Option, some, none, Option·map}
 use lib.ListN.{length, take, drop, take-append-drop}
@@ -10,10 +10,10 @@ use lib.Dec.{leb, eqb}
 use Rattle.runtime.specs.Reads.{nothing, bytes, andThen, bytesPlace, run}
 use Rattle.typedescriptor.specs.Row.{TypeRow}
 use Rattle.typedescriptor.specs.Slots.{slotRow}
-use Rattle.parent.specs.Context.{Header, headerIn, header, name, contextName, Context, withName}
+use Rattle.parent.specs.Context.{Header, headerIn, header, name, contextName, withName}
 use Rattle.parent.specs.Chain.{contextsMost, headerAt, chain}
 use Rattle.parent.specs.ChainLaws.{chained, chain-by, next-by}
-use Rattle.qualifiedname.specs.Name.{isThere, hops, qualifiedName, tooDeep, nameAnswer}
+use Rattle.qualifiedname.specs.Name.{qualifiedName, tooDeep, nameAnswer}
 use Rattle.certainty.specs.Certain.{ifThere, certain}
 use Rattle.certainty.specs.CertainLaws.{certain-run}
 use Rattle.certainty.specs.JoinedName.{headerCertain, chainCertain, nameCertain, joinedName}
