@@ -396,6 +396,14 @@ impl Checker {
                 of(proved_fullrows::class_methods(image, input, 0, 0, lent)),
                 "{more} segment numbers too many for the methods of classes"
             );
+            same!(
+                [Some(Refused(1)); 2],
+                [
+                    of(proved_archive::row_certain(image, input, 0)),
+                    of(proved_archive::name_certain(image, input, 0)),
+                ],
+                "{more} segment numbers too many for what is certain"
+            );
             same!(true, self.holds(&[]), "numbers left alone by refused calls");
             same!(
                 true,

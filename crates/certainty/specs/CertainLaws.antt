@@ -1,16 +1,15 @@
 -- What is certain for the bytes that arrived is so whatever bytes follow (`certain-run`), or in other words for every image of which they are the first (`certain-first`): the
 -- program's answer is that image's, and where it has none the image has none. It stays certain (`certain-stays`). No premise on texts.
 use Prim.Native.Nat.{ℕ, zero, suc, _+_, _≤_, _<_}
-use native.Mathlib.Decide.{decLt}
 use native.Mathlib.Omega.{arith}
 use mathlib.Core.Path.{_≡_, refl, sym, _∙_, ap}
 use mathlib.Core.List.{List, [], _∷_, _++_}
-use mathlib.Core.Bool.{Bool, true, false, cond, _&&_, and-eq-true-iff, false≢true}
+use mathlib.Core.Bool.{true, false, _&&_, and-eq-true-iff, false≢true}
 use mathlib.Core.Option.{Option, some, none, Option·map}
 use lib.ListN.{length, take, drop, length-append, length-drop, take-append-drop}
 use lib.Seq.{take-append-le, drop-append-le}
 use lib.Dec.{leb, ltb, leb·suc-suc}
-use borrow.Author.Tests.{le-leb, leb-true, lt-ltb, le-ltb, ltb-true, ltb-false}
+use borrow.Author.Tests.{le-leb, leb-true, lt-ltb, ltb-true}
 use Rattle.utf8.specs.Text.{untilNul, wellFormed, textLength}
 use Rattle.segment.specs.Segments.{segmentsOf, fileOffset}
 use Rattle.util.specs.Cstr.{Place, place, textAt}

@@ -1,17 +1,17 @@
--- What is certain of a listing. Of a row one comparison decides: its name ends before the last byte that arrived (`row-certain`), and so it does for a text beside an
--- item (`text-certain`). All that hangs on such a row, and is in the listing of what arrived, is then in the listing of every image of which that is the beginning, word for
--- word (`item-kept`, and `item-first` in plain numbers). Items of the fields section need no row.
-use Prim.Native.Nat.{ℕ, _+_, _*_, _^_, _≤_, _<_}
+-- What is certain of a listing. Of a row one comparison decides: its name ends before the last byte that arrived (`row-certain`); so it does for a text beside an item
+-- (`text-certain`, `context-name-certain`), which is then that of every image that starts with these bytes (`text-first`, `context-name-first`, `field-name-first`). All that hangs
+-- on a certain row, and is in the listing of what arrived, is an item of every such image, word for word (`item-kept`, and `item-first` in plain numbers). Items of the fields
+-- section need no row.
+use Prim.Native.Nat.{ℕ, _+_, _^_, _≤_, _<_}
 use native.Mathlib.Decide.{decLe, decLt}
 use native.Mathlib.Omega.{arith}
 use mathlib.Core.Path.{_≡_, refl, sym, _∙_, ap}
-use mathlib.Core.List.{List, [], _∷_, _++_}
+use mathlib.Core.List.{List, _∷_, _++_}
 use mathlib.Core.Bool.{Bool, true, false, cond, _&&_, and-eq-true-iff, and-true, false≢true}
 use mathlib.Core.Option.{Option, some, none, Option·map}
-use lib.ListN.{length, take, drop, length-append, length-drop, take-append-drop}
-use lib.Seq.{drop-append-le}
+use lib.ListN.{length, take, drop, length-drop}
 use lib.Dec.{leb, ltb, eqb}
-use borrow.Author.Tests.{le-leb, leb-true, lt-leb, lt-ltb, le-ltb, ltb-true, ltb-false, ne-eqb}
+use borrow.Author.Tests.{le-leb, lt-leb, lt-ltb, le-ltb, ne-eqb}
 use Rattle.utf8.specs.Text.{untilNul}
 use Rattle.segment.specs.Segments.{segmentsOf, fileOffset}
 use Rattle.util.specs.LittleEndian.{unsignedIn, signedIn}

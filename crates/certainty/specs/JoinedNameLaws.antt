@@ -1,8 +1,8 @@
 -- A joined name that is certain for the bytes that arrived is that of every image that starts with them, its refusals 3 and 4 included, for every length of the buffer
--- (`name-kept`, `name-first`).
+-- (`name-kept`, `name-first`), and so is the line that the printed listing has of the row (`line-first`).
 use Prim.Native.Nat.{ℕ, zero, suc, _+_, _^_}
 use mathlib.Core.Path.{_≡_, refl, sym, _∙_, ap}
-use mathlib.Core.List.{List, [], _∷_, _++_}
+use mathlib.Core.List.{List, _++_}
 use mathlib.Core.Bool.{Bool, true, false, cond, _&&_, _||_, and-eq-true-iff}
 use mathlib.Core.Option.{Option, some, none, Option·map}
 use lib.ListN.{length, take, drop, take-append-drop}
@@ -10,12 +10,13 @@ use lib.Dec.{leb, eqb}
 use Rattle.runtime.specs.Reads.{nothing, bytes, andThen, bytesPlace, run}
 use Rattle.typedescriptor.specs.Row.{TypeRow}
 use Rattle.typedescriptor.specs.Slots.{slotRow}
-use Rattle.parent.specs.Context.{Header, headerIn, header, name, contextName, Context, withName}
+use Rattle.parent.specs.Context.{Header, headerIn, header, name, contextName, withName}
 use Rattle.parent.specs.Chain.{contextsMost, headerAt, chain}
 use Rattle.parent.specs.ChainLaws.{chained, chain-by, next-by}
-use Rattle.qualifiedname.specs.Name.{isThere, hops, qualifiedName, tooDeep, nameAnswer}
+use Rattle.qualifiedname.specs.Name.{qualifiedName, tooDeep, nameAnswer}
+use Rattle.printing.specs.Lines.{nameBytes, nameText, rowLine}
 use Rattle.certainty.specs.Certain.{ifThere, certain}
-use Rattle.certainty.specs.CertainLaws.{certain-run}
+use Rattle.certainty.specs.CertainLaws.{certain-run, certain-first}
 use Rattle.certainty.specs.JoinedName.{headerCertain, chainCertain, nameCertain, joinedName}
 
 -- at or above 2^64 - 4 there is no header
@@ -100,3 +101,15 @@ module _ (segments types : List ℕ) (start i : ℕ) (arrived : List ℕ) (e : n
   name-first image f size =
       let g : image ≡ arrived ++ drop (length arrived) image = sym (take-append-drop (length arrived) image) ∙ ap (λ (s : List ℕ). s ++ drop (length arrived) image) f in
       ap (λ (s : List ℕ). joinedName s segments types start i size) g ∙ name-kept (drop (length arrived) image) size
+
+  -- and the row's line of the printed listing
+  pub line-first : (r : TypeRow) → run arrived segments (slotRow types start i) ≡ some r → (image : List ℕ) → take (length arrived) image ≡ arrived
+      → (run image segments (slotRow types start i) ≡ some r) × (rowLine image segments r ≡ rowLine arrived segments r)
+  unfolding nameCertain rowLine nameText
+  line-first r t image f =
+      let w = and-eq-true-iff (certain arrived segments (slotRow types start i)) (ifThere (run arrived segments (slotRow types start i)) (λ r. chainCertain arrived segments contextsMost (r .parent))) .0 e in
+      let c : chainCertain arrived segments contextsMost (r .parent) ≡ true = (rw t at (w .1)) in
+      let g : arrived ++ drop (length arrived) image ≡ image = ap (λ (s : List ℕ). s ++ drop (length arrived) image) (sym f) ∙ take-append-drop (length arrived) image in
+      let n : nameAnswer image segments r nameBytes ≡ nameAnswer arrived segments r nameBytes =
+      ap (λ (s : List ℕ). nameAnswer s segments r nameBytes) (sym g) ∙ answer-kept arrived segments (drop (length arrived) image) r nameBytes c in
+      (certain-first segments (slotRow types start i) arrived (w .0) image f ∙ t, rw n)

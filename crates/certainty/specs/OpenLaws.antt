@@ -1,11 +1,11 @@
 -- Where a row of the listing of what arrived is not certain, it is open: one byte more, whichever but NUL, and the slot has another row or none (`row-open`). So no row is called
 -- open that is settled.
-use Prim.Native.Nat.{ℕ, zero, suc, _+_, _^_, _≤_, _<_}
+use Prim.Native.Nat.{ℕ, zero, suc, _+_, _^_, _≤_}
 use native.Mathlib.Omega.{arith}
 use mathlib.Core.Path.{_≡_, refl, sym, _∙_, ap}
 use mathlib.Core.List.{List, [], _∷_, _++_}
 use mathlib.Core.Bool.{Bool, true, false, cond, true≢false}
-use mathlib.Core.Option.{Option, some, none}
+use mathlib.Core.Option.{some, none}
 use lib.ListN.{length, take, drop}
 use lib.Seq.{drop-append-le}
 use lib.Dec.{leb, ltb}

@@ -5,13 +5,12 @@ use native.Mathlib.Numerals.{add-one}
 use native.Mathlib.Omega.{arith}
 use mathlib.Core.Path.{_≡_, refl, sym, _∙_, ap}
 use mathlib.Core.List.{List, [], _∷_}
-use mathlib.Core.Bool.{Bool, true, false, cond, _&&_, _||_, and-true, or-true, false≢true}
+use mathlib.Core.Bool.{Bool, true, false, _&&_, and-true, or-true, false≢true}
 use mathlib.Core.Option.{Option, some, none}
 use lib.ListN.{length, take, drop, getD, length-take, length-drop, drop-of-length-le}
 use lib.Seq.{drop-cons}
-use lib.Dec.{leb, ltb, eqb}
+use lib.Dec.{leb}
 use borrow.Author.Tests.{le-leb, lt-leb, lt-ltb, le-ltb, eq-eqb, ne-eqb}
-use Rattle.utf8.specs.Text.{untilNul}
 use Rattle.segment.specs.Segments.{segmentsOf, fileOffset}
 use Rattle.util.specs.LittleEndian.{unsignedIn, signedIn}
 use Rattle.util.specs.Pointer.{relativePointer}

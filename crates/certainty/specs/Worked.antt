@@ -1,9 +1,9 @@
 -- Certainty worked out by computing: the images `Clue` and `Oak` of crate `items`, cut and whole, and one whose chain of contexts ends at an address outside the segments.
 use Prim.Native.Nat.{ℕ}
 use mathlib.Core.Path.{_≡_, refl}
-use mathlib.Core.List.{List, [], _∷_, _++_}
+use mathlib.Core.List.{List, [], _∷_}
 use mathlib.Core.Bool.{Bool, true, false}
-use mathlib.Core.Option.{Option, some, none}
+use mathlib.Core.Option.{Option, some}
 use lib.ListN.{take}
 use Rattle.utf8.specs.Table.{table}
 use Rattle.utf8.specs.Text.{following, goesOn, untilNul, textLength}
@@ -11,7 +11,7 @@ use Rattle.util.specs.LittleEndian.{littleEndian, bytesAt, littleAt, twosComple
 use Rattle.util.specs.Pointer.{relativePointer, relativeAddress}
 use Rattle.segment.specs.Segments.{segmentsOf, fileOffset, decides, inFile}
 use Rattle.util.specs.Cstr.{textAt}
-use Rattle.refusal.specs.Refusal.{Guarded, answered, refused}
+use Rattle.refusal.specs.Refusal.{Guarded, answered}
 use Rattle.runtime.specs.Reads.{within, bytesPlace, textOffset, run, bind}
 use Rattle.context.specs.Context.{kindOf}
 use Rattle.typedescriptor.specs.Row.{rowName, descriptor}

@@ -57,7 +57,7 @@ fn header_certain(image: &[u8], segments: &[u64], descriptor_va: u64) -> bool
     true
 }
 
-// Whether the contexts from an address on, of which 256 count, are certain with their names, and that there is no further one or one.
+// Whether the first 256 contexts from an address on are certain with their names, and whether there is one more.
 pub fn chain_certain(image: &[u8], segments: &[u64], parent_va: u64) -> bool
     ensures { λ r. ⌜ r ≡ chainCertain (now (image .entry)) (now (segments .entry)) contextsMost «parent_va» ⌝ }
 {

@@ -1,7 +1,6 @@
 -- `certainty::reads::is_nowhere` meets its contract.
 -- Assumes nothing.
 use Rattle.certainty.specs.ReadLaws.{in-file, not-in-file}
-use mathlib.Core.Path.{_∙_}
 use Rattle.util.specs.AnswersLaws.{told}
 use Rattle.segment.specs.Segments.{offsetOf}
 use borrow.Author.Needs.{needs}
