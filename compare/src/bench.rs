@@ -102,6 +102,60 @@ fn mapped(image: Vec<u8>, segments: usize) -> Input {
     input
 }
 
+/// How far apart the segments of `spread` start.
+const APART: u64 = 0x10_0000;
+
+/// `ROWS` rows with these flags and names of 8 bytes over so many segments, each with the names of its rows: neighbouring slots lie in different
+/// segments. A class has so many methods, 13 at most.
+fn spread(flags: u32, methods: usize, segments: usize) -> Input {
+    let size = if flags & 31 == 16 { 160 } else { 28 };
+    let each = ROWS.div_ceil(segments);
+    let piece = each * (size + 9);
+    let mut input = Input {
+        image: vec![0; segments * piece],
+        types_va: BASE + 0x4000_0000,
+        ..Input::default()
+    };
+    for i in 0..segments {
+        let offset = (i * piece) as u64;
+        input
+            .segments
+            .push([BASE + APART * i as u64, piece as u64, offset, piece as u64]);
+    }
+    let image = &mut input.image;
+    let mut put =
+        |off: usize, n: usize| image[off..off + 4].copy_from_slice(&(n as u32).to_le_bytes());
+    let places = |row: usize| {
+        let (piece, number) = (row % segments * piece, row / segments);
+        (
+            piece + number * size,
+            piece + each * size + 9 * number,
+            BASE + APART * (row % segments) as u64 + (number * size) as u64,
+        )
+    };
+    for row in 0..ROWS {
+        let (off, text, _) = places(row);
+        put(off, flags as usize);
+        put(off + 8, text - (off + 8));
+        if flags == ALL_BLOCKS {
+            put(off + 28, HAS_STUB as usize);
+        } else if methods > 0 {
+            put(off + 48, methods);
+            for w in 0..2 * methods {
+                put(off + 52 + 4 * w, (row + w) * 37 + 1);
+            }
+        }
+    }
+    for row in 0..ROWS {
+        let (_, text, address) = places(row);
+        input.image[text..text + 8].fill(b'a' + (row % 26) as u8);
+        let slot_va = input.types_va + 4 * row as u64;
+        let rel = address.wrapping_sub(slot_va) as i32;
+        input.types.extend_from_slice(&rel.to_le_bytes());
+    }
+    input
+}
+
 /// The shortest of some rounds, in nanoseconds per row or entry; each round has as many repetitions as fill some milliseconds.
 fn time(items: usize, mut pass: impl FnMut() -> usize) -> impl FnMut() -> (f64, usize) {
     let start = Instant::now();
@@ -640,6 +694,23 @@ fn rows_and_names() {
             }
         }
     }
+    for depth in [0, 3] {
+        let input = nested(17, NAMED, 8, depth, 200);
+        line(
+            &format!("whole      |     8 | {depth:5} |      200"),
+            whole(&input),
+        );
+    }
+    println!();
+    println!(
+        "Rows over all segments, neighbouring slots in different ones: names of 8 bytes, no contexts."
+    );
+    println!("listing    | segments |      Rust |    proved | ratio");
+    for segments in [2, 40, 200] {
+        let input = spread(17, 0, segments);
+        line(&format!("steps      | {segments:8}"), listing(&input));
+        line(&format!("whole      | {segments:8}"), whole(&input));
+    }
     println!();
     println!(
         "Deep chains, `whole`: names of 8 bytes, 2 segments, contexts with names and without."
@@ -681,6 +752,27 @@ fn full() {
     for segments in [2, 40] {
         for count in [1, 16, 1000] {
             let input = classes(count, segments);
+            line(
+                &format!("classes             | {count:5} | {segments:8}"),
+                class_methods(&input, count),
+            );
+        }
+    }
+    println!();
+    println!(
+        "The same with rows over all segments, neighbouring slots in different ones: nanoseconds per row, and per method."
+    );
+    println!("spread              | count | segments |      Rust |    proved | ratio");
+    for segments in [2, 40, 200] {
+        for (kind, flags) in [("struct", 17), ("class", 16), ("all blocks", ALL_BLOCKS)] {
+            let input = spread(flags, 0, segments);
+            line(
+                &format!("{kind:10}, records |       | {segments:8}"),
+                bodies(&input),
+            );
+        }
+        for count in [1, 13] {
+            let input = spread(HAS_VTABLE, count, segments);
             line(
                 &format!("classes             | {count:5} | {segments:8}"),
                 class_methods(&input, count),

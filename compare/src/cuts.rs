@@ -2,6 +2,9 @@
 //! paths end past c. Paths and texts are computed here from the bytes, by docs/SPECIFICATION.md, "Items, paths and the cut"; of the whole
 //! listing only which items there are is taken.
 
+#[path = "certain.rs"]
+mod certain;
+
 use crate::generate::{Generator, Rng};
 use crate::generate_full::FullGenerator;
 use crate::input::Input;
@@ -535,6 +538,7 @@ struct Counts {
     left_out: u64,
     survived: [u64; KINDS.len()],
     fell: [u64; KINDS.len()],
+    certain: certain::Counts,
 }
 
 impl Counts {
@@ -580,6 +584,8 @@ fn check(input: &Input, rng: &mut Rng, counts: &mut Counts) -> Result<(), String
     for i in 0..tried {
         let (from, to) = (i * all / tried, (i + 1) * all / tried);
         let cut = from + rng.below(to - from);
+        certain::check(input, cut, &whole, &metadata, &mut counts.certain)
+            .map_err(|what| format!("cut to {cut} of {} bytes: {what}", all - 1))?;
         if paths.left_out(cut as u64) {
             counts.left_out += 1;
             continue;
@@ -686,7 +692,8 @@ pub fn run(seed: u64, count: u64) {
     }
     let time = start.elapsed().as_secs_f64();
     println!(
-        "cuts, seed {seed}: {}; no difference; {time:.1} s",
-        counts.line()
+        "cuts, seed {seed}: {}; {}; no difference; {time:.1} s",
+        counts.line(),
+        counts.certain.line()
     );
 }

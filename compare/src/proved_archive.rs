@@ -1,5 +1,5 @@
 //! The proved side of the archive level, the functions of crates/exports_archive: field descriptors, field records alone and with their names, field
-//! offsets.
+//! offsets, and what is certain by an image's first bytes.
 
 use crate::input::Input;
 use crate::proved::{Answer, UNWRITTEN, refusal};
@@ -27,6 +27,28 @@ unsafe extern "C" {
         count: u32,
         number: u32,
         out: &mut [u64; 2],
+    ) -> u64;
+    fn hodrupec_row_certain(
+        image: *const u8,
+        image_len: usize,
+        segments: *const u64,
+        segment_numbers: usize,
+        types: *const u8,
+        types_len: usize,
+        vmaddr: u64,
+        slot: usize,
+        out: &mut [u64; 1],
+    ) -> u64;
+    fn hodrupec_name_certain(
+        image: *const u8,
+        image_len: usize,
+        segments: *const u64,
+        segment_numbers: usize,
+        types: *const u8,
+        types_len: usize,
+        vmaddr: u64,
+        slot: usize,
+        out: &mut [u64; 1],
     ) -> u64;
     fn hodrupec_named_records(
         image: *const u8,
@@ -106,4 +128,52 @@ pub fn named_records(
         return Err(refusal(status, &out));
     }
     Ok(out)
+}
+
+/// 1 if the row of a slot of the input's types section is certain for an image.
+#[inline]
+pub fn row_certain(image: Image<'_>, input: &Input, slot: usize) -> Answer<u64> {
+    let mut out = [UNWRITTEN; 1];
+    let status = unsafe {
+        hodrupec_row_certain(
+            image.bytes.as_ptr(),
+            image.bytes.len(),
+            image.segments.as_ptr(),
+            image.segments.len(),
+            input.types.as_ptr(),
+            input.types.len(),
+            input.types_va,
+            slot,
+            &mut out,
+        )
+    };
+    if status != 0 {
+        return Err(refusal(status, &out));
+    }
+    let [certain] = out;
+    Ok(certain)
+}
+
+/// 1 if the joined name of the row of a slot of the input's types section is certain for an image.
+#[inline]
+pub fn name_certain(image: Image<'_>, input: &Input, slot: usize) -> Answer<u64> {
+    let mut out = [UNWRITTEN; 1];
+    let status = unsafe {
+        hodrupec_name_certain(
+            image.bytes.as_ptr(),
+            image.bytes.len(),
+            image.segments.as_ptr(),
+            image.segments.len(),
+            input.types.as_ptr(),
+            input.types.len(),
+            input.types_va,
+            slot,
+            &mut out,
+        )
+    };
+    if status != 0 {
+        return Err(refusal(status, &out));
+    }
+    let [certain] = out;
+    Ok(certain)
 }

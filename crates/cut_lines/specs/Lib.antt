@@ -1,3 +1,4 @@
+pub mod CutBundles
 pub mod CutLines
 pub mod CutLinesLaws
 pub mod OakLines

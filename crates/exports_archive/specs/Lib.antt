@@ -1,2 +1,4 @@
+pub mod Certain
+pub mod CertainLaws
 pub mod Fields
 pub mod Offsets

@@ -9,16 +9,19 @@ use mathlib.Core.Bool.{Bool, true, false, cond, and-eq-true-iff}
 use mathlib.Core.Option.{Option, some, none}
 use lib.ListN.{length, take, length-take}
 use lib.Seq.{take-all, take-take}
-use Rattle.runtime.specs.Reads.{Reads, run, Range, bytesRange, path, All, every, Clear, endsBy}
+use Rattle.runtime.specs.Reads.{Reads, andThen, run, Range, bytesRange, path, All, every, Clear, endsBy}
 use Rattle.runtime.specs.ReadsLaws.{cut, local, rangeBytes}
 use Rattle.runtime.specs.PathLaws.{bytes-clear, by-ends}
 use Rattle.typedescriptor.specs.Row.{TypeRow, descriptor}
 use Rattle.typedescriptor.specs.Slots.{slots, Found, found, rowsFrom, rows}
 use Rattle.items.specs.Keys.{Sections, Key, Answer, slotOf}
 use Rattle.items.specs.Items.{item, rowOfSlot}
-use Rattle.items.specs.Texts.{NameKey, ClearOf}
+use Rattle.items.specs.Texts.{NameKey, nameOf, readName, ClearOf}
+use Rattle.items.specs.Beside.{Beside, besideOf, isField, sectionBeside, sectionOf}
 use Rattle.items.specs.ProgramLaws.{on-item}
 use Rattle.items.specs.PremiseLaws.{row-clear}
+use Rattle.items.specs.TextsLaws.{TextClaim, cut-beside}
+use Rattle.items.specs.OffsetsLaws.{offsetsTold, cut-offsets}
 
 -- the claim: the image's first `c` bytes give the whole image's answer if every range of the item's path ends at or before `c`, else none
 abbrev pub Claim : List ℕ → List ℕ → Sections → ℕ → Key → Type 0
@@ -55,10 +58,6 @@ module _ (image segments : List ℕ) (s : Sections) (c : ℕ) where
   pub cut-named : (k : Key) → OwnClear k → Claim image segments s c k
   cut-named k clear = cut-item k (own-clear k clear)
 
-  -- for all items, where the cut falls into no text that the listing of the whole image looks up
-  pub cut-listing : ((n : NameKey) → ClearOf image segments s c n) → (k : Key) → Claim image segments s c k
-  cut-listing clear k = cut-named k (λ i e. clear (NameKey.descriptor i))
-
   -- ---- what follows
 
   -- what the cut image still tells, the whole one tells, word for word, and of bytes before the cut
@@ -91,6 +90,72 @@ module _ (image segments : List ℕ) (s : Sections) (c : ℕ) where
                 let e : min d c ≡ c = omega arith in
                 rw e (take-all d (take c l) (simp length-take (omega arith)))
           ]
+
+-- ---- all that a listing tells
+
+-- what the cut image tells: of every item all numbers; of an offset list its place and count; and of every text, where the cut does not fall into that text, its place
+-- and its bytes
+pub record Cut (image segments strings : List ℕ) (start : ℕ) (s : Sections) (c : ℕ) : Type 0 where
+  pub items : (k : Key) → Claim image segments s c k
+  pub places : (i m : ℕ)
+      → offsetsTold (take c image) segments s i m ≡ cond (every (endsBy c) (path image segments (item s (Key.offsets i m)))) (offsetsTold image segments s i m) none
+  pub texts : (n : NameKey) → ClearOf image segments s c n → TextClaim image segments c strings start s n
+
+module _ (image segments strings : List ℕ) (start : ℕ) (s : Sections) (c : ℕ) where
+  -- the theorem: the cut falls into no name of a slot's descriptor
+  pub the-cut : ((i : ℕ) → ClearOf image segments s c (NameKey.descriptor i)) → Cut image segments strings start s c
+  the-cut clear =
+      record {
+        items = λ k. cut-named image segments s c k (λ i e. clear i);
+        places = λ i m. cut-offsets image segments s c i m (own-clear image segments s c (Key.offsets i m) (λ j e. clear j));
+        texts = λ n own. cut-beside image segments c strings start s n (λ i e. clear i) own;
+      }
+
+  -- nor into one of a context or of a field record: these are the texts that docs/SPECIFICATION.md has in the premise
+  pub cut-listing : ((i : ℕ) → ClearOf image segments s c (NameKey.descriptor i))
+      → ((i k : ℕ) → ClearOf image segments s c (NameKey.context i k))
+      → ((j k : ℕ) → ClearOf image segments s c (NameKey.field j k))
+      → ((k : Key) → Claim image segments s c k)
+      × ((i k : ℕ) → TextClaim image segments c strings start s (NameKey.context i k))
+      × ((j k : ℕ) → TextClaim image segments c strings start s (NameKey.field j k))
+  cut-listing rows contexts fields =
+      let w = the-cut rows in
+      (w .items, (λ i k. w .texts (NameKey.context i k) (contexts i k)), (λ j k. w .texts (NameKey.field j k) (fields j k)))
+
+  -- nor into any text that the listing of the whole image looks up
+  pub cut-all : ((n : NameKey) → ClearOf image segments s c n)
+      → ((k : Key) → Claim image segments s c k) × ((n : NameKey) → TextClaim image segments c strings start s n)
+  cut-all clear =
+      let w = the-cut (λ i. clear (NameKey.descriptor i)) in
+      (w .items, (λ n. w .texts n (clear n)))
+
+  -- what may become of a text: it is the whole image's, or missing, or for a field's name what the string section has at its address
+  pub data Became (n : NameKey) : Type 0 where
+    same : besideOf (take c image) segments strings start s n ≡ besideOf image segments strings start s n → Became n
+    missing : besideOf (take c image) segments strings start s n ≡ none → Became n
+    section : isField n ≡ true → besideOf (take c image) segments strings start s n ≡ sectionOf image segments strings start s n → Became n
+
+  pub becomes : (n : NameKey) → TextClaim image segments c strings start s n → Became n
+  unfolding sectionOf
+  becomes n e = go (every (endsBy c) (path image segments (readName s n))) (every (endsBy c) (path image segments (nameOf s n))) e
+    where
+      at : Bool → Option Beside
+      at b = andThen (run image segments (nameOf s n)) (λ a. cond b (sectionBeside strings start a) none)
+
+      none-of : (x : Option ℕ) → andThen {B = Beside} x (λ _. none) ≡ none
+      none-of none = refl
+      none-of (some a) = refl
+
+      of-section : (b : Bool) → isField n ≡ b → besideOf (take c image) segments strings start s n ≡ at b → Became n
+      of-section true t f = section t (f ∙ ap at (sym t))
+      of-section false t f = missing (f ∙ none-of (run image segments (nameOf s n)))
+
+      go : (a b : Bool)
+          → besideOf (take c image) segments strings start s n
+          ≡ cond a (besideOf image segments strings start s n) (cond b (sectionOf image segments strings start s n) none) → Became n
+      go true b f = same f
+      go false true f = of-section (isField n) refl f
+      go false false f = missing f
 
 -- two images of one length that agree on the bytes of an item's path give the same item
 pub local-item : (image image′ segments : List ℕ) (s : Sections) (k : Key) → length image′ ≡ length image

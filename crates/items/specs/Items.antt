@@ -25,7 +25,7 @@ use Rattle.items.specs.Keys.{Sections, EntryKind, Key, Answer}
 unfoldable pub mapReads : {A B : Type 0} → (A → B) → Reads A → Reads B
 mapReads f p = bind p (λ a. done (f a))
 
--- ---- a slot's row, body, blocks, singleton records and offsets (crate `typedescriptor`)
+-- ---- a slot's row (crate `typedescriptor`), body, blocks and singleton records (crate `typebody`), and offsets (crate `fieldoffsets`)
 
 abbrev pub rowOfSlot : Sections → ℕ → Reads TypeRow
 rowOfSlot s i = slotRow (s .types) (s .typesStart) i

@@ -1,6 +1,7 @@
 -- The calls give the items. Stepping from a walk's start to its end gives the items of a kind, in order and with their keys, and nothing else: the rows of a types
--- section (`rows-listed`), the blocks behind a body (`blocks-listed`), the entries of a block (`entries-listed`), the contexts around a row (`contexts-listed`). What is
--- read by one call is its item (`body-listed`, `block-listed`, `init-listed`, `pointer-listed`). An item of a slot without a row is none (`no-row`).
+-- section (`rows-listed`), the blocks behind a body (`blocks-listed`), the entries of a block (`entries-listed`), the contexts around a row (`contexts-listed`), the
+-- descriptors of a fields section (`descriptors-listed`) and their records (`records-listed`). What is read by one call is its item (`body-listed`, `block-listed`,
+-- `init-listed`, `pointer-listed`, `offsets-listed`, `static-listed`). An item of a slot without a row is none (`no-row`).
 use Prim.Native.Nat.{ℕ, zero, suc, _+_, _*_, _^_, _≤_, _<_}
 use native.Mathlib.Decide.{decLt}
 use native.Mathlib.Omega.{arith}

@@ -1,93 +1,185 @@
--- The premise on texts by paths and by addresses: where the cut falls into no text of a name, it falls into none of the path that reads the name (`row-clear`),
--- and the other way round (`clear-row`).
-use Prim.Native.Nat.{ℕ, _+_, _*_, _^_}
+-- The premise on texts by addresses and by paths. Where the cut falls into no text of a name, it falls into none of the path that reads the name (`name-clear`), and
+-- the other way round (`clear-name`): the premise asks for no more. What reads a row's name is the row (`row-text`), what reads a context's is the crate `parent`'s
+-- program (`context-text`), so the premise for them is that of the calls (`row-clear` and `clear-row`, `clear-context`, `clear-field`).
+use Prim.Native.Nat.{ℕ, _+_, _*_, _^_, _≤_}
 use native.Mathlib.Omega.{arith}
-use mathlib.Core.Path.{_≡_, refl}
-use mathlib.Core.List.{List, _∷_}
+use mathlib.Core.Path.{_≡_, refl, sym, ap, _∙_, fun-ext}
+use mathlib.Core.List.{List, [], _∷_, _++_}
 use mathlib.Core.Bool.{Bool, true, false, cond}
-use mathlib.Core.Option.{Option, some, none}
-use lib.ListN.{take, drop}
+use mathlib.Core.Option.{Option, some, none, Option·map}
+use lib.ListN.{drop}
 use lib.Dec.{leb, ltb, eqb}
+use borrow.Author.Tests.{le-ltb}
 use Rattle.utf8.specs.Text.{untilNul}
-use Rattle.util.specs.LittleEndian.{unsignedIn}
+use Rattle.util.specs.LittleEndian.{unsignedIn, signedIn}
+use Rattle.util.specs.Pointer.{relativePointer}
 use Rattle.util.specs.Cstr.{Place, textAt}
-use Rattle.runtime.specs.Reads.{Reads, done, nothing, text, andThen, bytesPlace, textOffset, run, bytesRange, textRange, also, path, All, Clear}
+use Rattle.runtime.specs.Reads.{Reads, done, nothing, bytes, text, textOffset, run, Range, bytesRange, textRange, also, path, bind, All, Clear}
+use Rattle.runtime.specs.ReadsLaws.{run-bind, path-bind}
 use Rattle.runtime.specs.PathLaws.{bytes-clear}
-use Rattle.typedescriptor.specs.Row.{nameAddress, typeRow, rowName, descriptor}
+use Rattle.context.specs.Context.{contextKind, hasName}
+use Rattle.typedescriptor.specs.Row.{TypeRow, nameAddress, typeRow, rowName, descriptor}
 use Rattle.typedescriptor.specs.Slots.{slots, slotAddress, slotRow}
+use Rattle.vtable.specs.Entries.{Entry}
+use Rattle.field.specs.Records.{descriptorRecord}
+use Rattle.parent.specs.Context.{Name, Header, slotName, nameAt, name}
 use Rattle.items.specs.Keys.{Sections}
-use Rattle.items.specs.Items.{rowOfSlot}
-use Rattle.items.specs.Texts.{NameKey, descriptorName, slotNameAddress, nameOf, ClearAt, ClearOf}
+use Rattle.items.specs.Items.{mapReads, rowOfSlot, contextOfSlot}
+use Rattle.items.specs.Texts.{NameKey, descriptorName, slotNameAddress, contextNameAt, recordName, nameOf, lookup, readName, ClearAt, ClearOf}
+use Rattle.items.specs.ProgramLaws.{run-map, path-map, all-append, besideRow, on-slot-name, on-name}
+
+-- ---- the programs that read a name are the calls'
+
+bind-bind : {A B C : Type 0} (f : A → Reads B) (g : B → Reads C) (p : Reads A) → bind (bind p f) g ≡ bind p (λ a. bind (f a) g)
+unfolding bind
+bind-bind f g (done a) = refl
+bind-bind f g nothing = refl
+bind-bind f g (bytes a n k) = ap (bytes a n) (fun-ext (λ h. bind-bind f g (k h)))
+bind-bind f g (text a k) = ap (text a) (fun-ext (λ p. fun-ext (λ t. bind-bind f g (k p t))))
+
+-- a row's name
+abbrev pub rowNamed : TypeRow → Name
+rowNamed r = record { place = r .name; bytes = r .nameBytes }
+
+descriptor-text : (a : ℕ) → bind (descriptorName a) lookup ≡ bind (descriptor a) (λ r. done (rowNamed r))
+unfolding descriptorName descriptor rowName lookup bind
+descriptor-text a = ap (bytes a 20) (fun-ext (λ h. named h (leb (2 ^ 64) (a + 8))))
+  where
+    named : (h : List ℕ) (b : Bool)
+        → bind (cond b nothing (done (nameAddress a h))) lookup ≡ bind (cond b nothing (text (nameAddress a h) (λ p t. done (typeRow a h p t)))) (λ r. done (rowNamed r))
+    named h true = refl
+    named h false = refl
+
+pub row-text : (s : Sections) (i : ℕ) → readName s (NameKey.descriptor i) ≡ mapReads rowNamed (rowOfSlot s i)
+unfolding readName nameOf slotNameAddress slotRow mapReads bind
+row-text s i = go (ltb i (slots (s .types))) (eqb (unsignedIn 4 (s .types) (4 * i)) 0)
+  where
+    go : (b d : Bool) → bind (cond b (cond d nothing (descriptorName (slotAddress (s .types) (s .typesStart) i))) nothing) lookup
+        ≡ bind (cond b (cond d nothing (descriptor (slotAddress (s .types) (s .typesStart) i))) nothing) (λ r. done (rowNamed r))
+    go true false = descriptor-text (slotAddress (s .types) (s .typesStart) i)
+    go true true = refl
+    go false d = refl
+
+-- a context's
+pub header-text : (h : Header) → bind (contextNameAt h) lookup ≡ name (h .address) (h .flags)
+unfolding contextNameAt name nameAt slotName lookup bind
+header-text h = go (hasName (contextKind (h .flags))) (leb (2 ^ 64) (h .address + 8))
+  where
+    named : (b : List ℕ) (t : Bool) → bind (cond t nothing (done (relativePointer (h .address + 8) (signedIn 4 b 0)))) lookup
+        ≡ cond t nothing (text (relativePointer (h .address + 8) (signedIn 4 b 0)) (λ p t. done (record { place = p; bytes = t })))
+    named b true = refl
+    named b false = refl
+
+    go : (b d : Bool)
+        → bind (cond b (cond d nothing (bytes (h .address + 8) 4 (λ b. cond (eqb (unsignedIn 4 b 0) 0) nothing (done (relativePointer (h .address + 8) (signedIn 4 b 0)))))) nothing) lookup
+        ≡ cond b (cond d nothing (bytes (h .address + 8) 4 (slotName (h .address + 8)))) nothing
+    go true false = ap (bytes (h .address + 8) 4) (fun-ext (λ b. named b (eqb (unsignedIn 4 b 0) 0)))
+    go true true = refl
+    go false d = refl
+
+pub context-text : (s : Sections) (i k : ℕ) → readName s (NameKey.context i k) ≡ bind (contextOfSlot s i k) (λ h. name (h .address) (h .flags))
+unfolding readName nameOf
+context-text s i k = bind-bind contextNameAt lookup (contextOfSlot s i k) ∙ ap (bind (contextOfSlot s i k)) (fun-ext header-text)
 
 module _ (image segments : List ℕ) (c : ℕ) where
-  pub text-on-path : {A : Type 0} (a : ℕ) (f : Place → List ℕ → A) → ClearAt image segments c a → All (Clear c) (path image segments (text a (λ p t. done (f p t))))
-  unfolding path
-  text-on-path a f h = go (textOffset segments a) refl
+  -- ---- a text at an address
+
+  pub lookup-clear : (a : ℕ) → ClearAt image segments c a → All (Clear c) (path image segments (lookup a))
+  unfolding path lookup
+  lookup-clear a h = go (textOffset segments a) refl
     where
-      after : (o : ℕ) (y : Option Place) → All (Clear c) (also y (λ p. path image segments (done (f p (untilNul (drop o image))))))
+      named : Place → List ℕ → Name
+      named p t = record { place = p; bytes = t }
+
+      after : (o : ℕ) (y : Option Place) → All (Clear c) (also y (λ p. path image segments (done (named p (untilNul (drop o image))))))
       after o none = tt
       after o (some p) = tt
 
       go : (x : Option ℕ) → textOffset segments a ≡ x
-          → All (Clear c) (also x (λ o. textRange image o ∷ also (textAt image o) (λ p. path image segments (done (f p (untilNul (drop o image)))))))
+          → All (Clear c) (also x (λ o. textRange image o ∷ also (textAt image o) (λ p. path image segments (done (named p (untilNul (drop o image)))))))
       go none e = tt
       go (some o) e = (h o e, after o (textAt image o))
 
-  pub path-on-text : {A : Type 0} (a : ℕ) (f : Place → List ℕ → A) → All (Clear c) (path image segments (text a (λ p t. done (f p t)))) → ClearAt image segments c a
-  unfolding path
-  path-on-text a f h o e = (rw e at h) .0
+  pub clear-lookup : (a : ℕ) → All (Clear c) (path image segments (lookup a)) → ClearAt image segments c a
+  unfolding path lookup
+  clear-lookup a h o e = (rw e at h) .0
 
-  -- the premise for what a program gives the address of
+  -- ---- at the address that a program gives
+
   abbrev pub ClearBy : Reads ℕ → Type 0
   ClearBy p = (v : ℕ) → run image segments p ≡ some v → ClearAt image segments c v
 
-  descriptor-clear : (a : ℕ) → ClearBy (descriptorName a) → All (Clear c) (path image segments (descriptor a))
-  unfolding path run descriptor descriptorName rowName
-  descriptor-clear a = go (bytesPlace image segments a 20)
+  pub text-clear : (p : Reads ℕ) → All (Clear c) (path image segments p) → ClearBy p → All (Clear c) (path image segments (bind p lookup))
+  text-clear p h f = rw (path-bind image segments lookup p) (all-append (Clear c) (path image segments p) _ h (go (run image segments p) refl))
     where
-      named : (h : List ℕ) (b : Bool) → ClearBy (cond b nothing (done (nameAddress a h)))
-          → All (Clear c) (path image segments (cond b nothing (text (nameAddress a h) (λ p t. done (typeRow a h p t)))))
-      named h true f = tt
-      named h false f = text-on-path (nameAddress a h) (typeRow a h) (f (nameAddress a h) refl)
+      go : (x : Option ℕ) → run image segments p ≡ x → All (Clear c) (also x (λ a. path image segments (lookup a)))
+      go none e = tt
+      go (some a) e = lookup-clear a (f a e)
 
-      go : (x : Option ℕ)
-          → ((v : ℕ) → andThen x (λ o. run image segments (cond (leb (2 ^ 64) (a + 8)) nothing (done (nameAddress a (take 20 (drop o image)))))) ≡ some v → ClearAt image segments c v)
-          → All (Clear c) (also x (λ o. bytesRange o 20 ∷ path image segments (rowName a (take 20 (drop o image)))))
-      go none f = tt
-      go (some o) f = (bytes-clear c (bytesRange o 20) refl, named (take 20 (drop o image)) (leb (2 ^ 64) (a + 8)) f)
+  all-second : (l m : List Range) → All (Clear c) (l ++ m) → All (Clear c) m
+  all-second [] m h = h
+  all-second (r ∷ l) m h = all-second l m (h .1)
 
-  -- a row's path is clear where the name of its slot's descriptor is
-  pub row-clear : (s : Sections) (i : ℕ) → ClearOf image segments s c (NameKey.descriptor i) → All (Clear c) (path image segments (rowOfSlot s i))
-  unfolding path slotRow slotNameAddress nameOf
-  row-clear s i = go (ltb i (slots (s .types))) (eqb (unsignedIn 4 (s .types) (4 * i)) 0)
-    where
-      go : (b d : Bool) → ClearBy (cond b (cond d nothing (descriptorName (slotAddress (s .types) (s .typesStart) i))) nothing)
-          → All (Clear c) (path image segments (cond b (cond d nothing (descriptor (slotAddress (s .types) (s .typesStart) i))) nothing))
-      go true false f = descriptor-clear (slotAddress (s .types) (s .typesStart) i) f
-      go true true f = tt
-      go false d f = tt
+  pub clear-text : (p : Reads ℕ) → All (Clear c) (path image segments (bind p lookup)) → ClearBy p
+  clear-text p h v e = clear-lookup v (all-second (path image segments p) _ (rw (path-bind image segments lookup p, e) at h))
 
-  -- and where its path is clear, the name is: the premise asks for no more
-  clear-descriptor : (a : ℕ) → All (Clear c) (path image segments (descriptor a)) → ClearBy (descriptorName a)
-  unfolding path run descriptor descriptorName rowName
-  clear-descriptor a = go (bytesPlace image segments a 20)
-    where
-      named : (h : List ℕ) (b : Bool) → All (Clear c) (path image segments (cond b nothing (text (nameAddress a h) (λ p t. done (typeRow a h p t)))))
-          → ClearBy (cond b nothing (done (nameAddress a h)))
-      named h true w v e = let z : _≡_ {A = ℕ} 0 1 = cc in absurd (omega arith)
-      named h false w v e = let q : nameAddress a h ≡ v = cc in rw q at (path-on-text (nameAddress a h) (typeRow a h) w)
+  -- ---- of a key
 
-      go : (x : Option ℕ) → All (Clear c) (also x (λ o. bytesRange o 20 ∷ path image segments (rowName a (take 20 (drop o image)))))
-          → (v : ℕ) → andThen x (λ o. run image segments (cond (leb (2 ^ 64) (a + 8)) nothing (done (nameAddress a (take 20 (drop o image)))))) ≡ some v → ClearAt image segments c v
-      go none w v e = let z : _≡_ {A = ℕ} 0 1 = cc in absurd (omega arith)
-      go (some o) w v e = named (take 20 (drop o image)) (leb (2 ^ 64) (a + 8)) (w .1) v e
+  module _ (s : Sections) where
+    -- a row's path is clear where the name of its slot's descriptor is
+    pub row-clear : (i : ℕ) → ClearOf image segments s c (NameKey.descriptor i) → All (Clear c) (path image segments (rowOfSlot s i))
+    unfolding readName nameOf
+    row-clear i h =
+        let w : All (Clear c) (path image segments (readName s (NameKey.descriptor i)))
+        = text-clear (slotNameAddress s i) (on-slot-name image segments (Clear c) (λ o n. bytes-clear c (bytesRange o n) refl) s i .all) h in
+        rw (row-text s i, path-map image segments rowNamed (rowOfSlot s i)) at w
 
-  pub clear-row : (s : Sections) (i : ℕ) → All (Clear c) (path image segments (rowOfSlot s i)) → ClearOf image segments s c (NameKey.descriptor i)
-  unfolding path run slotRow slotNameAddress nameOf
-  clear-row s i = go (ltb i (slots (s .types))) (eqb (unsignedIn 4 (s .types) (4 * i)) 0)
-    where
-      go : (b d : Bool) → All (Clear c) (path image segments (cond b (cond d nothing (descriptor (slotAddress (s .types) (s .typesStart) i))) nothing))
-          → ClearBy (cond b (cond d nothing (descriptorName (slotAddress (s .types) (s .typesStart) i))) nothing)
-      go true false w v e = clear-descriptor (slotAddress (s .types) (s .typesStart) i) w v e
-      go true true w v e = let z : _≡_ {A = ℕ} 0 1 = cc in absurd (omega arith)
-      go false d w v e = let z : _≡_ {A = ℕ} 0 1 = cc in absurd (omega arith)
+    -- the path of a name is clear where the name is, and the name of the row that it hangs on
+    pub name-clear : (n : NameKey) → ((i : ℕ) → besideRow n ≡ some i → ClearOf image segments s c (NameKey.descriptor i)) → ClearOf image segments s c n
+        → All (Clear c) (path image segments (readName s n))
+    unfolding readName
+    name-clear n rows h =
+        text-clear (nameOf s n)
+        (on-name image segments (Clear c) (λ o n. bytes-clear c (bytesRange o n) refl) s n (λ i e. record { all = row-clear i (rows i e) }) .all) h
+
+    -- and where the path is clear, the name is: the premise asks for no more
+    pub clear-name : (n : NameKey) → All (Clear c) (path image segments (readName s n)) → ClearOf image segments s c n
+    unfolding readName
+    clear-name n h = clear-text (nameOf s n) h
+
+    -- a name that is not looked up is clear
+    pub no-name : (n : NameKey) → run image segments (nameOf s n) ≡ none → ClearOf image segments s c n
+    no-name n e a f = let z : _≡_ {A = ℕ} 0 1 = cc in absurd (omega arith)
+
+    -- as that of a slot past the last
+    pub no-slot-name : (i : ℕ) → slots (s .types) ≤ i → ClearOf image segments s c (NameKey.descriptor i)
+    unfolding nameOf slotNameAddress run
+    no-slot-name i h = no-name (NameKey.descriptor i) (simp (le-ltb i (slots (s .types)) h))
+
+    -- one that is looked up at an address is clear where the range of the text there is
+    pub name-at : (n : NameKey) (a o : ℕ) → run image segments (nameOf s n) ≡ some a → textOffset segments a ≡ some o → Clear c (textRange image o)
+        → ClearOf image segments s c n
+    name-at n a o e t h b f p g =
+        let q : a ≡ b = cc in
+        let u : textOffset segments a ≡ some p = rw q g in
+        let r : o ≡ p = cc in
+        rw r at h
+
+    -- by what the calls read: a row; a context and its name; a field record and the text at its third word
+    pub clear-row : (i : ℕ) → All (Clear c) (path image segments (rowOfSlot s i)) → ClearOf image segments s c (NameKey.descriptor i)
+    clear-row i h = clear-name (NameKey.descriptor i) (rw (row-text s i, path-map image segments rowNamed (rowOfSlot s i)) h)
+
+    pub clear-context : (i k : ℕ) → All (Clear c) (path image segments (bind (contextOfSlot s i k) (λ h. name (h .address) (h .flags))))
+        → ClearOf image segments s c (NameKey.context i k)
+    clear-context i k h = clear-name (NameKey.context i k) (rw (context-text s i k) h)
+
+    pub clear-field : (j k : ℕ)
+        → ((e : Entry) → run image segments (descriptorRecord (s .fields) (s .fieldsStart) j k) ≡ some e → All (Clear c) (path image segments (lookup (recordName e))))
+        → ClearOf image segments s c (NameKey.field j k)
+    unfolding nameOf
+    clear-field j k h a e = go (run image segments (descriptorRecord (s .fields) (s .fieldsStart) j k)) refl (sym (run-map image segments recordName (descriptorRecord (s .fields) (s .fieldsStart) j k)) ∙ e)
+      where
+        go : (x : Option Entry) → run image segments (descriptorRecord (s .fields) (s .fieldsStart) j k) ≡ x
+            → Option·map recordName x ≡ some a → ClearAt image segments c a
+        go none t f = let z : _≡_ {A = ℕ} 0 1 = cc in absurd (omega arith)
+        go (some y) t f = let q : recordName y ≡ a = cc in rw q at (clear-lookup (recordName y) (h y t))

@@ -1,31 +1,34 @@
 -- What the laws of items stand on: an answer under another name (`run-map`, `path-map`), and that of all that an item reads only its row's name is a text:
--- what holds of every range of bytes and of the row's path holds of the item's path (`on-item`).
+-- what holds of every range of bytes and of the row's path holds of the item's path (`on-item`), and of that of a name's address (`on-name`).
 use Prim.Native.Nat.{ℕ, zero, suc, _+_, _-_, _*_, _^_}
 use native.Mathlib.Omega.{arith}
 use mathlib.Core.Path.{_≡_, refl, sym, ap, _∙_}
 use mathlib.Core.List.{List, [], _∷_, _++_, append-nil}
-use mathlib.Core.Bool.{Bool, true, false, cond, _&&_}
+use mathlib.Core.Bool.{Bool, true, false, cond, _&&_, and-assoc}
 use mathlib.Core.Option.{Option, some, none, Option·map}
 use lib.ListN.{take, drop}
 use lib.Dec.{leb, ltb, eqb}
-use Rattle.runtime.specs.Reads.{Reads, done, nothing, bytes, andThen, bytesPlace, run, Range, bytesRange, also, path, bind, All}
+use Rattle.runtime.specs.Reads.{Reads, done, nothing, bytes, andThen, bytesPlace, run, Range, bytesRange, also, path, bind, All, every}
 use Rattle.runtime.specs.ReadsLaws.{run-bind, path-bind}
-use Rattle.context.specs.Context.{contextKind}
+use Rattle.util.specs.LittleEndian.{unsignedIn}
+use Rattle.context.specs.Context.{contextKind, hasName}
 use Rattle.context.specs.declared.descriptor.ContextDescriptorKind.{ContextDescriptorKind}
 use Rattle.classtrailers.specs.Blocks.{Trailing, Row, rowAt, readHeader, recordAt, endAt, passed, reached, blockIn, rowNumber, block}
 use Rattle.classtrailers.specs.declared.block.Block.{Block}
 use Rattle.classtrailers.specs.declared.block.BlockKind.{BlockKind}
-use Rattle.typebody.specs.Body.{Body, bodyBytes, bodyOfKind, body, slotBody, trailing, trailingStart}
+use Rattle.typedescriptor.specs.Slots.{slots, slotAddress}
+use Rattle.typebody.specs.Body.{Body, ofClass, ofStruct, ofEnum, bodyBytes, bodyOfKind, body, slotBody, trailing, trailingStart}
 use Rattle.typebody.specs.Singleton.{initialization, slotTarget, needing, targets, singletonInit, singletonPointer}
 use Rattle.typebody.specs.Items.{slotBlock, slotInit, slotPointer, initOfBlock, pointerOfBlock}
 use Rattle.fieldoffsets.specs.Offsets.{vector, u32s, fieldOffsets, slotOffsets}
 use Rattle.vtable.specs.Entries.{Layout, entrySize, entryOf, entryAddress, entryAt, upTo, entry}
 use Rattle.field.specs.Fields.{descriptorFrom, given, descriptorAt}
 use Rattle.field.specs.Records.{recordLayout, recordsBase, descriptorRecord}
-use Rattle.parent.specs.Context.{headerIn, header}
+use Rattle.parent.specs.Context.{Header, headerIn, header}
 use Rattle.parent.specs.Chain.{contextsMost, headerAt}
 use Rattle.items.specs.Keys.{Sections, EntryKind, Key, slotOf}
 use Rattle.items.specs.Items.{mapReads, tableKind, entryLayout, tableOf, entryOfSlot, contextOfSlot, item, rowOfSlot, bodyOfSlot, blockOfSlot, initOfSlot, pointerOfSlot, offsetsOfSlot}
+use Rattle.items.specs.Texts.{NameKey, descriptorName, slotNameAddress, contextNameAt, recordName, recordTypeName, superclassAt, nameOf}
 
 -- ---- an answer under another name
 
@@ -75,6 +78,20 @@ un-map-none image segments {A} {B} f p e = go (run image segments p) (sym (run-m
 pub all-append : (P : Range → Type 0) (l m : List Range) → All P l → All P m → All P (l ++ m)
 all-append P [] m h g = g
 all-append P (r ∷ l) m h g = (h .0, all-append P l m (h .1) g)
+
+pub every-append : (t : Range → Bool) (l m : List Range) → every t (l ++ m) ≡ every t l && every t m
+every-append t [] m = refl
+every-append t (r ∷ l) m = ap (λ (b : Bool). t r && b) (every-append t l m) ∙ sym (and-assoc (t r) (every t l) (every t m))
+
+-- the slot on whose row a text hangs that stands beside an item; a row's own name hangs on none
+abbrev pub besideRow : NameKey → Option ℕ
+besideRow (NameKey.descriptor i) = none
+besideRow (NameKey.context i k) = some i
+besideRow (NameKey.field j k) = none
+besideRow (NameKey.superclass i) = some i
+besideRow (NameKey.fieldType j k) = none
+besideRow (NameKey.descriptorType j) = none
+besideRow (NameKey.descriptorSuperclass j) = none
 
 -- P holds of each range of the path
 pub record Each (image segments : List ℕ) (P : Range → Type 0) {A : Type 0} (p : Reads A) : Type 0 where
@@ -265,6 +282,40 @@ module _ (image segments : List ℕ) (P : Range → Type 0) (onBytes : (o n : �
   on-record fields start j k =
       on-bind (on-descriptor fields start j)
       (λ d. on-entry (recordLayout (d .«field_record_size»)) (recordsBase (d .address)) (d .«num_fields») k)
+
+  -- the addresses of names
+  on-map : {A B : Type 0} {p : Reads A} (f : A → B) → On p → On (mapReads f p)
+  on-map f h = record { all = rw path-map (h .all) }
+
+  pub on-slot-name : (s : Sections) (i : ℕ) → On (slotNameAddress s i)
+  unfolding slotNameAddress descriptorName
+  on-slot-name s i =
+      on-cond (ltb i (slots (s .types)))
+      (on-cond (eqb (unsignedIn 4 (s .types) (4 * i)) 0) on-nothing
+      (on-bytes (slotAddress (s .types) (s .typesStart) i) 20 (λ h. on-cond (leb (2 ^ 64) (slotAddress (s .types) (s .typesStart) i + 8)) on-nothing (on-done _)))) on-nothing
+
+  pub on-context-name : (h : Header) → On (contextNameAt h)
+  unfolding contextNameAt
+  on-context-name h =
+      on-cond (hasName (contextKind (h .flags)))
+      (on-cond (leb (2 ^ 64) (h .address + 8)) on-nothing
+      (on-bytes (h .address + 8) 4 (λ b. on-cond (eqb (unsignedIn 4 b 0) 0) on-nothing (on-done _)))) on-nothing
+
+  on-superclass : (b : Body) → On (superclassAt b)
+  on-superclass (ofClass a z m f v) = on-done a
+  on-superclass (ofStruct f v) = on-nothing
+  on-superclass (ofEnum p w e) = on-nothing
+
+  -- what is read for the address of a name beside the row of its slot are bytes
+  pub on-name : (s : Sections) (n : NameKey) → ((i : ℕ) → besideRow n ≡ some i → On (rowOfSlot s i)) → On (nameOf s n)
+  unfolding nameOf
+  on-name s (NameKey.descriptor i) row = on-slot-name s i
+  on-name s (NameKey.context i k) row = on-bind (on-slot-context s i (row i refl) k) on-context-name
+  on-name s (NameKey.field j k) row = on-map recordName (on-record (s .fields) (s .fieldsStart) j k)
+  on-name s (NameKey.superclass i) row = on-bind (on-slot-body s i (row i refl)) on-superclass
+  on-name s (NameKey.fieldType j k) row = on-map recordTypeName (on-record (s .fields) (s .fieldsStart) j k)
+  on-name s (NameKey.descriptorType j) row = on-map _ (on-descriptor (s .fields) (s .fieldsStart) j)
+  on-name s (NameKey.descriptorSuperclass j) row = on-map _ (on-descriptor (s .fields) (s .fieldsStart) j)
 
   -- what an item reads beside the row of its slot are bytes
   pub on-item : (s : Sections) (k : Key) → ((i : ℕ) → slotOf k ≡ some i → On (rowOfSlot s i)) → All P (path image segments (item s k))

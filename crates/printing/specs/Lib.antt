@@ -1,4 +1,5 @@
 pub mod Digits
 pub mod DigitsLaws
+pub mod Letters
 pub mod Lines
 pub mod LinesLaws

@@ -10,6 +10,7 @@ use Rattle.typedescriptor.specs.Row.{TypeRow}
 use Rattle.typedescriptor.specs.Slots.{Found, nextRow, rows}
 use Rattle.qualifiedname.specs.Name.{nameAnswer}
 use Rattle.printing.specs.Digits.{hex, decimal}
+use Rattle.printing.specs.Letters.{letters}
 use Rattle.printing.specs.declared.lines.Lister.{Lister}
 use Rattle.printing.specs.declared.lines.NextLine.{NextLine}
 
@@ -29,16 +30,13 @@ newline = 10 ∷ []
 -- by the low five bits of the flags
 unfoldable pub kindWord : ℕ → List ℕ
 kindWord flags =
-    -- class
-    cond (eqb (flags % 32) 16) (99 ∷ 108 ∷ 97 ∷ 115 ∷ 115 ∷ [])
-    -- struct
-    (cond (eqb (flags % 32) 17) (115 ∷ 116 ∷ 114 ∷ 117 ∷ 99 ∷ 116 ∷ [])
-    -- enum, other
-    (cond (eqb (flags % 32) 18) (101 ∷ 110 ∷ 117 ∷ 109 ∷ []) (111 ∷ 116 ∷ 104 ∷ 101 ∷ 114 ∷ [])))
+    cond (eqb (flags % 32) 16) (letters "class")
+    (cond (eqb (flags % 32) 17) (letters "struct")
+    (cond (eqb (flags % 32) 18) (letters "enum") (letters "other")))
 
 -- `refused ` and the refusal's number
 unfoldable pub refusedText : ℕ → List ℕ
-refusedText n = 114 ∷ 101 ∷ 102 ∷ 117 ∷ 115 ∷ 101 ∷ 100 ∷ 32 ∷ [] ++ decimal 20 n
+refusedText n = letters "refused " ++ decimal 20 n
 
 -- the line of a refused bundle
 abbrev pub refusedLine : ℕ → List ℕ
@@ -58,7 +56,7 @@ rowLine image segments row = hex 16 (row .address) ++ space ++ kindWord (row .fl
 
 -- the last line: `end` and the row count, which has at most 20 digits
 unfoldable pub endLine : ℕ → List ℕ
-endLine count = 101 ∷ 110 ∷ 100 ∷ [] ++ space ++ decimal 20 count ++ newline
+endLine count = letters "end" ++ space ++ decimal 20 count ++ newline
 
 -- all lines of the rows of a types section
 unfoldable pub lines : List ℕ → List ℕ → List ℕ → ℕ → List (List ℕ)

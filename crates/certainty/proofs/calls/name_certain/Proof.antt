@@ -1,0 +1,63 @@
+-- `certainty::calls::name_certain` meets its contract.
+-- Assumes nothing.
+use mathlib.Core.Path.{ap, sym, _∙_}
+use borrow.Author.Tests.{not-true, not-false}
+use Rattle.refusal.specs.Refusal.{answered}
+use Rattle.util.specs.AnswersLaws.{told}
+use Rattle.typedescriptor.specs.Row.{descriptorOf}
+use Rattle.listing.specs.CallsLaws.{ragged, whole-as}
+use Rattle.certainty.specs.ReadLaws.{name-open, name-none, name-by}
+use borrow.Author.Needs.{needs}
+use Rattle.certainty.proofs.calls.name_certain.Statement.{statement}
+use Rattle.certainty.proofs.calls.name_certain.Tie as tie
+
+returns : tie.Need-returns
+returns c = ragged _ _ (c .if1 .taken)
+
+slot-certain-requires : tie.Need-slot-certain-requires
+slot-certain-requires c κs = search needs
+
+returns-2 : tie.Need-returns-2
+returns-2 c =
+    whole-as _ _ _ (ap answered (sym (name-open _ _ _ _ _ (sym (c .before .slot-certain .ensures) ∙ not-true _ (c .if2 .taken))))) (c .before .before .if1 .left)
+
+slot-row-requires : tie.Need-slot-row-requires
+slot-row-requires c κs = search needs
+
+enum-known-row : tie.Need-enum-known-row
+enum-known-row c = search needs
+
+chain-certain-requires : tie.Need-chain-certain-requires
+chain-certain-requires c κs = search needs
+
+told-requires : tie.Need-told-requires
+told-requires c κs = search needs
+
+enum-told : tie.Need-enum-told
+enum-told c = search needs
+
+returns-3 : tie.Need-returns-3
+returns-3 c =
+    whole-as _ _ _
+    (c .told .ensures
+    ∙ ap answered (c .before .chain-certain .ensures ∙ sym (name-by _ _ _ _ _ (sym (c .before .before .before .before .before .before .before .slot-certain .ensures) ∙ not-false _ (c .before .before .before .before .before .before .if2 .left)) _ (told (descriptorOf _) (c .before .before .before .before .before .slot-row .ensures) (c .before .before .before .row .given .1)))))
+    (c .before .before .before .before .before .before .before .before .if1 .left)
+
+returns-4 : tie.Need-returns-4
+returns-4 c =
+    whole-as _ _ _ (ap answered (sym (name-none _ _ _ _ _ (sym (c .before .before .before .before .slot-certain .ensures) ∙ not-false _ (c .before .before .before .if2 .left)) (told (descriptorOf _) (c .before .before .slot-row .ensures) (c .enum-told .given .1))))) (c .before .before .before .before .before .if1 .left)
+
+pub name-certain-spec : {M : Type 1} → statement M
+name-certain-spec =
+    tie.close
+    (tie.spec
+    returns
+    slot-certain-requires
+    returns-2
+    slot-row-requires
+    enum-known-row
+    chain-certain-requires
+    told-requires
+    enum-told
+    returns-3
+    returns-4)

@@ -1,0 +1,40 @@
+ghost use mathlib.Core.Path.{_≡_};
+ghost use Rattle.typedescriptor.specs.Row.{descriptor};
+ghost use Rattle.typedescriptor.specs.Slots.{slotRow};
+ghost use Rattle.certainty.specs.Certain.{certain};
+use crate::reads::is_nowhere;
+use crate::reads::text_certain;
+
+// Whether the row of the type descriptor at an address is certain, or that there is none.
+fn descriptor_certain(image: &[u8], segments: &[u64], descriptor_va: u64) -> bool
+    ensures { λ r. ⌜ r ≡ certain (now (image .entry)) (now (segments .entry)) (descriptor «descriptor_va») ⌝ }
+{
+    let header = runtime::read_bytes(image, segments, descriptor_va, 20);
+    if header.len() < 20 {
+        return is_nowhere(segments, descriptor_va);
+    }
+    if descriptor_va > 0xffff_ffff_ffff_fff7 {
+        return true;
+    }
+    text_certain(
+        image,
+        segments,
+        util::pointer_in(header, 8, descriptor_va + 8),
+    )
+}
+
+// The same for a slot of a types section whose first byte is at `vmaddr`.
+pub fn slot_certain(image: &[u8], segments: &[u64], types: &[u8], vmaddr: u64, slot: usize) -> bool
+    ensures { λ r. ⌜ r ≡ certain (now (image .entry)) (now (segments .entry)) (slotRow (now (types .entry)) vmaddr slot) ⌝ }
+{
+    if types.len() / 4 <= slot {
+        return true;
+    }
+    let off = 4 * slot;
+    let pointer = &types[off..off + 4];
+    if util::u32_at(pointer, 0) == 0 {
+        return true;
+    }
+    let slot_va = std::num::wrapping_add_u64(vmaddr, off as u64);
+    descriptor_certain(image, segments, util::pointer_in(pointer, 0, slot_va))
+}

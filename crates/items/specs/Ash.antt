@@ -1,0 +1,145 @@
+-- A fourth image worked through: what hangs on a generic class with prespecializations, an invertible set and default overrides, the blocks that `Oak` and `Elm` do not have. Worked
+-- out by hand from docs/SPECIFICATION.md, as `Elm` is.
+use Prim.Native.Nat.{ℕ}
+use mathlib.Core.Path.{_≡_, refl}
+use mathlib.Core.List.{List, [], _∷_, _++_}
+use mathlib.Core.Bool.{true, false}
+use mathlib.Core.Option.{Option, some, none}
+use lib.ListN.{take}
+use Rattle.utf8.specs.Table.{table}
+use Rattle.utf8.specs.Text.{following, goesOn, untilNul, textLength}
+use Rattle.util.specs.LittleEndian.{littleEndian, bytesAt, littleAt, twosComplement, signedAt, unsignedIn, signedIn}
+use Rattle.util.specs.Pointer.{relativePointer, relativeAddress}
+use Rattle.segment.specs.Segments.{segmentsOf, fileOffset, decides, inFile}
+use Rattle.util.specs.Cstr.{textAt}
+use Rattle.runtime.specs.Reads.{within, bytesPlace, textOffset, run, extent, Range, path, bind}
+use Rattle.context.specs.Context.{kindOf}
+use Rattle.classtrailers.specs.Blocks.{genericSize, setBits, rowAt, recordAt, endAt, passed, reached, blockIn, block}
+use Rattle.classtrailers.specs.declared.block.Block.{Block}
+use Rattle.classtrailers.specs.declared.block.BlockKind.{BlockKind}
+use Rattle.typedescriptor.specs.Row.{rowName, descriptor}
+use Rattle.typedescriptor.specs.Slots.{slotRow}
+use Rattle.typebody.specs.Body.{ofClass, fixed, classBody, bodyBytes, body, slotBody}
+use Rattle.typebody.specs.Items.{slotBlock, slotInit, slotPointer}
+use Rattle.fieldoffsets.specs.Offsets.{vector, fieldOffsets, slotOffsets}
+use Rattle.vtable.specs.Entries.{entryAt, upTo, entry}
+use Rattle.items.specs.Keys.{Sections, EntryKind, Key, Answer}
+use Rattle.items.specs.Items.{mapReads, entryOfSlot, item}
+
+-- a u32 of one byte
+abbrev word : ℕ → List ℕ
+word n = n ∷ 0 ∷ 0 ∷ 0 ∷ []
+
+-- 124 bytes, each line from the offset that it names
+abbrev image : List ℕ
+image =
+    -- 0: `Ash` and a NUL
+    65 ∷ 115 ∷ 104 ∷ 0 ∷
+    -- 4: the descriptor: a class, generic (0x80), with an invertible set (0x20); type flags: prespecializations (8), default overrides (0x40); no parent; the name's offset -12 at 12
+    0xb0 ∷ 0 ∷ 0x48 ∷ 0 ∷ word 0 ++ 0xf4 ∷ 0xff ∷ 0xff ∷ 0xff ∷ word 0 ++ word 0
+    -- 24: the body
+    ++ word 0 ++ word 2 ++ word 13 ++ word 3 ++ word 0 ++ word 10
+    -- 48: the generic header: one parameter at 56, one requirement at 58; 64 the parameter, padded to four bytes, and 68 the requirement's 12
+    ++ word 0 ++ word 0 ++ 1 ∷ 0 ∷ 1 ∷ 0 ∷ 1 ∷ 0 ∷ 0 ∷ 0 ∷ word 0x80 ++ word 0 ++ word 0 ++ word 0
+    -- 80: two prespecializations, 84 to 84 + 172 and 88 to 88 + 184; eight bytes for each are passed, so to 100
+    ++ word 2 ++ word 172 ++ word 184 ++ word 0 ++ word 0
+    -- 100: the invertible set, bits 0 and 2; two bytes are read, four are passed
+    ++ 5 ∷ 0 ∷ 0xff ∷ 0xff ∷
+    -- 104: two default overrides: 108, and 116 to 116 + 140 and 120 + 152
+    word 2 ++ word 0 ++ word 0 ++ word 140 ++ word 152
+
+-- laid at 0x1000
+abbrev segments : List ℕ
+segments = 0x1000 ∷ 124 ∷ 0 ∷ 124 ∷ []
+
+-- types at 0x2000: one slot, whose offset is 0x1004 - 0x2000; no fields
+abbrev sections : Sections
+sections = record { types = 0x04 ∷ 0xf0 ∷ 0xff ∷ 0xff ∷ []; typesStart = 0x2000; fields = []; fieldsStart = 0 }
+
+abbrev reads : Key → List Range
+reads k = path image segments (item sections k)
+
+abbrev told : List ℕ → Key → Option Answer
+told i k = run i segments (item sections k)
+
+-- bytes from an offset up to another
+abbrev bytesTo : ℕ → ℕ → Range
+bytesTo o e = record { from = o; to = e; isText = false }
+
+-- the descriptor's 20 bytes, the name with its NUL, the body's 24, and the generic header's 16, which every other block here reads first; then those of the prespecializations'
+abbrev genericReads : List Range
+genericReads = bytesTo 4 24 ∷ record { from = 0; to = 4; isText = true } ∷ bytesTo 24 48 ∷ bytesTo 48 64 ∷ []
+
+abbrev prespecializedReads : List Range
+prespecializedReads = genericReads ++ (bytesTo 80 84 ∷ [])
+
+-- of the default overrides: the set's 2 bytes before their own header
+abbrev overridesReads : List Range
+overridesReads = prespecializedReads ++ (bytesTo 100 102 ∷ bytesTo 104 108 ∷ [])
+
+-- the four blocks: at an address; so many entries from one on; a set, and how many bits of it are set
+abbrev genericAt : ℕ → Block
+genericAt a = Block.Generic a
+
+abbrev prespecializationsFrom : ℕ → ℕ → Block
+prespecializationsFrom n a = Block.Prespecializations n a
+
+abbrev invertibleSet : ℕ → ℕ → Block
+invertibleSet s n = Block.InvertibleProtocolSet s n
+
+abbrev defaultOverridesFrom : ℕ → ℕ → Block
+defaultOverridesFrom n a = Block.DefaultOverrideTable n a
+
+pub record Worked : Type 0 where
+  pub generic : reads (Key.block 0 BlockKind.Generic) ≡ genericReads
+  pub prespecializations : reads (Key.block 0 BlockKind.Prespecializations) ≡ prespecializedReads
+  pub invertible : reads (Key.block 0 BlockKind.InvertibleProtocolSet) ≡ prespecializedReads ++ (bytesTo 100 102 ∷ [])
+  pub default-overrides : reads (Key.block 0 BlockKind.DefaultOverrideTable) ≡ overridesReads
+  -- the entries 0 and 1: four bytes each, and eight
+  pub prespecialization-1 : reads (Key.entry 0 EntryKind.prespecializations 1) ≡ prespecializedReads ++ (bytesTo 84 88 ∷ bytesTo 88 92 ∷ [])
+  pub default-override-1 : reads (Key.entry 0 EntryKind.defaultOverrides 1) ≡ overridesReads ++ (bytesTo 108 116 ∷ bytesTo 116 124 ∷ [])
+  -- what they say; nothing past the last
+  pub says-body : told image (Key.body 0) ≡ some (Answer.body (ofClass 0 (fixed 2 13) 3 0 10))
+  pub says-generic : told image (Key.block 0 BlockKind.Generic) ≡ some (Answer.block (genericAt 0x1030))
+  pub says-prespecializations : told image (Key.block 0 BlockKind.Prespecializations) ≡ some (Answer.block (prespecializationsFrom 2 0x1054))
+  pub says-invertible : told image (Key.block 0 BlockKind.InvertibleProtocolSet) ≡ some (Answer.block (invertibleSet 5 2))
+  pub says-default-overrides : told image (Key.block 0 BlockKind.DefaultOverrideTable) ≡ some (Answer.block (defaultOverridesFrom 2 0x106c))
+  pub says-prespecialization-1 : told image (Key.entry 0 EntryKind.prespecializations 1) ≡ some (Answer.entry (record { address = 0x1058; words = 0x1110 ∷ [] }))
+  pub no-prespecialization-2 : told image (Key.entry 0 EntryKind.prespecializations 2) ≡ none
+  pub says-default-override-1 : told image (Key.entry 0 EntryKind.defaultOverrides 1) ≡ some (Answer.entry (record { address = 0x1074; words = 0x1100 ∷ 0x1110 ∷ [] }))
+  -- what it does not have: a vtable, singleton records (bit 3 of its type flags is the prespecializations'), offsets, which are a struct's
+  pub no-vtable : told image (Key.block 0 BlockKind.VTable) ≡ none
+  pub no-initialization : told image (Key.initialization 0) ≡ none
+  pub no-pointer : told image (Key.pointer 0) ≡ none
+  pub no-offsets : told image (Key.offsets 0 0x1000) ≡ none
+  -- a cut where an entry's last range ends keeps it, and one a byte before does not
+  pub cut-92 : told (take 92 image) (Key.entry 0 EntryKind.prespecializations 1) ≡ told image (Key.entry 0 EntryKind.prespecializations 1)
+  pub cut-91 : told (take 91 image) (Key.entry 0 EntryKind.prespecializations 1) ≡ none
+  pub cut-123 : told (take 123 image) (Key.entry 0 EntryKind.defaultOverrides 1) ≡ none
+
+pub worked : Worked
+unfolding run path bind bytesPlace within textOffset extent segmentsOf fileOffset decides inFile table following goesOn textAt textLength untilNul unsignedIn signedIn littleAt signedAt bytesAt littleEndian twosComplement relativeAddress relativePointer descriptor rowName slotRow mapReads item classBody bodyBytes body slotBody genericSize setBits rowAt recordAt endAt passed reached blockIn block slotBlock slotInit slotPointer vector fieldOffsets slotOffsets entryAt upTo entry entryOfSlot kindOf
+worked =
+    record {
+      generic = refl;
+      prespecializations = refl;
+      invertible = refl;
+      default-overrides = refl;
+      prespecialization-1 = refl;
+      default-override-1 = refl;
+      says-body = refl;
+      says-generic = refl;
+      says-prespecializations = refl;
+      says-invertible = refl;
+      says-default-overrides = refl;
+      says-prespecialization-1 = refl;
+      no-prespecialization-2 = refl;
+      says-default-override-1 = refl;
+      no-vtable = refl;
+      no-initialization = refl;
+      no-pointer = refl;
+      no-offsets = refl;
+      cut-92 = refl;
+      cut-91 = refl;
+      cut-123 = refl;
+    }

@@ -1,0 +1,121 @@
+-- A third image worked through: the premise for the names of descriptors, contexts and field records does not reach to other texts. 51 bytes, a class `A` whose superclass
+-- is `Su`: cut to 49 they are clear of every such name, the body is there, and the name of its superclass comes out as `S`.
+use Prim.Native.Nat.{ℕ, zero, suc, _≤_, _<_}
+use native.Mathlib.Omega.{arith}
+use mathlib.Core.Path.{_≡_, refl, _∙_, ap}
+use mathlib.Core.Logic.{inl, inr, ⊎-elim}
+use mathlib.Core.List.{List, [], _∷_, _++_}
+use mathlib.Core.Bool.{Bool, true, false, cond}
+use mathlib.Core.Option.{Option, some, none}
+use lib.ListN.{take}
+use lib.Dec.{ltb}
+use Rattle.utf8.specs.Table.{table}
+use Rattle.utf8.specs.Text.{following, goesOn, untilNul, textLength}
+use Rattle.util.specs.LittleEndian.{littleEndian, bytesAt, littleAt, twosComplement, signedAt, unsignedIn, signedIn}
+use Rattle.util.specs.Pointer.{relativePointer, relativeAddress}
+use Rattle.util.specs.Cstr.{place, textAt, partOf}
+use Rattle.segment.specs.Segments.{segmentsOf, fileOffset, decides, inFile}
+use Rattle.runtime.specs.Reads.{nothing, within, bytesPlace, textOffset, textPlace, run, extent, path, bind, Clear}
+use Rattle.runtime.specs.FieldName.{inImage}
+use Rattle.context.specs.Context.{kindOf}
+use Rattle.typedescriptor.specs.Row.{rowName, descriptor}
+use Rattle.typedescriptor.specs.Slots.{slotRow}
+use Rattle.typebody.specs.Body.{Body, ofClass, fixed, classBody, bodyBytes, body, slotBody}
+use Rattle.field.specs.Fields.{fieldStep, descriptorFrom, descriptorAt}
+use Rattle.parent.specs.Context.{headerIn, header}
+use Rattle.parent.specs.Chain.{contextsMost, headerAt}
+use Rattle.items.specs.Keys.{Sections, Key, Answer}
+use Rattle.items.specs.Items.{mapReads, rowOfSlot, contextOfSlot, item}
+use Rattle.items.specs.Texts.{NameKey, descriptorName, slotNameAddress, nameOf, ClearOf}
+use Rattle.items.specs.Beside.{toldAt, Beside, besideOf}
+use Rattle.items.specs.PremiseLaws.{no-name, no-slot-name, name-at}
+use Rattle.items.specs.TextsLaws.{no-item}
+use Rattle.items.specs.ListedLaws.{no-slot, no-row, no-record}
+
+abbrev word : ℕ → List ℕ
+word n = n ∷ 0 ∷ 0 ∷ 0 ∷ []
+
+-- each line from the offset that it names
+abbrev pub image : List ℕ
+image =
+    -- 0: `A` and a NUL, and two bytes that nothing reads
+    65 ∷ 0 ∷ 0 ∷ 0
+    -- 4: the descriptor: a class; no parent; the name's offset -12 at 12
+    ∷ (word 16 ++ (word 0 ++ (0xf4 ∷ 0xff ∷ 0xff ∷ 0xff ∷ (word 0 ++ (word 0
+    -- 24: the body: the offset 24 of the superclass's name
+    ++ (word 24 ++ (word 0 ++ (word 0 ++ (word 0 ++ (word 0 ++ (word 0
+    -- 48: `Su` and a NUL
+    ++ (83 ∷ 117 ∷ 0 ∷ []))))))))))))
+
+-- laid at 0x1000
+abbrev pub segments : List ℕ
+segments = 0x1000 ∷ 51 ∷ 0 ∷ 51 ∷ []
+
+-- types at 0x2000: one slot, whose offset is 0x1004 - 0x2000; no fields
+abbrev pub sections : Sections
+sections = record { types = 0x04 ∷ 0xf0 ∷ 0xff ∷ 0xff ∷ []; typesStart = 0x2000; fields = []; fieldsStart = 0 }
+
+abbrev told : List ℕ → Option Answer
+told i = run i segments (item sections (Key.body 0))
+
+-- the superclass's name, with no string section
+abbrev superclass : List ℕ → Option Beside
+superclass i = besideOf i segments [] 0 sections (NameKey.superclass 0)
+
+-- these bytes at offset 48
+abbrev named : List ℕ → ℕ → Option Beside
+named t n = some (record { place = inImage (place 48 n); bytes = t })
+
+pub record Worked : Type 0 where
+  pub whole-body : told image ≡ some (Answer.body (ofClass 0x1030 (fixed 0 0) 0 0 0))
+  pub whole-name : superclass image ≡ named (83 ∷ 117 ∷ []) 2
+  -- the cut to 49 falls into no name of a descriptor, a context or a field record
+  pub descriptors : (i : ℕ) → ClearOf image segments sections 49 (NameKey.descriptor i)
+  pub contexts : (i k : ℕ) → ClearOf image segments sections 49 (NameKey.context i k)
+  pub fields : (j k : ℕ) → ClearOf image segments sections 49 (NameKey.field j k)
+  -- the body is there, and a piece of the superclass's name, which the whole image does not tell
+  pub cut-body : told (take 49 image) ≡ told image
+  pub cut-name : superclass (take 49 image) ≡ named (83 ∷ []) 1
+  -- the premise for the name itself leaves out the cuts from 48 to 50, and no other
+  pub below : (c : ℕ) → c < 48 → ClearOf image segments sections c (NameKey.superclass 0)
+  pub above : (c : ℕ) → 51 ≤ c → ClearOf image segments sections c (NameKey.superclass 0)
+  pub not-clear : (c : ℕ) → 48 ≤ c → c < 51 → ClearOf image segments sections c (NameKey.superclass 0) → ⊥
+
+-- one slot
+no-slots : (i : ℕ) → run image segments (item sections (Key.row (suc i))) ≡ none
+no-slots i = no-slot image segments sections (suc i) (omega arith)
+
+no-contexts : (i k : ℕ) → run image segments (item sections (Key.context i k)) ≡ none
+unfolding run bind bytesPlace within textOffset segmentsOf fileOffset decides inFile table following goesOn textAt textLength untilNul unsignedIn signedIn littleAt signedAt bytesAt littleEndian twosComplement relativeAddress relativePointer descriptor rowName slotRow mapReads item header headerIn headerAt contextOfSlot
+no-contexts (suc i) k = no-row image segments sections (Key.context (suc i) k) (suc i) refl (no-slots i)
+no-contexts zero zero = refl
+no-contexts zero (suc k) = go (ltb (suc k) contextsMost)
+  where
+    go : (b : Bool) → run image segments (mapReads Answer.context (cond b (bind (rowOfSlot sections 0) (λ r. headerAt (suc k) (r .parent))) nothing)) ≡ none
+    go true = refl
+    go false = refl
+
+no-fields : (j : ℕ) → run image segments (item sections (Key.fieldDescriptor j)) ≡ none
+unfolding run bind mapReads item fieldStep descriptorFrom descriptorAt
+no-fields zero = refl
+no-fields (suc j) = refl
+
+pub worked : Worked
+unfolding run path bind bytesPlace within textOffset textPlace extent segmentsOf fileOffset decides inFile table following goesOn textAt partOf textLength untilNul unsignedIn signedIn littleAt signedAt bytesAt littleEndian twosComplement relativeAddress relativePointer descriptor rowName slotRow descriptorName slotNameAddress nameOf mapReads item classBody bodyBytes body slotBody kindOf toldAt besideOf
+worked =
+    record {
+      whole-body = refl;
+      whole-name = refl;
+      descriptors = descriptor-clear;
+      contexts = λ i k. no-name image segments 49 sections (NameKey.context i k) (no-item image segments sections (NameKey.context i k) (Key.context i k) refl (no-contexts i k));
+      fields = λ j k. no-name image segments 49 sections (NameKey.field j k) (no-item image segments sections (NameKey.field j k) (Key.fieldRecord j k) refl (no-record image segments sections j k (no-fields j)));
+      cut-body = refl;
+      cut-name = refl;
+      below = λ c h. name-at image segments c sections (NameKey.superclass 0) 0x1030 48 refl refl (λ t. inl (omega arith));
+      above = λ c h. name-at image segments c sections (NameKey.superclass 0) 0x1030 48 refl refl (λ t. inr (omega arith));
+      not-clear = λ c h g w. ⊎-elim (λ l. omega arith) (λ l. omega arith) (w 0x1030 refl 48 refl refl);
+    }
+  where
+    descriptor-clear : (i : ℕ) → ClearOf image segments sections 49 (NameKey.descriptor i)
+    descriptor-clear zero = name-at image segments 49 sections (NameKey.descriptor 0) 0x1000 0 refl refl (λ t. inr (omega arith))
+    descriptor-clear (suc i) = no-slot-name image segments 49 sections (suc i) (omega arith)

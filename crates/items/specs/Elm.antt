@@ -1,0 +1,183 @@
+-- A third image worked through: what hangs on a struct. It has singleton records, an offset list, fields, and a context without a name in a module. Each item's path and what it
+-- says stand here as numbers, worked out by hand from docs/SPECIFICATION.md (offset + 0x1000 is the address), and are computed from the definitions.
+use Prim.Native.Nat.{ℕ}
+use mathlib.Core.Path.{_≡_, refl}
+use mathlib.Core.List.{List, [], _∷_, _++_}
+use mathlib.Core.Bool.{true, false}
+use mathlib.Core.Option.{Option, some, none}
+use lib.ListN.{take}
+use Rattle.utf8.specs.Table.{table}
+use Rattle.utf8.specs.Text.{following, goesOn, untilNul, textLength}
+use Rattle.util.specs.LittleEndian.{littleEndian, bytesAt, littleAt, twosComplement, signedAt, unsignedIn, signedIn}
+use Rattle.util.specs.Pointer.{relativePointer, relativeAddress}
+use Rattle.segment.specs.Segments.{segmentsOf, fileOffset, decides, inFile}
+use Rattle.util.specs.Cstr.{place, textAt}
+use Rattle.runtime.specs.Reads.{within, bytesPlace, textOffset, run, extent, Range, path, bind}
+use Rattle.context.specs.Context.{kindOf}
+use Rattle.context.specs.Field.{fieldKind}
+use Rattle.context.specs.declared.field.FieldDescriptorKind.{FieldDescriptorKind}
+use Rattle.classtrailers.specs.Blocks.{rowAt, recordAt, endAt, passed, reached, blockIn, block}
+use Rattle.classtrailers.specs.declared.block.Block.{Block}
+use Rattle.classtrailers.specs.declared.block.BlockKind.{BlockKind}
+use Rattle.typedescriptor.specs.Row.{rowName, descriptor}
+use Rattle.typedescriptor.specs.Slots.{slotRow}
+use Rattle.typebody.specs.Body.{ofStruct, structBody, bodyBytes, body, slotBody}
+use Rattle.typebody.specs.Singleton.{slotTarget, targets, singletonInit, singletonPointer}
+use Rattle.typebody.specs.Items.{slotBlock, slotInit, slotPointer}
+use Rattle.fieldoffsets.specs.Offsets.{vector, u32s, fieldOffsets, slotOffsets}
+use Rattle.vtable.specs.Entries.{entryAt, upTo, entry}
+use Rattle.field.specs.Fields.{fieldStep, descriptorFrom, descriptorAt}
+use Rattle.field.specs.Records.{descriptorRecord}
+use Rattle.parent.specs.Context.{headerIn, header}
+use Rattle.parent.specs.Chain.{headerAt}
+use Rattle.items.specs.Keys.{Sections, Key, Answer}
+use Rattle.items.specs.Items.{mapReads, contextOfSlot, item}
+
+-- a u32 of one byte
+abbrev word : ℕ → List ℕ
+word n = n ∷ 0 ∷ 0 ∷ 0 ∷ []
+
+-- the fields section is a part of the image: 48 bytes from 72 on
+abbrev fieldBytes : List ℕ
+fieldBytes =
+    -- 72: no type's name, no superclass's; 80: kind 0, records of 16 bytes; 84: two of them
+    word 0 ++ word 0 ++ 0 ∷ 0 ∷ 16 ∷ 0 ∷ word 2
+    -- 88: record 0: flags, the type name's offset to 160 at 92, the name's to 153 at 96; four bytes that no record has
+    ++ word 0 ++ word 68 ++ word 57 ++ word 0
+    -- 104: record 1: a `var`, the type name's offset to 160 at 108, the name's to 157 at 112
+    ++ word 2 ++ word 52 ++ word 45 ++ word 0
+
+-- 163 bytes, each line from the offset that it names
+abbrev pub image : List ℕ
+image =
+    -- 0: `Elm` and a NUL
+    69 ∷ 108 ∷ 109 ∷ 0 ∷
+    -- 4: the descriptor: a struct with a singleton initialization (type flags 1) and a singleton pointer (8); the parent's offset to 120 at 8, the name's -12 at 12
+    17 ∷ 0 ∷ 9 ∷ 0 ∷ word 112 ++ 0xf4 ∷ 0xff ∷ 0xff ∷ 0xff ∷ word 0 ++ word 52
+    -- 24: the body: two fields, whose offsets start at word 2 of the metadata
+    ++ word 2 ++ word 2
+    -- 32: the singleton initialization: no cache, metadata at 36 + 12, a function at 40 + 216
+    ++ word 0 ++ word 12 ++ word 216
+    -- 44: the singleton pointer, to 44 + 4
+    ++ word 4
+    -- 48: the metadata: two words of 8 bytes, and 64 its vector: 0 and 8
+    ++ 0 ∷ 2 ∷ 0 ∷ 0 ∷ word 0 ++ 4 ∷ 0x10 ∷ 0 ∷ 0 ∷ word 0 ++ word 0 ++ word 8
+    -- 72: the fields section
+    ++ fieldBytes
+    -- 120: an anonymous context, the parent's offset to 132 at 124; the word behind its 8 bytes, which is no name of it, leads to 149
+    ++ word 2 ++ word 8 ++ word 21
+    -- 132: a module; no parent; the name's offset to 144 at 140
+    ++ word 0 ++ word 0 ++ word 4
+    -- 144: `Park`; 149: `ivy`, which no name leads to; 153: `age`; 157: `id`; 160: `Si`, the name of a type; each with a NUL
+    ++ 80 ∷ 97 ∷ 114 ∷ 107 ∷ 0 ∷ 105 ∷ 118 ∷ 121 ∷ 0 ∷ 97 ∷ 103 ∷ 101 ∷ 0 ∷ 105 ∷ 100 ∷ 0 ∷ 83 ∷ 105 ∷ 0 ∷ []
+
+-- laid at 0x1000
+abbrev pub segments : List ℕ
+segments = 0x1000 ∷ 163 ∷ 0 ∷ 163 ∷ []
+
+-- types at 0x2000: one slot, whose offset is 0x1004 - 0x2000; fields at 0x1048
+abbrev pub sections : Sections
+sections = record { types = 0x04 ∷ 0xf0 ∷ 0xff ∷ 0xff ∷ []; typesStart = 0x2000; fields = fieldBytes; fieldsStart = 0x1048 }
+
+abbrev reads : Key → List Range
+reads k = path image segments (item sections k)
+
+abbrev told : List ℕ → Key → Option Answer
+told i k = run i segments (item sections k)
+
+-- bytes from an offset up to another
+abbrev bytesTo : ℕ → ℕ → Range
+bytesTo o e = record { from = o; to = e; isText = false }
+
+-- the descriptor's 20 bytes, and the name with its NUL; then the body's 8
+abbrev rowReads : List Range
+rowReads = bytesTo 4 24 ∷ record { from = 0; to = 4; isText = true } ∷ []
+
+abbrev bodyReads : List Range
+bodyReads = rowReads ++ (bytesTo 24 32 ∷ [])
+
+-- the two blocks at an address
+abbrev initializationAt : ℕ → Block
+initializationAt a = Block.SingletonMetadataInit a
+
+abbrev pointerAt : ℕ → Block
+pointerAt a = Block.SingletonMetadataPointer a
+
+pub record Worked : Type 0 where
+  pub row : reads (Key.row 0) ≡ rowReads
+  pub body : reads (Key.body 0) ≡ bodyReads
+  -- two blocks without a header: there is nothing to read, neither of their own nor of the one before
+  pub block-initialization : reads (Key.block 0 BlockKind.SingletonMetadataInit) ≡ bodyReads
+  pub block-pointer : reads (Key.block 0 BlockKind.SingletonMetadataPointer) ≡ bodyReads
+  -- the records that they tell of: 12 bytes, and 4
+  pub initialization : reads (Key.initialization 0) ≡ bodyReads ++ (bytesTo 32 44 ∷ [])
+  pub pointer : reads (Key.pointer 0) ≡ bodyReads ++ (bytesTo 44 48 ∷ [])
+  -- the vector of metadata at 0x1030: two numbers of four bytes, two words of 8 behind it
+  pub offsets : reads (Key.offsets 0 0x1030) ≡ bodyReads ++ (bytesTo 64 72 ∷ [])
+  pub context-1 : reads (Key.context 0 1) ≡ rowReads ++ (bytesTo 120 128 ∷ bytesTo 132 140 ∷ [])
+  -- a descriptor reads nothing of the image; a record the 12 bytes of each one up to it, 16 from one to the next
+  pub field-descriptor : reads (Key.fieldDescriptor 0) ≡ []
+  pub field-record-1 : reads (Key.fieldRecord 0 1) ≡ bytesTo 88 100 ∷ bytesTo 104 116 ∷ []
+  -- what they say; nothing past the last
+  pub says-row : told image (Key.row 0) ≡ some (Answer.row (record { address = 0x1004; flags = 0x90011; parent = 0x1078; name = place 0 3; nameBytes = 69 ∷ 108 ∷ 109 ∷ [] }))
+  pub says-body : told image (Key.body 0) ≡ some (Answer.body (ofStruct 2 2))
+  pub says-block-initialization : told image (Key.block 0 BlockKind.SingletonMetadataInit) ≡ some (Answer.block (initializationAt 0x1020))
+  pub says-block-pointer : told image (Key.block 0 BlockKind.SingletonMetadataPointer) ≡ some (Answer.block (pointerAt 0x102c))
+  pub says-initialization : told image (Key.initialization 0) ≡ some (Answer.initialization (record { cache = 0; incomplete = 0x1030; completion = 0x1100 }))
+  pub says-pointer : told image (Key.pointer 0) ≡ some (Answer.pointer 0x1030)
+  pub says-offsets : told image (Key.offsets 0 0x1030) ≡ some (Answer.offsets (0 ∷ 8 ∷ []))
+  pub says-context-0 : told image (Key.context 0 0) ≡ some (Answer.context (record { address = 0x1078; flags = 2; parent = 0x1084 }))
+  pub says-context-1 : told image (Key.context 0 1) ≡ some (Answer.context (record { address = 0x1084; flags = 0; parent = 0 }))
+  pub no-context-2 : told image (Key.context 0 2) ≡ none
+  pub says-field-descriptor : told image (Key.fieldDescriptor 0)
+      ≡ some (Answer.fieldDescriptor (record { address = 0x1048; «mangled_type_name_va» = 0; «superclass_va» = 0; kind = FieldDescriptorKind.Struct; «field_record_size» = 16; «num_fields» = 2 }))
+  pub no-field-descriptor-1 : told image (Key.fieldDescriptor 1) ≡ none
+  pub says-field-record-1 : told image (Key.fieldRecord 0 1) ≡ some (Answer.fieldRecord (record { address = 0x1068; words = 2 ∷ 0x10a0 ∷ 0x109d ∷ [] }))
+  pub no-field-record-2 : told image (Key.fieldRecord 0 2) ≡ none
+  -- each ends where its last range does: a cut there keeps it, and one a byte before does not
+  pub cut-44 : told (take 44 image) (Key.initialization 0) ≡ told image (Key.initialization 0)
+  pub cut-43 : told (take 43 image) (Key.initialization 0) ≡ none
+  pub cut-48 : told (take 48 image) (Key.pointer 0) ≡ told image (Key.pointer 0)
+  pub cut-47 : told (take 47 image) (Key.pointer 0) ≡ none
+  pub cut-72 : told (take 72 image) (Key.offsets 0 0x1030) ≡ told image (Key.offsets 0 0x1030)
+  pub cut-71 : told (take 71 image) (Key.offsets 0 0x1030) ≡ none
+  pub cut-116 : told (take 116 image) (Key.fieldRecord 0 1) ≡ told image (Key.fieldRecord 0 1)
+  pub cut-115 : told (take 115 image) (Key.fieldRecord 0 1) ≡ none
+
+pub worked : Worked
+unfolding run path bind bytesPlace within textOffset extent segmentsOf fileOffset decides inFile table following goesOn textAt textLength untilNul unsignedIn signedIn littleAt signedAt bytesAt littleEndian twosComplement relativeAddress relativePointer descriptor rowName slotRow mapReads item structBody bodyBytes body slotBody rowAt recordAt endAt passed reached blockIn block slotBlock slotTarget targets singletonInit singletonPointer slotInit slotPointer vector u32s fieldOffsets slotOffsets entryAt upTo entry fieldStep descriptorFrom descriptorAt descriptorRecord headerIn header headerAt contextOfSlot kindOf fieldKind
+worked =
+    record {
+      row = refl;
+      body = refl;
+      block-initialization = refl;
+      block-pointer = refl;
+      initialization = refl;
+      pointer = refl;
+      offsets = refl;
+      context-1 = refl;
+      field-descriptor = refl;
+      field-record-1 = refl;
+      says-row = refl;
+      says-body = refl;
+      says-block-initialization = refl;
+      says-block-pointer = refl;
+      says-initialization = refl;
+      says-pointer = refl;
+      says-offsets = refl;
+      says-context-0 = refl;
+      says-context-1 = refl;
+      no-context-2 = refl;
+      says-field-descriptor = refl;
+      no-field-descriptor-1 = refl;
+      says-field-record-1 = refl;
+      no-field-record-2 = refl;
+      cut-44 = refl;
+      cut-43 = refl;
+      cut-48 = refl;
+      cut-47 = refl;
+      cut-72 = refl;
+      cut-71 = refl;
+      cut-116 = refl;
+      cut-115 = refl;
+    }
