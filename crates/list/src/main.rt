@@ -219,7 +219,7 @@ fn print_help() {
     );
 }
 
-// The only place that has the version.
+// The version of CHANGELOG.md, in no other place of the code.
 fn print_version() {
     print(b"list 0.1.0\n");
 }
