@@ -6,7 +6,7 @@ use native.Mathlib.Omega.{arith}
 use mathlib.Core.Path.{_≡_, refl, sym, ap, _∙_}
 use mathlib.Core.Logic.{_⊎_, inl, inr, ⊎-elim}
 use mathlib.Core.List.{List, [], _∷_, _++_, map, List·Memᴰ, List·Memᴰ·head, List·Memᴰ·tail, List·Memᴰ·cases-cons}
-use mathlib.Core.Bool.{Bool, true, false, cond, _&&_, and-assoc, and-eq-true-iff}
+use mathlib.Core.Bool.{Bool, true, false, cond, _&&_, and-eq-true-iff}
 use mathlib.Core.Option.{Option, some, none}
 use lib.ListN.{length, take}
 use lib.Dec.{ltb}
@@ -26,7 +26,7 @@ use Rattle.qualifiedname.specs.Name.{hops, qualifiedName, isThere, tooDeep, nam
 use Rattle.items.specs.Keys.{Sections}
 use Rattle.items.specs.Items.{rowOfSlot, contextOfSlot}
 use Rattle.items.specs.Texts.{NameKey, contextNameAt, ClearOf}
-use Rattle.items.specs.ProgramLaws.{on-context}
+use Rattle.items.specs.ProgramLaws.{every-append, on-context}
 use Rattle.items.specs.PremiseLaws.{ClearBy}
 use Rattle.items.specs.TextsLaws.{cut-context, context-clear}
 use Rattle.items.specs.CutLaws.{kept-run, keep, rowEndsBy, keptRows, cut-rows}
@@ -144,10 +144,6 @@ module _ (image segments : List ℕ) (c : ℕ) where
     cut-line = rw (cut-name-answer nameBytes)
 
 -- ---- lines that are the same
-
-every-append : (t : Range → Bool) (l m : List Range) → every t (l ++ m) ≡ every t l && every t m
-every-append t [] m = refl
-every-append t (r ∷ l) m = ap (λ (b : Bool). t r && b) (every-append t l m) ∙ sym (and-assoc (t r) (every t l) (every t m))
 
 both-end : (t : Range → Bool) (l m : List Range) → every t (l ++ m) ≡ true → (every t l ≡ true) × (every t m ≡ true)
 both-end t l m e = and-eq-true-iff (every t l) (every t m) .0 (sym (every-append t l m) ∙ e)

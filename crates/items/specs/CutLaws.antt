@@ -99,7 +99,7 @@ pub record Cut (image segments strings : List ℕ) (start : ℕ) (s : Sections) 
   pub items : (k : Key) → Claim image segments s c k
   pub places : (i m : ℕ)
       → offsetsTold (take c image) segments s i m ≡ cond (every (endsBy c) (path image segments (item s (Key.offsets i m)))) (offsetsTold image segments s i m) none
-  pub texts : (n : NameKey) → ClearOf image segments s c n → TextClaim image segments c strings start s n
+  pub texts : (n : NameKey) → ClearOf image segments s c n → TextClaim image segments strings start s c n
 
 module _ (image segments strings : List ℕ) (start : ℕ) (s : Sections) (c : ℕ) where
   -- the theorem: the cut falls into no name of a slot's descriptor
@@ -116,15 +116,15 @@ module _ (image segments strings : List ℕ) (start : ℕ) (s : Sections) (c : �
       → ((i k : ℕ) → ClearOf image segments s c (NameKey.context i k))
       → ((j k : ℕ) → ClearOf image segments s c (NameKey.field j k))
       → ((k : Key) → Claim image segments s c k)
-      × ((i k : ℕ) → TextClaim image segments c strings start s (NameKey.context i k))
-      × ((j k : ℕ) → TextClaim image segments c strings start s (NameKey.field j k))
+      × ((i k : ℕ) → TextClaim image segments strings start s c (NameKey.context i k))
+      × ((j k : ℕ) → TextClaim image segments strings start s c (NameKey.field j k))
   cut-listing rows contexts fields =
       let w = the-cut rows in
       (w .items, (λ i k. w .texts (NameKey.context i k) (contexts i k)), (λ j k. w .texts (NameKey.field j k) (fields j k)))
 
   -- nor into any text that the listing of the whole image looks up
   pub cut-all : ((n : NameKey) → ClearOf image segments s c n)
-      → ((k : Key) → Claim image segments s c k) × ((n : NameKey) → TextClaim image segments c strings start s n)
+      → ((k : Key) → Claim image segments s c k) × ((n : NameKey) → TextClaim image segments strings start s c n)
   cut-all clear =
       let w = the-cut (λ i. clear (NameKey.descriptor i)) in
       (w .items, (λ n. w .texts n (clear n)))
@@ -135,7 +135,7 @@ module _ (image segments strings : List ℕ) (start : ℕ) (s : Sections) (c : �
     missing : besideOf (take c image) segments strings start s n ≡ none → Became n
     section : isField n ≡ true → besideOf (take c image) segments strings start s n ≡ sectionOf image segments strings start s n → Became n
 
-  pub becomes : (n : NameKey) → TextClaim image segments c strings start s n → Became n
+  pub becomes : (n : NameKey) → TextClaim image segments strings start s c n → Became n
   unfolding sectionOf
   becomes n e = go (every (endsBy c) (path image segments (readName s n))) (every (endsBy c) (path image segments (nameOf s n))) e
     where

@@ -1,4 +1,4 @@
--- A third image worked through: the premise for the names of descriptors, contexts and field records does not reach to other texts. 51 bytes, a class `A` whose superclass
+-- A small image worked through: the premise for the names of descriptors, contexts and field records does not reach to other texts. 51 bytes, a class `A` whose superclass
 -- is `Su`: cut to 49 they are clear of every such name, the body is there, and the name of its superclass comes out as `S`.
 use Prim.Native.Nat.{ℕ, zero, suc, _≤_, _<_}
 use native.Mathlib.Omega.{arith}
@@ -28,7 +28,8 @@ use Rattle.items.specs.Keys.{Sections, Key, Answer}
 use Rattle.items.specs.Items.{mapReads, rowOfSlot, contextOfSlot, item}
 use Rattle.items.specs.Texts.{NameKey, descriptorName, slotNameAddress, nameOf, ClearOf}
 use Rattle.items.specs.Beside.{toldAt, Beside, besideOf}
-use Rattle.items.specs.PremiseLaws.{no-name, no-slot-name, name-at}
+use Rattle.items.specs.ClearLaws.{nowhere, there, asked}
+use Rattle.items.specs.PremiseLaws.{no-slot-name}
 use Rattle.items.specs.TextsLaws.{no-item}
 use Rattle.items.specs.ListedLaws.{no-slot, no-row, no-record}
 
@@ -107,15 +108,15 @@ worked =
       whole-body = refl;
       whole-name = refl;
       descriptors = descriptor-clear;
-      contexts = λ i k. no-name image segments 49 sections (NameKey.context i k) (no-item image segments sections (NameKey.context i k) (Key.context i k) refl (no-contexts i k));
-      fields = λ j k. no-name image segments 49 sections (NameKey.field j k) (no-item image segments sections (NameKey.field j k) (Key.fieldRecord j k) refl (no-record image segments sections j k (no-fields j)));
+      contexts = λ i k. nowhere image segments sections 49 (NameKey.context i k) (no-item image segments sections (NameKey.context i k) (Key.context i k) refl (no-contexts i k));
+      fields = λ j k. nowhere image segments sections 49 (NameKey.field j k) (no-item image segments sections (NameKey.field j k) (Key.fieldRecord j k) refl (no-record image segments sections j k (no-fields j)));
       cut-body = refl;
       cut-name = refl;
-      below = λ c h. name-at image segments c sections (NameKey.superclass 0) 0x1030 48 refl refl (λ t. inl (omega arith));
-      above = λ c h. name-at image segments c sections (NameKey.superclass 0) 0x1030 48 refl refl (λ t. inr (omega arith));
-      not-clear = λ c h g w. ⊎-elim (λ l. omega arith) (λ l. omega arith) (w 0x1030 refl 48 refl refl);
+      below = λ c h. there image segments sections c (NameKey.superclass 0) 0x1030 48 refl refl (inl h);
+      above = λ c h. there image segments sections c (NameKey.superclass 0) 0x1030 48 refl refl (inr h);
+      not-clear = λ c h g w. ⊎-elim (λ l. omega arith) (λ l. omega arith) (asked image segments sections c (NameKey.superclass 0) 0x1030 48 refl refl w);
     }
   where
     descriptor-clear : (i : ℕ) → ClearOf image segments sections 49 (NameKey.descriptor i)
-    descriptor-clear zero = name-at image segments 49 sections (NameKey.descriptor 0) 0x1000 0 refl refl (λ t. inr (omega arith))
+    descriptor-clear zero = there image segments sections 49 (NameKey.descriptor 0) 0x1000 0 refl refl (inr (omega arith))
     descriptor-clear (suc i) = no-slot-name image segments 49 sections (suc i) (omega arith)

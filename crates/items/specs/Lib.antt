@@ -5,6 +5,7 @@ pub mod Clue
 pub mod CutLaws
 pub mod Elder
 pub mod Elm
+pub mod ElmBeside
 pub mod ElmTexts
 pub mod Items
 pub mod Keys
@@ -16,4 +17,3 @@ pub mod PremiseLaws
 pub mod ProgramLaws
 pub mod Texts
 pub mod TextsLaws
-pub mod Yew

@@ -26,6 +26,7 @@ use Rattle.parent.specs.Context.{Name, Header, slotName, nameAt, name}
 use Rattle.items.specs.Keys.{Sections}
 use Rattle.items.specs.Items.{mapReads, rowOfSlot, contextOfSlot}
 use Rattle.items.specs.Texts.{NameKey, descriptorName, slotNameAddress, contextNameAt, recordName, nameOf, lookup, readName, ClearAt, ClearOf}
+use Rattle.items.specs.ClearLaws.{nowhere}
 use Rattle.items.specs.ProgramLaws.{run-map, path-map, all-append, besideRow, on-slot-name, on-name}
 
 -- ---- the programs that read a name are the calls'
@@ -147,23 +148,10 @@ module _ (image segments : List ℕ) (c : ℕ) where
     unfolding readName
     clear-name n h = clear-text (nameOf s n) h
 
-    -- a name that is not looked up is clear
-    pub no-name : (n : NameKey) → run image segments (nameOf s n) ≡ none → ClearOf image segments s c n
-    no-name n e a f = let z : _≡_ {A = ℕ} 0 1 = cc in absurd (omega arith)
-
-    -- as that of a slot past the last
+    -- a slot past the last has no name
     pub no-slot-name : (i : ℕ) → slots (s .types) ≤ i → ClearOf image segments s c (NameKey.descriptor i)
     unfolding nameOf slotNameAddress run
-    no-slot-name i h = no-name (NameKey.descriptor i) (simp (le-ltb i (slots (s .types)) h))
-
-    -- one that is looked up at an address is clear where the range of the text there is
-    pub name-at : (n : NameKey) (a o : ℕ) → run image segments (nameOf s n) ≡ some a → textOffset segments a ≡ some o → Clear c (textRange image o)
-        → ClearOf image segments s c n
-    name-at n a o e t h b f p g =
-        let q : a ≡ b = cc in
-        let u : textOffset segments a ≡ some p = rw q g in
-        let r : o ≡ p = cc in
-        rw r at h
+    no-slot-name i h = nowhere image segments s c (NameKey.descriptor i) (simp (le-ltb i (slots (s .types)) h))
 
     -- by what the calls read: a row; a context and its name; a field record and the text at its third word
     pub clear-row : (i : ℕ) → All (Clear c) (path image segments (rowOfSlot s i)) → ClearOf image segments s c (NameKey.descriptor i)

@@ -137,6 +137,14 @@ module _ (image segments strings : List ℕ) (start : ℕ) where
 
 -- ---- the cut
 
+-- the claim: the image's first `c` bytes give the whole image's text if its path, the item's that it stands beside and its own, ends at or before `c`; if only the path of
+-- its address does, of a field's name the string section's, else none; and where that is lost, none
+abbrev pub TextClaim : List ℕ → List ℕ → List ℕ → ℕ → Sections → ℕ → NameKey → Type 0
+TextClaim image segments strings start s c n =
+    besideOf (take c image) segments strings start s n
+    ≡ cond (every (endsBy c) (path image segments (readName s n))) (besideOf image segments strings start s n)
+    (cond (every (endsBy c) (path image segments (nameOf s n))) (sectionOf image segments strings start s n) none)
+
 map-cond : {A B : Type 0} (f : A → B) (b : Bool) (x : Option A) → Option·map f (cond b x none) ≡ cond b (Option·map f x) none
 map-cond f true x = refl
 map-cond f false x = refl
@@ -177,20 +185,13 @@ module _ (image segments : List ℕ) (c : ℕ) where
             simp (eq-eqb a 0 z) (rw (path-text-zero image segments a (λ p t. done (nameIn p t)) z))
 
     module _ (s : Sections) (n : NameKey) where
-      -- the claim
-      abbrev pub TextClaim : Type 0
-      TextClaim =
-          besideOf (take c image) segments strings start s n
-          ≡ cond (every (endsBy c) (path image segments (readName s n))) (besideOf image segments strings start s n)
-          (cond (every (endsBy c) (path image segments (nameOf s n))) (sectionOf image segments strings start s n) none)
-
       module _ (rows : (i : ℕ) → besideRow n ≡ some i → ClearOf image segments s c (NameKey.descriptor i)) (clear : ClearOf image segments s c n) where
         cut-address : run (take c image) segments (nameOf s n) ≡ cond (every (endsBy c) (path image segments (nameOf s n))) (run image segments (nameOf s n)) none
         cut-address =
             cut image segments c (nameOf s n)
             (on-name image segments (Clear c) (λ o n. bytes-clear c (bytesRange o n) refl) s n (λ i e. record { all = row-clear image segments c s i (rows i e) }) .all)
 
-        pub cut-beside : TextClaim
+        pub cut-beside : TextClaim image segments strings start s c n
         unfolding readName sectionOf
         cut-beside =
             beside-by (take c image) segments strings start s n
