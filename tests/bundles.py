@@ -464,8 +464,8 @@ MORE = b" (list --help says more)\n"
 
 
 def version():
-    """The version, from the only place that has it."""
-    return re.search(r'b"(list \d+\.\d+\.\d+)\\n"', (ROOT / "crates/list/src/main.rt").read_text())[1].encode() + b"\n"
+    """The version of the changelog's newest heading; crates/list/src/main.rt is the only other place that has it."""
+    return b"list " + re.search(r"^## (\d+\.\d+\.\d+)", (ROOT / "CHANGELOG.md").read_text(encoding="utf-8"), re.M)[1].encode() + b"\n"
 
 
 def other_files():

@@ -28,6 +28,8 @@ u64 hodrupec_field_records(IMAGE, u64 base_va, u32 count, u32 size, u32 next, u6
 u64 hodrupec_field_offsets(IMAGE, u64 address, u32 flags, u64 metadata_va, u64 out[3]);
 u64 hodrupec_static_field_offsets(IMAGE, u64 address, u32 flags, u64 out[3]);
 u64 hodrupec_field_offset(BYTES(image), size_t place, u32 count, u32 number, u64 out[2]);
+u64 hodrupec_row_certain(IMAGE, BYTES(types), u64 vmaddr, size_t slot, u64 out[1]);
+u64 hodrupec_name_certain(IMAGE, BYTES(types), u64 vmaddr, size_t slot, u64 out[1]);
 u64 hodrupec_class_methods(IMAGE, BYTES(types), u64 vmaddr, size_t start, u32 first, u64 *buffer, size_t room, u64 out[4]);
 u64 hodrupec_first_block(IMAGE, u64 address, u32 flags, u64 out[4]);
 u64 hodrupec_next_block(IMAGE, u32 flags, u32 is_class, u32 extra, u32 row, u64 address, u64 out[7]);
@@ -64,7 +66,7 @@ u64 hodrupec_vm_address(NUMBERS(segments), u64 offset, u64 out[2]);
 enum { FIRST = 0x10000, FIRST_PLACE = 0x100, SECOND = 0x40000, SECOND_PLACE = 0x40, IMAGE_BYTES = 0x800 };
 enum { TYPES = 0x20000, FIELDS = 0x30000, STRINGS = 0x50000 };
 enum { MODULE = 0x100, OUTER = 0x120, INNER = 0x160, RECORDS = 0x300, METADATA = 0x400, TARGETS = 0x600 };
-enum { MODULE_NAME = 0x7c0, OUTER_NAME = 0x7c8, INNER_NAME = 0x7d0, SUPER_NAME = 0x7d8, TYPE_NAME = 0x7e0, FAR_NAME = 0x50 };
+enum { OUTER_NAME = 0x7c8, INNER_NAME = 0x7d0, SUPER_NAME = 0x7d8, TYPE_NAME = 0x7e0, MODULE_NAME = 0x7f0, FAR_NAME = 0x50 };
 enum { MODULE_FLAGS = 0x40 };
 #define OUTER_FLAGS 0x00090051u /* a struct with a singleton initialization and a singleton pointer */
 #define INNER_FLAGS 0xc0480070u /* a class with an invertible set and all four tables */
@@ -223,6 +225,14 @@ int main(void) {
         2, 3, 1);
     GUARDED(hodrupec_class_methods, (ON, TYPES_AT, 2, 1, list, ROOM, out),
         LIST(2, va(INNER), 1, 0, va(METHODS + 8), 0x13, target(1)), 1, 3, 0, 1);
+
+    /* What the first bytes tell for certain: of all bytes, row and name; of those up to the module's name, the row alone; of those up to
+       the midst of the descriptor, neither. */
+    GUARDED(hodrupec_row_certain, (ON, TYPES_AT, 1, out), NONE, 1);
+    GUARDED(hodrupec_name_certain, (ON, TYPES_AT, 1, out), NONE, 1);
+    GUARDED(hodrupec_row_certain, (image, MODULE_NAME, SEGMENTS, TYPES_AT, 1, out), NONE, 1);
+    GUARDED(hodrupec_name_certain, (image, MODULE_NAME, SEGMENTS, TYPES_AT, 1, out), NONE, 0);
+    GUARDED(hodrupec_row_certain, (image, OUTER + 10, SEGMENTS, TYPES_AT, 1, out), NONE, 0);
 
     /* bodies, blocks and tables */
     GUARDED(hodrupec_body, (ON, va(INNER), INNER_FLAGS, out), NONE, 1, va(SUPER_NAME), 0, 101, 102, 103, 104, 105);

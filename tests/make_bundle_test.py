@@ -403,10 +403,9 @@ def commands():
     sentence = "make_bundle.py: cannot write to standard output: its reader has ended\n"
     expect("no reader", command("--sample", "clue", stdout=writer), (2, sentence, None))
     os.close(writer)
-    if os.path.exists("/dev/full"):
-        with open("/dev/full", "wb") as full:
-            sentence = "make_bundle.py: cannot write to standard output: No space left on device\n"
-            expect("a full device", command("--sample", "clue", stdout=full), (2, sentence, None))
+    with open("/dev/full", "wb") as full:
+        sentence = "make_bundle.py: cannot write to standard output: No space left on device\n"
+        expect("a full device", command("--sample", "clue", stdout=full), (2, sentence, None))
 
 
 # Files made by a real assembler and linker.

@@ -137,7 +137,9 @@ fn say_macho(bytes: &[u8]) {
     } else {
         say(b"list: refused 2: ");
     }
-    say(b"this is a Mach-O file and not a bundle; `scripts/make_bundle.py --macho FILE` makes a bundle of it\n");
+    say(
+        b"this is a Mach-O file and not a bundle; `scripts/make_bundle.py --macho FILE` makes a bundle of it\n",
+    );
 }
 
 fn say_refused(bytes: &[u8]) {
@@ -217,7 +219,7 @@ fn print_help() {
     );
 }
 
-// The only place that has the version.
+// The version of CHANGELOG.md, in no other place of the code.
 fn print_version() {
     print(b"list 0.1.0\n");
 }
