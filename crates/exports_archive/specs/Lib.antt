@@ -1,2 +1,4 @@
 pub mod Fields
+pub mod Names
+pub mod NamesLaws
 pub mod Offsets

@@ -2,5 +2,6 @@
 // status, 0 where it answers and else the refusal's number, and writes its answer into a lent array, of which a refused call changes nothing.
 mod fields;
 mod named;
+mod names;
 mod offsets;
 mod records;
