@@ -3,8 +3,8 @@
 
 usage: tests/vectors.py [--check]        (--check: write nothing; exit status 1 if a file on disk is not what would be written)
 
-A line of stdin is FUNCTION A B BYTES STRINGS SEGMENT.. : the function called, two numbers, the bytes of the slice or image, the
-bytes of the string section, and the segments' numbers. Numbers and bytes are in hexadecimal; `-` stands for no bytes; a number
+A line of stdin is FUNCTION A B BYTES STRINGS SEGMENT.. : the function called, two numbers, the bytes of the slice, image or bundle,
+the bytes of the string section, and the segments' numbers. Numbers and bytes are in hexadecimal; `-` stands for no bytes; a number
 that a function does not take is 0. The answers come from the rules as written down here and from Python's own int.from_bytes and
 strict UTF-8 decoder, and from nothing of the crates.
 """
@@ -77,6 +77,18 @@ def field_name(image, numbers, strings, section, address):
     return None
 
 
+def bodies(bundle):
+    """The bodies of a bundle's records by their kinds."""
+    found, at = {}, 0
+    while at < len(bundle):
+        size, kind = struct.unpack_from("<IH", bundle, at)
+        found[kind] = bundle[at + 6 : at + 6 + size]
+        at += 6 + size
+    return found
+
+
+PARTS = {"image_part": 1, "types_part": 3, "fields_part": 4, "strings_part": 5}
+
 # The answers' lines.
 
 
@@ -120,7 +132,8 @@ def answer(function, a, b, data, strings, numbers):
         if found is None:
             return "nothing"
         return found[0] + " " + text_line(data if found[0] == "image" else strings, found[1:])
-    raise ValueError(function)
+    body = bodies(data).get(PARTS[function], bytes(8))
+    return digits(body) if function == "image_part" else f"{number_at(body, 0, 8):x} {digits(body[8:])}"
 
 
 # The vectors, in the order of the lines.
@@ -387,6 +400,18 @@ def field_names():
             vector("lookup_field_name", address, section, image, strings, covers)
 
 
+def bundle_parts():
+    """The parts of bundles with every choice of the kinds beside the image."""
+    records = {2: bytes(range(32)), 3: struct.pack("<Q4s", 0x2000, b"type"), 4: struct.pack("<Q6s", 0x3000, b"fields"), 5: struct.pack("<Q5s", TOP - 1, b"names")}
+    for choice in range(16):
+        kinds = {1: b"image"} | {kind: body for kind, body in records.items() if choice >> kind - 2 & 1}
+        for function in PARTS:
+            vector(function, 0, data=b"".join(struct.pack("<IH", len(body), kind) + body for kind, body in kinds.items()))
+    # Empty bodies.
+    for function in PARTS:
+        vector(function, 0, data=b"".join(struct.pack("<IH", size, kind) + bytes(size) for kind, size in ((1, 0), (2, 0), (3, 8), (4, 8), (5, 8))))
+
+
 checked_lines()
 number_reads()
 relative_pointers()
@@ -397,6 +422,7 @@ texts()
 address_reads()
 address_texts()
 field_names()
+bundle_parts()
 
 
 def line(function, a, b, data, strings, numbers):
@@ -410,7 +436,7 @@ def main():
         "stdin": "".join(line(*v) + "\n" for v in VECTORS),
         "stdout": "".join(answer(*v) + "\n" for v in VECTORS),
     }
-    assert len(files["stdin"]) < 65000, len(files["stdin"])
+    assert len(files["stdin"]) <= 131072, len(files["stdin"])
     for name, content in files.items():
         path = FOLDER / name
         if sys.argv[1:]:

@@ -27,4 +27,8 @@ impl<'a> SwiftRuntime<'a> {
             assocty: None,
         }
     }
+
+    pub fn text_for_comparison(&self, vmaddr: u64) -> Option<&'a str> {
+        self.read_cstr(vmaddr)
+    }
 }

@@ -6,12 +6,12 @@ use crate::full::{
     LISTED, STEPS, listed, mix, offset_of, pointer_at, sizes, step_numbers, text_numbers,
 };
 use crate::input::Input;
-use crate::proved::field_name;
 use crate::proved_archive as proved;
-use crate::proved_full::{Image, text_at};
+use crate::proved_full::Image;
 use crate::proved_tables;
 use darwinscope::swift::{
     FieldDescriptor, FieldRecord, FieldRecordIter, SwiftRuntime, TypeDescriptor, TypeKindBody,
+    lookup_field_name,
 };
 use darwinscope::util::read_u32_le_at;
 
@@ -84,6 +84,45 @@ impl Checker {
             let list = FieldRecordIter::for_comparison(rt, va, records.count, records.size, 0);
             self.records(input, records, list)?;
             self.made_up_records(input, rt, records)?;
+            let other = input.targets.last().copied().unwrap_or(va);
+            self.made_up_names(input, rt, [va, other, input.fields_va, mixed])?;
+        }
+        Ok(())
+    }
+
+    /// The names of a record and of a descriptor that nobody gave, each of whose addresses is any number.
+    fn made_up_names(
+        &mut self,
+        input: &Input,
+        rt: &SwiftRuntime<'_>,
+        [a, b, c, d]: [u64; 4],
+    ) -> Result<(), String> {
+        let image = Image::of(input);
+        let text = |va| text_numbers(input, rt.text_for_comparison(va));
+        for record in [[c, d, a, b], [d, c, b, a]] {
+            let rust = field_numbers(input, lookup_field_name(rt, record[3]));
+            let ours = proved::record_field_name(image, input, &record)?;
+            same!(rust, ours, "name of the made-up record {record:x?}");
+            let ours = proved::record_type_name(image, &record)?;
+            same!(
+                text(record[2]),
+                ours,
+                "type name of the made-up record {record:x?}"
+            );
+        }
+        for made_up in [[c, d, c, d, a, b], [d, c, d, c, b, a]] {
+            let ours = proved::descriptor_type_name(image, &made_up)?;
+            same!(
+                text(made_up[4]),
+                ours,
+                "type name of the made-up descriptor {made_up:x?}"
+            );
+            let ours = proved::descriptor_superclass_name(image, &made_up)?;
+            same!(
+                text(made_up[5]),
+                ours,
+                "superclass name of the made-up descriptor {made_up:x?}"
+            );
         }
         Ok(())
     }
@@ -123,18 +162,20 @@ impl Checker {
         descriptor: &FieldDescriptor<'_, '_>,
         ours: [u64; 8],
     ) -> Result<(), String> {
-        let names = [
-            descriptor.mangled_type_name(),
-            descriptor.superclass_mangled_name(),
-        ];
-        for (name, va) in names.into_iter().zip([ours[6], ours[7]]) {
-            same!(
-                text_numbers(input, name),
-                text_at(Image::of(input), va)?,
-                "name of the field descriptor at {:x}",
-                ours[2]
-            );
-        }
+        let image = Image::of(input);
+        let [_, _, numbers @ ..] = &ours;
+        same!(
+            text_numbers(input, descriptor.mangled_type_name()),
+            proved::descriptor_type_name(image, numbers)?,
+            "type name of the field descriptor at {:x}",
+            ours[2]
+        );
+        same!(
+            text_numbers(input, descriptor.superclass_mangled_name()),
+            proved::descriptor_superclass_name(image, numbers)?,
+            "superclass name of the field descriptor at {:x}",
+            ours[2]
+        );
         Ok(())
     }
 
@@ -171,20 +212,15 @@ impl Checker {
         );
         self.counts.records += 1;
         let Some(record) = rust else { return Ok(()) };
+        let [_, _, numbers @ ..] = &ours;
         same!(
             text_numbers(input, record.mangled_type_name()),
-            text_at(image, ours[4])?,
+            proved::record_type_name(image, numbers)?,
             "type name of record {next} from {base:x} on"
         );
         same!(
             field_numbers(input, record.field_name()),
-            field_name(
-                &input.image,
-                image.segments,
-                &input.strings,
-                input.strings_va,
-                ours[5]
-            )?,
+            proved::record_field_name(image, input, numbers)?,
             "name of record {next} from {base:x} on"
         );
         Ok(())

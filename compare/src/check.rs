@@ -378,9 +378,20 @@ impl Checker {
                 of(proved_tables::prespecializations(image, target, 2, 0, lent)),
                 of(proved_archive::field_offsets(image, target, 17, target)),
                 of(proved_archive::static_field_offsets(image, target, 17)),
+                of(proved_archive::descriptor_type_name(image, &[target; 6])),
+                of(proved_archive::descriptor_superclass_name(
+                    image,
+                    &[target; 6],
+                )),
+                of(proved_archive::record_type_name(image, &[target; 4])),
+                of(proved_archive::record_field_name(
+                    image,
+                    input,
+                    &[target; 4],
+                )),
             ];
             same!(
-                [Some(Refused(1)); 20],
+                [Some(Refused(1)); 24],
                 ours,
                 "{more} segment numbers too many for bodies, blocks, entries and fields"
             );

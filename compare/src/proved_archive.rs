@@ -1,5 +1,5 @@
-//! The proved side of the archive level, the functions of crates/exports_archive: field descriptors, field records alone and with their names, field
-//! offsets, and what is certain by an image's first bytes.
+//! The proved side of the archive level, the functions of crates/exports_archive: field descriptors, field records alone and with their names, the
+//! names of each, field offsets, and what is certain by an image's first bytes.
 
 use crate::input::Input;
 use crate::proved::{Answer, UNWRITTEN, refusal};
@@ -10,6 +10,9 @@ calls! {
     next_field_record = hodrupec_next_field_record(base_va: u64, count: u32, size: u32, next: u32) -> 6;
     field_offsets = hodrupec_field_offsets(address: u64, flags: u32, metadata_va: u64) -> 3;
     static_field_offsets = hodrupec_static_field_offsets(address: u64, flags: u32) -> 3;
+    descriptor_type_name = hodrupec_descriptor_type_name(descriptor: &[u64; 6]) -> 3;
+    descriptor_superclass_name = hodrupec_descriptor_superclass_name(descriptor: &[u64; 6]) -> 3;
+    record_type_name = hodrupec_record_type_name(record: &[u64; 4]) -> 3;
 }
 
 unsafe extern "C" {
@@ -50,6 +53,17 @@ unsafe extern "C" {
         slot: usize,
         out: &mut [u64; 1],
     ) -> u64;
+    fn hodrupec_record_field_name(
+        image: *const u8,
+        image_len: usize,
+        segments: *const u64,
+        segment_numbers: usize,
+        strings: *const u8,
+        strings_len: usize,
+        strings_va: u64,
+        record: &[u64; 4],
+        out: &mut [u64; 3],
+    ) -> u64;
     fn hodrupec_named_records(
         image: *const u8,
         image_len: usize,
@@ -87,6 +101,29 @@ pub fn field_offset(image: &[u8], place: usize, count: u32, number: u32) -> Answ
     let mut out = [UNWRITTEN; 2];
     let status = unsafe {
         hodrupec_field_offset(image.as_ptr(), image.len(), place, count, number, &mut out)
+    };
+    if status != 0 {
+        return Err(refusal(status, &out));
+    }
+    Ok(out)
+}
+
+/// A record by its four numbers: where its field's name is, by the input's string section.
+#[inline]
+pub fn record_field_name(image: Image<'_>, input: &Input, record: &[u64; 4]) -> Answer<[u64; 3]> {
+    let mut out = [UNWRITTEN; 3];
+    let status = unsafe {
+        hodrupec_record_field_name(
+            image.bytes.as_ptr(),
+            image.bytes.len(),
+            image.segments.as_ptr(),
+            image.segments.len(),
+            input.strings.as_ptr(),
+            input.strings.len(),
+            input.strings_va,
+            record,
+            &mut out,
+        )
     };
     if status != 0 {
         return Err(refusal(status, &out));

@@ -34,13 +34,6 @@ impl ContextDescriptorKind {
         }
     }
 
-    // Only the low five bits count.
-    pub fn from_bits(raw: u8) -> ContextDescriptorKind
-        ensures { λ r. ⌜ r ≡ contextKind raw ⌝ }
-    {
-        ContextDescriptorKind::of(raw % 32)
-    }
-
     pub fn is_type(self) -> bool
         ensures { λ r. ⌜ r ≡ isType self ⌝ }
     {

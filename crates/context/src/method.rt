@@ -28,13 +28,6 @@ impl SwiftMethodKind {
             other => SwiftMethodKind::Other(other),
         }
     }
-
-    // Only the low four bits count.
-    pub fn from_bits(raw: u8) -> SwiftMethodKind
-        ensures { λ r. ⌜ r ≡ methodKind raw ⌝ }
-    {
-        SwiftMethodKind::of(raw % 16)
-    }
 }
 
 pub struct MethodDescriptorFlags(pub u32);

@@ -1,6 +1,5 @@
 // The kind-specific half of the flags word of a class, a struct or an enum.
 ghost use mathlib.Core.Path.{_≡_};
-ghost use Rattle.context.specs.Bits.{low};
 ghost use Rattle.context.specs.TypeContext.{initializationOf, referenceOf, metadataInitialization, hasImportInfo, hasPrespecializationsOrSingletonPointer, hasCanonicalMetadataPrespecializations, hasSingletonMetadataPointer, hasLayoutString, classHasDefaultOverrideTable, classIsActor, classIsDefaultActor, classResilientSuperclassReferenceKind, classAreImmediateMembersNegative, classHasResilientSuperclass, classHasOverrideTable, classHasVTable};
 
 pub enum MetadataInitializationKind {
@@ -21,13 +20,6 @@ impl MetadataInitializationKind {
             2 => MetadataInitializationKind::Foreign,
             _ => MetadataInitializationKind::Other,
         }
-    }
-
-    // Only the low two bits count.
-    pub fn from_bits(raw: u8) -> MetadataInitializationKind
-        ensures { λ r. ⌜ r ≡ metadataInitialization raw ⌝ }
-    {
-        MetadataInitializationKind::of(raw % 4)
     }
 }
 
@@ -52,13 +44,6 @@ impl TypeReferenceKind {
             3 => TypeReferenceKind::IndirectObjCClass,
             other => TypeReferenceKind::Other(other),
         }
-    }
-
-    // Only the low three bits count.
-    pub fn from_bits(raw: u8) -> TypeReferenceKind
-        ensures { λ r. ⌜ r ≡ referenceOf (low 3 raw) ⌝ }
-    {
-        TypeReferenceKind::of(raw % 8)
     }
 }
 

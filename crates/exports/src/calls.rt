@@ -4,7 +4,7 @@ ghost use Rattle.refusal.specs.Refusal.{answered, mapped, answerOf};
 ghost use Rattle.util.specs.Buffer.{overwritten};
 ghost use Rattle.segment.specs.Segments.{fileOffset, segmentsOf};
 ghost use Rattle.util.specs.Cstr.{textAt, textOf};
-ghost use Rattle.runtime.specs.FieldName.{fieldName};
+ghost use Rattle.runtime.specs.FieldName.{fieldName, fieldNameOf};
 ghost use Rattle.runtime.specs.PlaceNumbers.{textNumbers, fieldNumbers};
 ghost use Rattle.typedescriptor.specs.Slots.{nextRow};
 ghost use Rattle.parent.specs.Chain.{chainStep};
@@ -40,6 +40,17 @@ pub fn text_numbers(text: Text) -> [u64; 3]
     }
 }
 
+// 1 for a name in the image, 2 for one in the string section, and its place and length.
+pub fn field_name_numbers(name: FieldName) -> [u64; 3]
+    ensures { λ r. ⌜ r ≡ fieldNumbers (fieldNameOf name) ⌝ }
+{
+    match name {
+        FieldName::Image { place, length } => [THERE, place as u64, length as u64],
+        FieldName::Strings { place, length } => [IN_STRINGS, place as u64, length as u64],
+        FieldName::Nothing => [0; 3],
+    }
+}
+
 // 1 and the file offset of an address.
 #[no_mangle]
 pub extern "C" fn hodrupec_file_offset(segments: &[u64], vmaddr: u64, out: &mut [u64; 2]) -> u64
@@ -64,7 +75,7 @@ pub extern "C" fn hodrupec_text(data: &[u8], off: usize, out: &mut [u64; 3]) -> 
     ANSWERED
 }
 
-// 1 for a name in the image, 2 for one in the string section, and its place and length.
+// The numbers of a field's name, by the name's address.
 #[no_mangle]
 pub extern "C" fn hodrupec_field_name(
     image: &[u8],
@@ -79,11 +90,8 @@ pub extern "C" fn hodrupec_field_name(
     if segments.len() % 4 != 0 {
         return refusal::number(Refusal::RaggedSegments);
     }
-    *out = match runtime::lookup_field_name(image, segments, strings, vmaddr, target_va) {
-        FieldName::Image { place, length } => [THERE, place as u64, length as u64],
-        FieldName::Strings { place, length } => [IN_STRINGS, place as u64, length as u64],
-        FieldName::Nothing => [0; 3],
-    };
+    let name = runtime::lookup_field_name(image, segments, strings, vmaddr, target_va);
+    *out = field_name_numbers(name);
     ANSWERED
 }
 

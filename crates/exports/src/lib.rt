@@ -5,4 +5,5 @@ mod calls;
 
 pub use calls::ANSWERED;
 pub use calls::THERE;
+pub use calls::field_name_numbers;
 pub use calls::text_numbers;

@@ -1,5 +1,4 @@
-// The descriptors of a fields section and their records: each call is a step of a walk. The texts at a descriptor's and a record's addresses are
-// `hodrupec_text_at`'s and `hodrupec_field_name`'s.
+// The descriptors of a fields section and their records: each call is a step of a walk. Their names are calls of their own, in names.rt.
 ghost use mathlib.Core.Path.{_≡_};
 ghost use Rattle.refusal.specs.Refusal.{answered, mapped};
 ghost use Rattle.field.specs.Fields.{fieldStep};

@@ -4,5 +4,6 @@
 mod certain;
 mod fields;
 mod named;
+mod names;
 mod offsets;
 mod records;

@@ -1,8 +1,11 @@
-// Runs vectors of `util` and `runtime`: reads one a line from standard input, and writes one answer line for each.
+// Runs vectors of `util`, `runtime` and `bundle_parts`: reads one a line from standard input, and writes one answer line for each.
 //
 // A line is FUNCTION A B BYTES STRINGS SEGMENT.., with one space between: the function called, two numbers, the image's (or the
-// slice's) bytes, the string section's bytes and the segments' numbers, as many as there are. Numbers and bytes are in lowercase
+// slice's, or the bundle's) bytes, the string section's bytes and the segments' numbers, as many as there are. Numbers and bytes are in lowercase
 // hexadecimal; `-` stands for no bytes. tests/vectors.py writes the lines and the answers.
+use bundle::Layout;
+use bundle::Opened;
+use bundle::Section;
 use runtime::Bytes;
 use runtime::FieldName;
 use segment::FileOffset;
@@ -206,6 +209,15 @@ fn lookup_field_name<'a>(
     }
 }
 
+// A section's address, and its bytes.
+fn section_line(bytes: &[u8], section: Section, part: &[u8]) {
+    number_field(section.address);
+    bytes_line(
+        part,
+        util::part(bytes, section.part.start, section.part.length),
+    );
+}
+
 // From a function's name to its call. The answers are whether the name is known.
 
 fn number_call(name: &[u8], a: u64, bytes: &[u8]) -> bool {
@@ -256,6 +268,37 @@ fn address_call(name: &[u8], a: u64, b: u64, image: &[u8], segments: &[u64]) -> 
     false
 }
 
+fn part_call(name: &[u8], bytes: &[u8], layout: Layout) -> bool {
+    if test_lines::same(name, b"image_part") {
+        let part = bundle_parts::image_part(bytes, layout);
+        bytes_line(part, part);
+        return true;
+    }
+    if test_lines::same(name, b"types_part") {
+        let section = layout.types;
+        section_line(bytes, section, bundle_parts::types_part(bytes, layout));
+        return true;
+    }
+    if test_lines::same(name, b"fields_part") {
+        let section = layout.fields;
+        section_line(bytes, section, bundle_parts::fields_part(bytes, layout));
+        return true;
+    }
+    if test_lines::same(name, b"strings_part") {
+        let section = layout.strings;
+        section_line(bytes, section, bundle_parts::strings_part(bytes, layout));
+        return true;
+    }
+    false
+}
+
+fn bundle_call(name: &[u8], bytes: &[u8]) -> bool {
+    match bundle::open_bundle(bytes) {
+        Opened::Bundle(layout) => part_call(name, bytes, layout),
+        Opened::Refused(_) => false,
+    }
+}
+
 fn answer<'a>(
     name: &[u8],
     a: u64,
@@ -271,7 +314,10 @@ fn answer<'a>(
     if number_call(name, a, image) {
         return true;
     }
-    address_call(name, a, b, image, segments)
+    if address_call(name, a, b, image, segments) {
+        return true;
+    }
+    bundle_call(name, image)
 }
 
 fn bad_line() {
@@ -325,7 +371,7 @@ fn answer_lines(input: &[u8]) {
 }
 
 fn main() {
-    let mut space = io::large_buffer();
+    let mut space = [0u8; 131072];
     let n = io::read_full(0, &mut space);
     answer_lines(&space[..n]);
 }

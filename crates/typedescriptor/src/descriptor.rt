@@ -47,10 +47,3 @@ pub fn decode_type_descriptor_near(
         Text::Nothing => Descriptor::Nothing,
     }
 }
-
-// The same without a mapping.
-pub fn decode_type_descriptor(image: &[u8], segments: &[u64], descriptor_va: u64) -> Descriptor
-    ensures { λ r. ⌜ descriptorOf (now (image .entry)) r ≡ run (now (image .entry)) (now (segments .entry)) (descriptor «descriptor_va») ⌝ }
-{
-    decode_type_descriptor_near(image, segments, Mapping::empty(), descriptor_va)
-}

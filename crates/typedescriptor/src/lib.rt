@@ -5,8 +5,6 @@ mod iter;
 
 pub use descriptor::Descriptor;
 pub use descriptor::Row;
-pub use descriptor::decode_type_descriptor;
-pub use descriptor::decode_type_descriptor_near;
 pub use iter::TypeIter;
 pub use iter::TypeStep;
 pub use iter::slot_row;
