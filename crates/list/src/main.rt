@@ -137,7 +137,9 @@ fn say_macho(bytes: &[u8]) {
     } else {
         say(b"list: refused 2: ");
     }
-    say(b"this is a Mach-O file and not a bundle; `scripts/make_bundle.py --macho FILE` makes a bundle of it\n");
+    say(
+        b"this is a Mach-O file and not a bundle; `scripts/make_bundle.py --macho FILE` makes a bundle of it\n",
+    );
 }
 
 fn say_refused(bytes: &[u8]) {
