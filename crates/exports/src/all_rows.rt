@@ -11,9 +11,9 @@ ghost use Rattle.exports.specs.AllRows.{twoNumbers, headBytes, rowBytes,
 use crate::calls::ANSWERED;
 use qualifiedname::QualifiedName;
 use refusal::Refusal;
+use segment::Mapping;
+use typedescriptor::Descriptor;
 use typedescriptor::Row;
-use typedescriptor::TypeIter;
-use typedescriptor::TypeStep;
 
 // How many bytes of a record come before the name.
 const HEAD: usize = 32;
@@ -92,7 +92,8 @@ fn put_record(
     }
 }
 
-// Puts the records of the rows from a slot on at the buffer's start, as long as they fit, and gives back the three numbers of the call below.
+// Puts the records of the rows from a slot on at the buffer's start, as long as they fit, and gives back the three numbers of the call below. The mapping
+// around one descriptor finds the next, unless that lies elsewhere.
 fn put_rows(
     image: &[u8],
     segments: &[u64],
@@ -105,26 +106,24 @@ fn put_rows(
     ensures { λ _. ⌜ now (buffer .exit) ≡ atStart (listingBytes (listingFrom (now (image .entry)) (now (segments .entry)) (now (types .entry)) vmaddr start (length (now (buffer .entry))))) (now (buffer .entry)) ⌝ }
 {
     let count = types.len() / 4;
+    let mut mapping = Mapping::empty();
     let mut slot = start;
     let mut at = 0;
     while slot < count {
-        let walk = TypeIter { slot };
-        let step = walk.next(image, segments, types, vmaddr);
-        match step {
-            TypeStep::Row {
-                slot: here,
-                row,
-                next,
-            } => {
-                let end = put_record(image, segments, here, row, buffer, at);
+        let step = typedescriptor::slot_row_moving(image, segments, mapping, types, vmaddr, slot);
+        mapping = step.mapping;
+        let found = step.found;
+        match found {
+            Descriptor::Row(row) => {
+                let end = put_record(image, segments, slot, row, buffer, at);
                 if end == at {
-                    return [at as u64, here as u64, BUFFER_FULL];
+                    return [at as u64, slot as u64, BUFFER_FULL];
                 }
                 at = end;
-                slot = next.slot;
+                slot += 1;
             }
-            TypeStep::End => {
-                slot = count;
+            Descriptor::Nothing => {
+                slot += 1;
             }
         }
     }

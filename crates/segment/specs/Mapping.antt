@@ -30,6 +30,11 @@ abbrev pub Located : List ℕ → ℕ → Around → Type 0
 Located segments v (Around.Mapping m) = Mapped segments m × Has m v × Exact segments m
 Located segments v Around.Nothing = none ≡ fileOffset (segmentsOf segments) v
 
+-- the same with a mapping at hand, which is the answer where it has the address: true if it is
+abbrev pub LocatedNear : List ℕ → Mapping → ℕ → Around → Type 0
+LocatedNear segments m v (Around.Mapping r) = (Mapped segments m → Mapped segments r) × Has r v
+LocatedNear segments m v Around.Nothing = none ≡ fileOffset (segmentsOf segments) v
+
 -- the mapping that a walk goes on with at an address: true if the one before it is, and with the address if that is in the file
 pub record Moved (segments : List ℕ) (m : Mapping) (v : ℕ) (r : Mapping) : Type 0 where
   pub mapped : Mapped segments m → Mapped segments r

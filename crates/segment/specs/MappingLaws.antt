@@ -2,7 +2,7 @@
 use Prim.Native.Nat.{ℕ, _+_, _-_, _^_, _≤_, _<_, min, max}
 use native.Mathlib.Decide.{decLt}
 use native.Mathlib.Omega.{arith}
-use mathlib.Core.Path.{_≡_, refl, sym, ap, _∙_}
+use mathlib.Core.Path.{_≡_, refl, sym, ap, _∙_, subst}
 use mathlib.Core.Bool.{true, false}
 use mathlib.Core.Option.{Option, some, none}
 use mathlib.Core.List.{List}
@@ -11,7 +11,7 @@ use lib.Dec.{ltb}
 use borrow.Author.Tests.{ltb-true}
 use Rattle.segment.specs.Segments.{Segment, segmentsOf, fileOffset, decides, inFile, decided, offsetOf}
 use Rattle.segment.specs.SegmentsLaws.{wraps, below, above, no-bytes, held, past-file, offset-wraps, in-file, segmentAt, segments-step}
-use Rattle.segment.specs.Mapping.{withMapping, Mapped, Has, Moved, Exact, Located, InFile, Clipped}
+use Rattle.segment.specs.Mapping.{LocatedNear, withMapping, Mapped, Has, Moved, Exact, Located, InFile, Clipped}
 use Rattle.segment.specs.declared.segment.Mapping.{Mapping}
 use Rattle.segment.specs.declared.segment.Around.{Around}
 use Rattle.segment.specs.declared.segment.FileOffset.{FileOffset}
@@ -250,6 +250,16 @@ module _ (m : Mapping) (v : ℕ) where
 
   pub has-within : m .vmaddr ≤ v → ltb (v - m .vmaddr) (m .size) ≡ true → Has m v
   has-within h e = record { from = h; to = omega (arith, ltb-true (v - m .vmaddr) (m .size) e) }
+
+pub near-found : (segments : List ℕ) (m : Mapping) (v : ℕ) (r : Around) → Located segments v r → LocatedNear segments m v r
+near-found segments m v (Around.Mapping r) l = (λ w. l .0, l .1)
+near-found segments m v Around.Nothing l = l
+
+pub near-mapped : (segments : List ℕ) (m : Mapping) (v : ℕ) (r : Around) (n : Mapping) → r ≡ Around.Mapping n → LocatedNear segments m v r → Mapped segments m → Mapped segments n
+near-mapped segments m v r n e l = subst (LocatedNear segments m v) e l .0
+
+pub near-nowhere : (segments : List ℕ) (m : Mapping) (v : ℕ) (r : Around) → r ≡ Around.Nothing → LocatedNear segments m v r → none ≡ fileOffset (segmentsOf segments) v
+near-nowhere segments m v r e l = subst (LocatedNear segments m v) e l
 
 module _ (segments : List ℕ) (m : Mapping) (v : ℕ) where
   pub moved-same : Has m v → Moved segments m v m

@@ -3,7 +3,7 @@ ghost use mathlib.Core.Path.{_≡_};
 ghost use mathlib.Core.Bool.{true};
 ghost use Prim.Native.Nat.{_+_, _≤_, _<_, _^_, min, max};
 ghost use Rattle.segment.specs.Segments.{fileOffset, segmentsOf, decides, offsetOf, decided};
-ghost use Rattle.segment.specs.Mapping.{Has, Moved, InFile, Clipped, Located, withMapping};
+ghost use Rattle.segment.specs.Mapping.{LocatedNear, Has, Moved, InFile, Clipped, Located, withMapping};
 
 pub enum FileOffset {
     At(u64),
@@ -205,6 +205,16 @@ fn has(mapping: Mapping, address: u64) -> bool
         return false;
     }
     address - mapping.vmaddr < mapping.size
+}
+
+// What is in the file around an address: the mapping at hand, if it has the address, or what `locate` finds.
+pub fn locate_near(segments: &[u64], mapping: Mapping, address: u64) -> Around
+    ensures { λ r. ⌜ LocatedNear (now (segments .entry)) mapping address r ⌝ }
+{
+    if has(mapping, address) {
+        return Around::Mapping(mapping);
+    }
+    locate(segments, address)
 }
 
 // A mapping with the address, if that is in the file: the one that is given, or another.

@@ -1,5 +1,6 @@
-pub mod Row
-pub mod Slots
-pub mod RowLaws
-pub mod SlotsLaws
+pub mod Moving
 pub mod PathLaws
+pub mod Row
+pub mod RowLaws
+pub mod Slots
+pub mod SlotsLaws

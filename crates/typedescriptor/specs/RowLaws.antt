@@ -11,7 +11,8 @@ use borrow.Author.Tests.{le-leb, lt-leb, lt-ltb, le-ltb, ne-eqb}
 use Rattle.util.specs.LittleEndian.{unsignedIn, signedIn}
 use Rattle.util.specs.Pointer.{relativePointer, relativeAddress}
 use Rattle.util.specs.Cstr.{Place, partOf}
-use Rattle.runtime.specs.Reads.{done, run, textPlace}
+use Rattle.segment.specs.Segments.{segmentsOf, fileOffset}
+use Rattle.runtime.specs.Reads.{done, run, bytesPlace, textPlace}
 use Rattle.runtime.specs.Bytes.{bytesRead}
 use Rattle.runtime.specs.CallsLaws.{run-bytes, run-no-bytes, run-text, run-no-text}
 use Rattle.typedescriptor.specs.Row.{TypeRow, typeRow, rowName, descriptor}
@@ -41,6 +42,11 @@ module _ (image segments : List ℕ) (a : ℕ) (h : List ℕ) (e : h ≡ bytesRe
     unfolding rowName run
     row-at p f q t ef eq l w =
         rw (header l, ef, eq) (simp (lt-leb (2 ^ 64) (a + 8) w) (rw (← at) (sym (run-text image segments v (λ p t. done (typeRow a h p t)) p t))))
+
+-- an address that is not in the file has no row
+pub no-place : (image segments : List ℕ) (a : ℕ) → none ≡ fileOffset (segmentsOf segments) a → none ≡ run image segments (descriptor a)
+unfolding descriptor run bytesPlace
+no-place image segments a e = rw (← e)
 
 module _ (image segments types : List ℕ) (start i : ℕ) where
   pub past-slots : slots types ≤ i → none ≡ run image segments (slotRow types start i)

@@ -82,6 +82,20 @@ module _ (image segments types : List ℕ) (start : ℕ) where
   unfolding rows
   rows-start = ap (λ (k : ℕ). rowsFrom image segments types start k 0) (omega arith)
 
+  -- those from a slot on: its own, if it has one, and those from the next one on
+  one-left : (i : ℕ) → i < slots types → slots types - i ≡ suc (slots types - (i + 1))
+  one-left i h = omega arith
+
+  pub slot-left : (i : ℕ) (r : TypeRow) → some r ≡ run image segments (slotRow types start i) → i < slots types
+      → rowsFrom image segments types start (slots types - i) i ≡ found i r ∷ rowsFrom image segments types start (slots types - (i + 1)) (i + 1)
+  unfolding rowsFrom
+  slot-left i r e h = rw (one-left i h, rowsFrom, ← e, add-one)
+
+  pub slot-without : (i : ℕ) → none ≡ run image segments (slotRow types start i) → i < slots types
+      → rowsFrom image segments types start (slots types - i) i ≡ rowsFrom image segments types start (slots types - (i + 1)) (i + 1)
+  unfolding rowsFrom
+  slot-without i e h = rw (one-left i h, rowsFrom, ← e, add-one)
+
   pub rows-out : (n i : ℕ) → n ≤ i → rowsFrom image segments types start (n - i) i ≡ []
   unfolding rowsFrom
   rows-out n i h = rw (sub-eq-zero-of-le h)

@@ -1,11 +1,13 @@
 ghost use mathlib.Core.Path.{_≡_};
 ghost use Rattle.segment.specs.Mapping.{withMapping};
 ghost use Rattle.runtime.specs.Reads.{run};
+ghost use Rattle.typedescriptor.specs.Moving.{RowMoved};
 ghost use Rattle.typedescriptor.specs.Row.{descriptorOf};
 ghost use Rattle.typedescriptor.specs.Slots.{slotRow, nextRow, typeStepOf};
 use crate::descriptor::Descriptor;
 use crate::descriptor::Row;
 use crate::descriptor::decode_type_descriptor_near;
+use segment::Around;
 use segment::Mapping;
 
 // A walk over the types section: the number of the next slot to read.
@@ -49,6 +51,51 @@ pub fn slot_row_near(
         mapping,
         util::pointer_in(pointer, 0, slot_va),
     )
+}
+
+// The row of a slot, and the mapping around its descriptor for what is read next.
+pub struct SlotRow {
+    pub found: Descriptor,
+    pub mapping: Mapping,
+}
+
+// The same for one slot after the other: the mapping moves to the descriptor before its row is read.
+pub fn slot_row_moving(
+    image: &[u8],
+    segments: &[u64],
+    mapping: Mapping,
+    types: &[u8],
+    vmaddr: u64,
+    slot: usize,
+) -> SlotRow
+    ensures { λ r. ⌜ RowMoved (now (image .entry)) (now (segments .entry)) mapping (now (types .entry)) vmaddr slot (r .found) (r .mapping) ⌝ }
+{
+    if types.len() / 4 <= slot {
+        return SlotRow {
+            found: Descriptor::Nothing,
+            mapping,
+        };
+    }
+    let off = 4 * slot;
+    let pointer = &types[off..off + 4];
+    if util::u32_at(pointer, 0) == 0 {
+        return SlotRow {
+            found: Descriptor::Nothing,
+            mapping,
+        };
+    }
+    let slot_va = std::num::wrapping_add_u64(vmaddr, off as u64);
+    let address = util::pointer_in(pointer, 0, slot_va);
+    match segment::locate_near(segments, mapping, address) {
+        Around::Mapping(near) => SlotRow {
+            found: decode_type_descriptor_near(image, segments, near, address),
+            mapping: near,
+        },
+        Around::Nothing => SlotRow {
+            found: Descriptor::Nothing,
+            mapping,
+        },
+    }
 }
 
 // The same without a mapping.

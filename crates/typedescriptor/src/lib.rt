@@ -5,7 +5,9 @@ mod iter;
 
 pub use descriptor::Descriptor;
 pub use descriptor::Row;
+pub use iter::SlotRow;
 pub use iter::TypeIter;
 pub use iter::TypeStep;
 pub use iter::slot_row;
+pub use iter::slot_row_moving;
 pub use iter::slot_row_near;
