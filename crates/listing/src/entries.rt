@@ -31,14 +31,14 @@ pub enum NextPrespecialization {
     Refused(Refusal),
 }
 
-// The next entry of each kind from where the walk stands.
+// The next entry of each kind from where the walk stands; a method by the walk that holds the image.
 pub fn next_method(image: &[u8], segments: &[u64], cursor: EntryCursor) -> NextMethod
     ensures { λ r. ⌜ methodAnswer r ≡ guarded (now (segments .entry)) (answered (entryStep (now (image .entry)) (now (segments .entry)) method cursor)) ⌝ }
 {
     if segments.len() % 4 != 0 {
         return NextMethod::Refused(Refusal::RaggedSegments);
     }
-    NextMethod::Step(cursor.next_method(image, segments))
+    NextMethod::Step(vtable::method_step(cursor, image, segments))
 }
 
 pub fn next_override(image: &[u8], segments: &[u64], cursor: EntryCursor) -> NextOverride

@@ -6,6 +6,7 @@ use mathlib.Core.List.{List, [], _∷_}
 use mathlib.Core.Bool.{cond}
 use mathlib.Core.Option.{Option, some, none}
 use lib.ListN.{length}
+use denote.Ref.{RefT}
 use lib.Dec.{leb, ltb}
 use Rattle.util.specs.LittleEndian.{unsignedIn, signedIn}
 use Rattle.util.specs.Pointer.{relativeAddress}
@@ -20,6 +21,7 @@ use Rattle.vtable.specs.declared.cursor.MethodStep.{MethodStep}
 use Rattle.vtable.specs.declared.cursor.OverrideStep.{OverrideStep}
 use Rattle.vtable.specs.declared.cursor.DefaultOverrideStep.{DefaultOverrideStep}
 use Rattle.vtable.specs.declared.cursor.PrespecializationStep.{PrespecializationStep}
+use Rattle.vtable.specs.declared.walk.MethodWalk.{MethodWalk}
 
 -- a word of four bytes: a number, or the offset of a relative pointer that may be null
 pub data Word : Type 0 where
@@ -149,3 +151,7 @@ abbrev pub prespecializationStep : PrespecializationStep → Option Step
 prespecializationStep (PrespecializationStep.Entry e c) = entryFound (ofPrespecialization e) c
 prespecializationStep (PrespecializationStep.Unreadable c) = unreadable c
 prespecializationStep PrespecializationStep.End = none
+
+-- the walk that holds the image and the segments
+abbrev pub walkFrom : EntryCursor → RefT (List ℕ) → RefT (List ℕ) → MethodWalk
+walkFrom c image segments = record { cursor = c; image = image; segments = segments }

@@ -37,7 +37,7 @@ use denote.Triple.Table.{entered, cited}
 use denote.Triple.Walked.{says, Stays, stay-none, stay-none-slice, walkOf, goes-none, goes-none-slice, Walks, ends-at, walked, walk-meets}
 use denote.Exit.{yes}
 use denote.Triple.Clauses.{ensured, lasts}
-use Rattle.vtable.specs.Entries.{method, Step, entryStep, methodStep}
+use Rattle.vtable.specs.Entries.{method, Step, entryStep, methodStep, walkFrom}
 use Rattle.vtable.specs.declared.cursor.EntryCursor.{EntryCursor}
 use Rattle.vtable.specs.declared.cursor.MethodStep.{MethodStep}
 use Rattle.vtable.specs.declared.walk.MethodWalk.{MethodWalk}
@@ -83,20 +83,14 @@ module _ {M : Type 1} (𝓤 : URA M) (H : Heap 𝓤) (A : Atoms 𝓤) (W : Given
   abbrev at : Vals this.signature κs
   at = partsAt c s t
 
-  abbrev found : Option Step
-  found = entryStep (now s) (now t) method c
-
   abbrev gives : MethodWalk → Option Step
   gives w = entryStep (now (w .image)) (now (w .segments)) method (w .cursor)
 
-  abbrev Holds : MethodWalk → Type 0
-  Holds w = (w .cursor ≡ c) × (w .image ≡ s) × (w .segments ≡ t)
+  abbrev found : Option Step
+  found = gives (walkFrom c s t)
 
-  gives-found : (w : MethodWalk) → Holds w → gives w ≡ found
-  gives-found w e =
-      ap (λ (x : RefT (List ℕ)). entryStep (now x) (now (w .segments)) method (w .cursor)) (e .1)
-      ∙ ap (λ (x : RefT (List ℕ)). entryStep (now s) (now x) method (w .cursor)) (e .2)
-      ∙ ap (entryStep (now s) (now t) method) (e .0)
+  abbrev Holds : MethodWalk → Type 0
+  Holds w = w ≡ walkFrom c s t
 
   -- the struct's lifetimes as a local of a body has them
   abbrev α : NamedLft
@@ -165,7 +159,7 @@ module _ {M : Type 1} (𝓤 : URA M) (H : Heap 𝓤) (A : Atoms 𝓤) (W : Given
         land ! (from ! (stop !)) (init ! 11 refl (EL.lawful S.the-type S′.the-laws 𝓤 H A W tt .typed r _ ir .0)) $
         returns ! (look ! 11 refl) $ forget ! 3 refl $ forget ! 5 refl $ forget ! 7 refl $ forget ! 9 refl $ forget ! 11 refl $
         move ! (11 ∷ 12 ∷ []) $ free1 ! $ move ! (9 ∷ 10 ∷ []) $ free1 ! $ move ! (7 ∷ 8 ∷ []) $ free1 ! $ move ! (5 ∷ 6 ∷ []) $ free1 ! $ move ! (3 ∷ 4 ∷ []) $ free1 ! $ free0 ! $
-        by ! (exits r u′ (e′ ∙ gives-found w e)))))))))))))))
+        by ! (exits r u′ (e′ ∙ ap gives e)))))))))))))))
 
 module _ {M : Type 1} (𝓤 : URA M) (H : Heap 𝓤) (A : Atoms 𝓤) (W : Given 𝓤 H A) (mem : Memory → SProp 𝓤) (run : Routine → Fun 𝓤) where
   walks : (C : Calls 𝓤 H) (Λ : Loops 𝓤 H) → FmC 𝓤 H (W .laws) C → Triple 𝓤 (C #method-walk) (New 𝓤 H A mem run) → Triple 𝓤 (C #walk-step) (Next 𝓤 H A mem run)
