@@ -1,15 +1,16 @@
 // The field descriptors, with their records.
 ghost use mathlib.Core.Path.{_≡_};
 ghost use Rattle.test_replay_full.specs.Shown.{walkEnd};
-use crate::words::SHOWN;
-use crate::words::after_shown;
-use crate::words::done;
-use crate::words::nothing;
-use crate::words::number_field;
-use crate::words::one;
-use crate::words::text_line;
-use crate::words::three;
-use crate::words::word;
+use crate::SHOWN;
+use crate::after_shown;
+use crate::bad_line;
+use crate::done;
+use crate::nothing;
+use crate::number_field;
+use crate::one;
+use crate::text_line;
+use crate::three;
+use crate::word;
 use context::FieldDescriptorKind;
 use field::FieldDescriptor;
 use field::FieldIter;
@@ -30,10 +31,6 @@ fn kind_number(kind: FieldDescriptorKind) -> u64 {
         FieldDescriptorKind::ObjCClass => 7,
         FieldDescriptorKind::Other(n) => n as u64,
     }
-}
-
-fn bad_line() {
-    word(b"bad line\n");
 }
 
 fn unreadable() {

@@ -35,12 +35,81 @@
 mod entries;
 mod fields;
 mod rows;
-mod words;
 
 use crate::fields::all_fields;
 use crate::rows::all_rows;
-use crate::words::word;
+use refusal::Refusal;
 use test_lines::Count;
+use util::Text;
+
+// Parts of lines, here for all modules.
+
+// How many entries of a table, records of a descriptor and offsets of a struct are written.
+const SHOWN: u32 = 12;
+
+fn word(text: &[u8]) {
+    io::write_all(1, text);
+}
+
+// A space and a number.
+fn number_field(n: u64) {
+    io::write_all(1, b" ");
+    io::print_hex(1, n, 1);
+}
+
+fn newline() {
+    io::write_all(1, b"\n");
+}
+
+// The rest of a line that tells of nothing.
+fn nothing() {
+    io::write_all(1, b" nothing\n");
+}
+
+// The rest of a line of one, two or three numbers.
+fn one(a: u64) {
+    number_field(a);
+    newline();
+}
+
+fn two(a: u64, b: u64) {
+    number_field(a);
+    one(b);
+}
+
+fn three(a: u64, b: u64, c: u64) {
+    number_field(a);
+    two(b, c);
+}
+
+fn refused(refusal: Refusal) {
+    word(b"refused");
+    one(refusal::number(refusal));
+}
+
+// A text of the image.
+fn text_line(name: &[u8], text: Text) {
+    word(name);
+    match text {
+        Text::At { place, length } => two(place as u64, length as u64),
+        Text::Nothing => nothing(),
+    }
+}
+
+fn done() {
+    word(b"done\n");
+}
+
+// What is said behind as many entries as are shown, of a table of `count`.
+fn after_shown(count: u32) {
+    if count > SHOWN {
+        word(b"more\n");
+    } else {
+        done();
+    }
+}
+
+// Lines of the input.
 
 // What stands in no expected line: for a line that cannot be read. An answer that none of the calls may give is written so too.
 fn bad_line() {

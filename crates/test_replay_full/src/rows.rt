@@ -1,19 +1,20 @@
 // The rows, with their bodies and blocks.
 ghost use mathlib.Core.Path.{_≡_};
 ghost use Rattle.test_replay_full.specs.Shown.{rowsShown};
+use crate::SHOWN;
+use crate::bad_line;
 use crate::entries::Kind;
 use crate::entries::at_row;
 use crate::entries::entries;
-use crate::words::SHOWN;
-use crate::words::newline;
-use crate::words::nothing;
-use crate::words::number_field;
-use crate::words::one;
-use crate::words::refused;
-use crate::words::text_line;
-use crate::words::three;
-use crate::words::two;
-use crate::words::word;
+use crate::newline;
+use crate::nothing;
+use crate::number_field;
+use crate::one;
+use crate::refused;
+use crate::text_line;
+use crate::three;
+use crate::two;
+use crate::word;
 use classtrailers::Block;
 use classtrailers::BlockKind;
 use fieldoffsets::FieldOffset;
@@ -32,10 +33,6 @@ use typebody::SingletonMetadataPointer;
 use typebody::TypeBody;
 use typedescriptor::Row;
 use typedescriptor::TypeIter;
-
-fn bad_line() {
-    word(b"bad line\n");
-}
 
 // Bodies.
 
