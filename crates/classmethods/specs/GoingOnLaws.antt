@@ -153,8 +153,7 @@ module _ (image segments types : List ℕ) (start : ℕ) where
         splits : given .stop ≡ 1 → Both
         splits f =
             let more : 7 ≤ n → k < k + given .entries = λ l. omega (arith, full c k ((n - 4) / 3) f .0, div-eq-sub-div {m = 3} {n = n - 4} (omega arith) (omega arith)) in
-            rw (from-full image segments types start m i k n c t h f)
-            (
+            rw (from-full image segments types start m i k n c t h f) (
               record {
                 together =
                     ap (λ (l : List (List ℕ)). l ++ methodsFrom (slots types - i) i (k + given .entries)) (read-class 0 i (c .address) given [] (long c k ((n - 4) / 3)) ∙ append-nil (rowsOf i given))
@@ -173,8 +172,7 @@ module _ (image segments types : List ℕ) (start : ℕ) where
         whole f =
             let rest : ClassesListed = listed m (suc i) 0 (n - (4 + 3 * given .entries)) in
             let w = ih (n - (4 + 3 * given .entries)) in
-            rw (from-whole image segments types start m i k n c t h f)
-            (
+            rw (from-whole image segments types start m i k n c t h f) (
               record {
                 together =
                     ap (λ (l : List (List ℕ)). l ++ leftFrom rest) (read-class (rest .classes) i (c .address) given (rest .numbers) (long c k ((n - 4) / 3)))
