@@ -2,7 +2,7 @@
 // address and what its words say; 2, the next entry's number and no more for an entry that cannot be read; only 0 at the end.
 ghost use Rattle.refusal.specs.Refusal.{answered, mapped};
 ghost use Rattle.vtable.specs.Entries.{method, override, defaultOverride, prespecialization, entryStep};
-ghost use Rattle.listing.specs.Calls.{guarded};
+ghost use Rattle.refusal.specs.Guarded.{guarded};
 ghost use Rattle.exports.specs.Numbers.{Tells};
 ghost use Rattle.exports_tables.specs.Tables.{cursorAt};
 ghost use Rattle.exports_full.specs.Entries.{entryStepNumbers};
