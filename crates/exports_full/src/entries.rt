@@ -3,7 +3,7 @@
 ghost use mathlib.Core.Path.{_≡_};
 ghost use Rattle.refusal.specs.Refusal.{answered, mapped};
 ghost use Rattle.vtable.specs.Entries.{method, override, defaultOverride, prespecialization, entryStep, stepAnswer};
-ghost use Rattle.listing.specs.Calls.{guarded};
+ghost use Rattle.refusal.specs.Guarded.{guarded};
 ghost use Rattle.exports.specs.Numbers.{Tells};
 ghost use Rattle.exports_tables.specs.Tables.{cursorAt};
 ghost use Rattle.exports_full.specs.Entries.{stepNumbers, entryStepNumbers, numbersIn};

@@ -2,7 +2,7 @@
 ghost use mathlib.Core.Path.{_≡_};
 ghost use Rattle.refusal.specs.Refusal.{answered};
 ghost use Rattle.vtable.specs.Entries.{method, layoutOf, entryStep, stepAnswer};
-ghost use Rattle.listing.specs.Calls.{guarded};
+ghost use Rattle.refusal.specs.Guarded.{guarded};
 ghost use Rattle.listing.specs.Entries.{entryAnswer};
 use refusal::Refusal;
 use vtable::EntryCursor;

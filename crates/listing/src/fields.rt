@@ -5,7 +5,7 @@ ghost use Rattle.runtime.specs.Reads.{textPlace};
 ghost use Rattle.runtime.specs.FieldName.{fieldName};
 ghost use Rattle.field.specs.Fields.{fieldStep, fieldStepOf};
 ghost use Rattle.field.specs.Records.{recordStep};
-ghost use Rattle.listing.specs.Calls.{guarded};
+ghost use Rattle.refusal.specs.Guarded.{guarded};
 ghost use Rattle.listing.specs.Bodies.{textAnswer};
 ghost use Rattle.listing.specs.Fields.{recordAnswer, fieldNameAnswer};
 use crate::bodies::TextAnswer;

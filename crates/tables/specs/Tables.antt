@@ -8,7 +8,7 @@ use lib.ListN.{length, take, drop}
 use lib.Dec.{leb, ltb}
 use Rattle.util.specs.Buffer.{pasted, atStart, overwritten}
 use Rattle.refusal.specs.Refusal.{Guarded, answered, refused, refusalNumber, mapped, answerOf}
-use Rattle.listing.specs.Calls.{guarded}
+use Rattle.refusal.specs.Guarded.{guarded}
 use Rattle.runtime.specs.Reads.{bytesPlace}
 use Rattle.vtable.specs.Entries.{Word, number, pointer, Layout, Entry, entrySize, entryOf, Step, entryStep}
 use Rattle.vtable.specs.declared.cursor.EntryCursor.{EntryCursor}

@@ -4,7 +4,7 @@ use mathlib.Core.Path.{ap, _∙_}
 use Rattle.segment.specs.MappingLaws.{empty-mapped}
 use Rattle.refusal.specs.Refusal.{answered}
 use Rattle.field.specs.RecordsLaws.{record-mapped}
-use Rattle.listing.specs.CallsLaws.{ragged, whole-as}
+use Rattle.refusal.specs.GuardedLaws.{ragged, whole-as}
 use borrow.Author.Needs.{needs}
 use Rattle.listing.proofs.fields.next_field_record.Statement.{statement}
 use Rattle.listing.proofs.fields.next_field_record.Tie as tie
