@@ -11,8 +11,8 @@ use Rattle.util.specs.LittleEndian.{littleEndian, bytesAt, littleAt, unsignedIn
 use Rattle.segment.specs.Segments.{segmentsOf, fileOffset, decides, inFile}
 use Rattle.runtime.specs.Reads.{within, bytesPlace, bind, run}
 use Rattle.context.specs.TypeContext.{initializationOf}
-use Rattle.classtrailers.specs.Blocks.{Trailing, genericSize, setBits, rowAt, recordAt, endAt, passed, reached, blockIn, block, blocks}
-use Rattle.classtrailers.specs.declared.block.Block.{Block}
+use Rattle.classtrailers.specs.Blocks.{Trailing, placedBlock, tableBlock, setBlock, genericSize, setBits, rowAt, below, blockAt, recordAt, endAt, passed, reached, blockIn, block, blocks}
+use Rattle.classtrailers.specs.declared.block.BlockKind.{BlockKind}
 
 -- a u32 of one byte, and one of two u16 of one byte each
 abbrev word : ℕ → List ℕ
@@ -70,22 +70,22 @@ structImage =
 
 pub record AllKinds : Type 0 where
   pub of-class : blocks classImage (segments 0x70) class 0x1000
-      ≡ Block.Generic 0x1000 ∷
-      Block.ResilientSuperclass 0x1020 ∷
-      Block.SingletonMetadataInit 0x1024 ∷
-      Block.VTable 5 2 0x1038 ∷
-      Block.OverrideTable 1 0x104c ∷
-      Block.ObjcResilientClassStub 0x1058 ∷
-      Block.InvertibleProtocolSet 5 2 ∷
-      Block.SingletonMetadataPointer 0x1060 ∷
-      Block.DefaultOverrideTable 1 0x1068 ∷
+      ≡ placedBlock BlockKind.Generic 0x1000 ∷
+      placedBlock BlockKind.ResilientSuperclass 0x1020 ∷
+      placedBlock BlockKind.SingletonMetadataInit 0x1024 ∷
+      tableBlock BlockKind.VTable 5 2 0x1038 ∷
+      tableBlock BlockKind.OverrideTable 0 1 0x104c ∷
+      placedBlock BlockKind.ObjcResilientClassStub 0x1058 ∷
+      setBlock 5 2 ∷
+      placedBlock BlockKind.SingletonMetadataPointer 0x1060 ∷
+      tableBlock BlockKind.DefaultOverrideTable 0 1 0x1068 ∷
       []
   -- where the last of them ends
   pub class-end : run classImage (segments 0x70) (reached class 0x1000 11) ≡ some 0x1070
   pub of-struct : blocks structImage (segments 0x2c) struct 0x1000
-      ≡ Block.Generic 0x1000 ∷ Block.ForeignMetadataInit 0x1010 ∷ Block.Prespecializations 2 0x1018 ∷ Block.InvertibleProtocolSet 0xff 8 ∷ []
+      ≡ placedBlock BlockKind.Generic 0x1000 ∷ placedBlock BlockKind.ForeignMetadataInit 0x1010 ∷ tableBlock BlockKind.Prespecializations 0 2 0x1018 ∷ setBlock 0xff 8 ∷ []
   pub struct-end : run structImage (segments 0x2c) (reached struct 0x1000 11) ≡ some 0x102c
 
 pub all-kinds : AllKinds
-unfolding littleEndian bytesAt littleAt unsignedIn segmentsOf fileOffset decides inFile within bytesPlace bind run initializationOf genericSize setBits rowAt recordAt endAt passed reached blockIn block blocks
+unfolding littleEndian bytesAt littleAt unsignedIn segmentsOf fileOffset decides inFile within bytesPlace bind run initializationOf genericSize setBits rowAt below blockAt recordAt endAt passed reached blockIn block blocks
 all-kinds = record { of-class = refl; class-end = refl; of-struct = refl; struct-end = refl }

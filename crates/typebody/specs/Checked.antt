@@ -11,9 +11,8 @@ use Rattle.util.specs.LittleEndian.{unsignedIn}
 use Rattle.context.specs.Context.{kindOf}
 use Rattle.runtime.specs.Reads.{done, bytes, run}
 use Rattle.runtime.specs.PathLaws.{bytes-read}
-use Rattle.classtrailers.specs.Blocks.{reached, block}
+use Rattle.classtrailers.specs.Blocks.{tableBlock, reached, block}
 use Rattle.classtrailers.specs.Checked.{tabled, ThreeMethods, checked-blocks}
-use Rattle.classtrailers.specs.declared.block.Block.{Block}
 use Rattle.classtrailers.specs.declared.block.BlockKind.{BlockKind}
 use Rattle.typebody.specs.Body.{Body, classBody, bodyBytes, body, trailing, trailingStart}
 use Rattle.typebody.specs.Items.{Start, trailers}
@@ -33,7 +32,7 @@ pub record CheckedClass : Type 0 where
   pub vtable-header : (image segments : List ℕ) (a : ℕ) (b : Body) (h : List ℕ) → ClassAt image segments a b h → (s : Start) → trailers a 0xc0000010 (some b) ≡ some s
       → run image segments (reached (s .trailing) (s .start) 4) ≡ some (a + 44)
   pub vtable-entries : (image segments : List ℕ) (a : ℕ) (b : Body) (h : List ℕ) → ClassAt image segments a b h → (s : Start) → trailers a 0xc0000010 (some b) ≡ some s
-      → run image segments (block (s .trailing) (s .start) BlockKind.VTable) ≡ some (Block.VTable (unsignedIn 4 h 0) 3 (a + 52))
+      → run image segments (block (s .trailing) (s .start) BlockKind.VTable) ≡ some (tableBlock BlockKind.VTable (unsignedIn 4 h 0) 3 (a + 52))
   pub override-header : (image segments : List ℕ) (a : ℕ) (b : Body) (h : List ℕ) → ClassAt image segments a b h → (s : Start) → trailers a 0xc0000010 (some b) ≡ some s
       → run image segments (reached (s .trailing) (s .start) 5) ≡ some (a + 76)
 
