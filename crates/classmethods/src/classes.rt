@@ -70,11 +70,12 @@ pub fn put_classes(
     let mut classes: usize = 0;
     let mut at: usize = 0;
     while slot < count {
-        let found = typedescriptor::slot_row_near(image, segments, mapping, types, vmaddr, slot);
+        let step = typedescriptor::slot_row_moving(image, segments, mapping, types, vmaddr, slot);
+        mapping = step.mapping;
+        let found = step.found;
         match found {
             Descriptor::Row(row) => {
                 let address = row.address;
-                mapping = segment::mapping_around(segments, mapping, address);
                 match vtable_near(image, segments, mapping, address, row.flags) {
                     TableAt::At { base_va, count } => {
                         if buffer.len() - at < HEAD {

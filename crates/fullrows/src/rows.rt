@@ -332,7 +332,9 @@ pub fn put_rows(
     let mut slot = start;
     let mut n: usize = 0;
     while slot < count {
-        let found = typedescriptor::slot_row_near(image, segments, mapping, types, vmaddr, slot);
+        let step = typedescriptor::slot_row_moving(image, segments, mapping, types, vmaddr, slot);
+        mapping = step.mapping;
+        let found = step.found;
         match found {
             Descriptor::Row(row) => {
                 if room <= n {
@@ -342,7 +344,6 @@ pub fn put_rows(
                         all: false,
                     };
                 }
-                mapping = segment::mapping_around(segments, mapping, row.address);
                 put_record(image, segments, mapping, slot, row, buffer, RECORD * n);
                 n += 1;
                 slot += 1;

@@ -35,11 +35,6 @@ abbrev pub LocatedNear : List ℕ → Mapping → ℕ → Around → Type 0
 LocatedNear segments m v (Around.Mapping r) = (Mapped segments m → Mapped segments r) × Has r v
 LocatedNear segments m v Around.Nothing = none ≡ fileOffset (segmentsOf segments) v
 
--- the mapping that a walk goes on with at an address: true if the one before it is, and with the address if that is in the file
-pub record Moved (segments : List ℕ) (m : Mapping) (v : ℕ) (r : Mapping) : Type 0 where
-  pub mapped : Mapped segments m → Mapped segments r
-  pub has : (o : ℕ) → some o ≡ fileOffset (segmentsOf segments) v → Has r v
-
 -- a segment has an address in the file, between `low` and `high`
 pub record InFile (low high : ℕ) (s : Segment) (v : ℕ) : Type 0 where
   pub ends : s .vmaddr + s .vmsize < 2 ^ 64

@@ -11,7 +11,7 @@ use lib.Dec.{ltb}
 use borrow.Author.Tests.{ltb-true}
 use Rattle.segment.specs.Segments.{Segment, segmentsOf, fileOffset, decides, inFile, decided, offsetOf}
 use Rattle.segment.specs.SegmentsLaws.{wraps, below, above, no-bytes, held, past-file, offset-wraps, in-file, segmentAt, segments-step}
-use Rattle.segment.specs.Mapping.{LocatedNear, withMapping, Mapped, Has, Moved, Exact, Located, InFile, Clipped}
+use Rattle.segment.specs.Mapping.{LocatedNear, withMapping, Mapped, Has, Exact, Located, InFile, Clipped}
 use Rattle.segment.specs.declared.segment.Mapping.{Mapping}
 use Rattle.segment.specs.declared.segment.Around.{Around}
 use Rattle.segment.specs.declared.segment.FileOffset.{FileOffset}
@@ -260,20 +260,3 @@ near-mapped segments m v r n e l = subst (LocatedNear segments m v) e l .0
 
 pub near-nowhere : (segments : List ℕ) (m : Mapping) (v : ℕ) (r : Around) → r ≡ Around.Nothing → LocatedNear segments m v r → none ≡ fileOffset (segmentsOf segments) v
 near-nowhere segments m v r e l = subst (LocatedNear segments m v) e l
-
-module _ (segments : List ℕ) (m : Mapping) (v : ℕ) where
-  pub moved-same : Has m v → Moved segments m v m
-  moved-same h = record { mapped = λ w. w; has = λ o e. h }
-
-  pub moved-found : (r : Mapping) → Located segments v (Around.Mapping r) → Moved segments m v r
-  moved-found r l = record { mapped = λ w. l .0; has = λ o e. l .1 }
-
-  pub moved-nowhere : Located segments v Around.Nothing → Moved segments m v m
-  moved-nowhere l =
-      record {
-        mapped = λ w. w;
-        has = λ o e.
-            let f : _≡_ {A = Option ℕ} (some o) none = e ∙ sym l in
-            let z : _≡_ {A = ℕ} 0 1 = cc in
-            absurd (omega arith);
-      }

@@ -10,6 +10,5 @@ pub use segment::FileOffset;
 pub use segment::Mapping;
 pub use segment::locate;
 pub use segment::locate_near;
-pub use segment::mapping_around;
 pub use segment::vm_to_file_offset_in;
 pub use segment::vm_to_file_offset_near;

@@ -3,7 +3,7 @@ ghost use mathlib.Core.Path.{_≡_};
 ghost use mathlib.Core.Bool.{true};
 ghost use Prim.Native.Nat.{_+_, _≤_, _<_, _^_, min, max};
 ghost use Rattle.segment.specs.Segments.{fileOffset, segmentsOf, decides, offsetOf, decided};
-ghost use Rattle.segment.specs.Mapping.{LocatedNear, Has, Moved, InFile, Clipped, Located, withMapping};
+ghost use Rattle.segment.specs.Mapping.{LocatedNear, Has, InFile, Clipped, Located, withMapping};
 
 pub enum FileOffset {
     At(u64),
@@ -215,19 +215,6 @@ pub fn locate_near(segments: &[u64], mapping: Mapping, address: u64) -> Around
         return Around::Mapping(mapping);
     }
     locate(segments, address)
-}
-
-// A mapping with the address, if that is in the file: the one that is given, or another.
-pub fn mapping_around(segments: &[u64], mapping: Mapping, address: u64) -> Mapping
-    ensures { λ r. ⌜ Moved (now (segments .entry)) mapping address r ⌝ }
-{
-    if has(mapping, address) {
-        return mapping;
-    }
-    match locate(segments, address) {
-        Around::Mapping(found) => found,
-        Around::Nothing => mapping,
-    }
 }
 
 // The file offset of an address, with no walk over the segments where the mapping has it: the mapping is asked as a segment before them.

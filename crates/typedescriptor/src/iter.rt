@@ -26,7 +26,7 @@ pub enum TypeStep {
 }
 
 // The row of one slot of a types section whose first byte is at `vmaddr`.
-pub fn slot_row_near(
+fn slot_row_near(
     image: &[u8],
     segments: &[u64],
     mapping: Mapping,

@@ -10,4 +10,3 @@ pub use iter::TypeIter;
 pub use iter::TypeStep;
 pub use iter::slot_row;
 pub use iter::slot_row_moving;
-pub use iter::slot_row_near;
