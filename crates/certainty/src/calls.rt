@@ -2,7 +2,7 @@
 ghost use mathlib.Core.Path.{_≡_};
 ghost use Rattle.refusal.specs.Refusal.{answered};
 ghost use Rattle.typedescriptor.specs.Slots.{slotRow};
-ghost use Rattle.listing.specs.Calls.{guarded};
+ghost use Rattle.refusal.specs.Guarded.{guarded};
 ghost use Rattle.certainty.specs.Certain.{certain};
 ghost use Rattle.certainty.specs.JoinedName.{nameCertain};
 ghost use Rattle.certainty.specs.Calls.{certaintyOf};

@@ -137,6 +137,34 @@ module _ (b : List ℕ) (at : ℕ) (h : at + 4 ≤ length b) where
             ∙ ap (λ (k : Counts). pasted b at (slot ∷ (a ∷ (k .entries ∷ (k .stop ∷ f (length part) .numbers))))) (e .0),
       )
 
+-- ---- the definition, slot by slot
+
+module _ (image segments types : List ℕ) (start m i k n : ℕ) where
+  abbrev from : ClassesListed
+  from = classesFrom image segments types start (suc m) i k n
+
+  pub from-none : none ≡ slotClass image segments types start i → from ≡ classesFrom image segments types start m (suc i) 0 n
+  unfolding classesFrom
+  from-none e = rw (classesFrom, ← e)
+
+  module _ (c : Class) (e : some c ≡ slotClass image segments types start i) where
+    pub from-few : n < 4 → from ≡ stopsAt i k false
+    unfolding classesFrom
+    from-few h = rw (classesFrom, ← e) (simp (lt-ltb n 4 h))
+
+    abbrev pub methodsIn : WholeTable
+    methodsIn = tableIn image segments method (methodsAt (c .table) k) (n - 4)
+
+    module _ (h : 4 ≤ n) where
+      pub from-full : methodsIn .stop ≡ 1 → from ≡ classThen (classNumbers i (c .address) methodsIn) (stopsAt i (k + methodsIn .entries) false)
+      unfolding classesFrom
+      from-full f = rw (classesFrom, ← e) (simp (le-ltb n 4 h, eq-eqb (methodsIn .stop) 1 f))
+
+      pub from-whole : (methodsIn .stop ≡ 1 → ⊥)
+          → from ≡ classThen (classNumbers i (c .address) methodsIn) (classesFrom image segments types start m (suc i) 0 (n - (4 + 3 * methodsIn .entries)))
+      unfolding classesFrom
+      from-whole f = rw (classesFrom, ← e) (simp (le-ltb n 4 h, ne-eqb (methodsIn .stop) 1 f))
+
 -- ---- class after class
 
 module _ (image segments types : List ℕ) (start i₀ k₀ : ℕ) (b₀ : List ℕ) where
@@ -192,14 +220,13 @@ module _ (image segments types : List ℕ) (start i₀ k₀ : ℕ) (b₀ : List 
 
       -- a slot without a class
       pub passes : none ≡ slotClass image segments types start i → Going (i + 1) 0 c at b
-      unfolding classesFrom
       passes e =
           record {
             few = g .few;
             counted = g .counted;
             long = g .long;
             rest = g .rest;
-            goes = g .goes ∙ rw (one-left, classesFrom, ← e, add-one);
+            goes = g .goes ∙ ap (after (take at b) c) (rw one-left (from-none image segments types start (slots types - (i + 1)) i k (length b₀ - at) e ∙ rw add-one));
           }
 
       module _ (x : Class) (e : some x ≡ slotClass image segments types start i) where
@@ -293,7 +320,7 @@ module _ (image segments types : List ℕ) (start i₀ k₀ : ℕ) (b₀ : List 
 
 module _ (image segments types : List ℕ) (start : ℕ) where
   -- all methods of a class from method `k` on, up to the first that cannot be read
-  abbrev allMethods : Class → ℕ → WholeTable
+  abbrev pub allMethods : Class → ℕ → WholeTable
   allMethods c k = tableFrom image segments method (c .table .count) (methodsAt (c .table) k)
 
   -- those of all classes of so many slots
@@ -305,18 +332,21 @@ module _ (image segments types : List ℕ) (start : ℕ) where
         | some c ↦ classNumbers i (c .address) (allMethods c k) ++ allClasses m (suc i) 0
       ]
 
+  abbrev listed : ℕ → ℕ → ℕ → ℕ → ClassesListed
+  listed = classesFrom image segments types start
+
+  never : _≡_ {A = Bool} false true → ⊥
+  never f = let z : _≡_ {A = ℕ} 0 1 = cc in omega arith
+
   -- where all are given they are these, however long the list is
-  pub all-told : (m i k n : ℕ) → classesFrom image segments types start m i k n .all ≡ true → classesFrom image segments types start m i k n .numbers ≡ allClasses m i k
+  pub all-told : (m i k n : ℕ) → listed m i k n .all ≡ true → listed m i k n .numbers ≡ allClasses m i k
   unfolding classesFrom allClasses
   all-told zero i k n e = refl
   all-told (suc m) i k n e = go (all-told m (suc i)) (slotClass image segments types start i) refl
     where
-      never : _≡_ {A = Bool} false true → ⊥
-      never f = let z : _≡_ {A = ℕ} 0 1 = cc in omega arith
-
-      class : ((k n : ℕ) → classesFrom image segments types start m (suc i) k n .all ≡ true → classesFrom image segments types start m (suc i) k n .numbers ≡ allClasses m (suc i) k)
+      class : ((k n : ℕ) → listed m (suc i) k n .all ≡ true → listed m (suc i) k n .numbers ≡ allClasses m (suc i) k)
           → (c : Class) → slotClass image segments types start i ≡ some c → Dec (n < 4) → (b : Bool) → eqb (tableIn image segments method (methodsAt (c .table) k) (n - 4) .stop) 1 ≡ b
-          → classesFrom image segments types start (suc m) i k n .numbers ≡ allClasses (suc m) i k
+          → listed (suc m) i k n .numbers ≡ allClasses (suc m) i k
       class ih c t (yes h) b s = absurd (never (rw (classesFrom, t, lt-ltb n 4 h) at e))
       class ih c t (no h) true s = absurd (never (rw (classesFrom, t, le-ltb n 4 (omega arith), s) at e))
       class ih c t (no h) false s =
@@ -325,7 +355,7 @@ module _ (image segments types : List ℕ) (start : ℕ) where
           (ap (λ (l : List ℕ). classNumbers i (c .address) (tableIn image segments method (methodsAt (c .table) k) (n - 4)) ++ l) (ih 0 _ (rw (classesFrom, t, le-ltb n 4 (omega arith), s) at e))
           ∙ ap (λ (w : WholeTable). classNumbers i (c .address) w ++ allClasses m (suc i) 0) whole)
 
-      go : ((k n : ℕ) → classesFrom image segments types start m (suc i) k n .all ≡ true → classesFrom image segments types start m (suc i) k n .numbers ≡ allClasses m (suc i) k)
-          → (x : Option Class) → slotClass image segments types start i ≡ x → classesFrom image segments types start (suc m) i k n .numbers ≡ allClasses (suc m) i k
+      go : ((k n : ℕ) → listed m (suc i) k n .all ≡ true → listed m (suc i) k n .numbers ≡ allClasses m (suc i) k)
+          → (x : Option Class) → slotClass image segments types start i ≡ x → listed (suc m) i k n .numbers ≡ allClasses (suc m) i k
       go ih none t = rw (classesFrom, allClasses, t) (ih 0 n (rw (classesFrom, t) at e))
       go ih (some c) t = class ih c t (decLt n 4) (eqb (tableIn image segments method (methodsAt (c .table) k) (n - 4) .stop) 1) refl

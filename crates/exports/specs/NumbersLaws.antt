@@ -9,8 +9,8 @@ use Rattle.util.specs.Cstr.{textOf}
 use Rattle.util.specs.declared.cstr.Text.{Text}
 use Rattle.runtime.specs.PlaceNumbers.{textNumbers}
 use Rattle.parent.specs.Context.{nameRead}
-use Rattle.listing.specs.Calls.{guarded}
-use Rattle.listing.specs.CallsLaws.{ragged, whole}
+use Rattle.refusal.specs.Guarded.{guarded}
+use Rattle.refusal.specs.GuardedLaws.{ragged, whole}
 use Rattle.exports.specs.Numbers.{Tells, contextNumbers}
 
 module _ {A : Type 0} (numbers : A → List ℕ) (g : Guarded A) (out : List ℕ) where

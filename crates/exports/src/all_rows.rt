@@ -5,7 +5,7 @@ ghost use lib.ListN.{length};
 ghost use Rattle.refusal.specs.Refusal.{answered, mapped, answerOf};
 ghost use Rattle.util.specs.Buffer.{Put, putEnd, putInto, atStart, overwritten};
 ghost use Rattle.typedescriptor.specs.Row.{rowOf};
-ghost use Rattle.listing.specs.Calls.{guarded};
+ghost use Rattle.refusal.specs.Guarded.{guarded};
 ghost use Rattle.exports.specs.Numbers.{Tells};
 ghost use Rattle.exports.specs.AllRows.{twoNumbers, headBytes, rowBytes, listingFrom, listingNumbers, listingBytes};
 use crate::calls::ANSWERED;

@@ -9,7 +9,7 @@ ghost use Rattle.runtime.specs.PlaceNumbers.{textNumbers, fieldNumbers};
 ghost use Rattle.typedescriptor.specs.Slots.{nextRow};
 ghost use Rattle.parent.specs.Chain.{chainStep};
 ghost use Rattle.qualifiedname.specs.Name.{nameAnswer};
-ghost use Rattle.listing.specs.Calls.{guarded};
+ghost use Rattle.refusal.specs.Guarded.{guarded};
 ghost use Rattle.exports.specs.Numbers.{Tells, valueNumbers, rowNumbers, stepNumbers, oneNumber, namedRow};
 use listing::NextContext;
 use listing::NextRow;

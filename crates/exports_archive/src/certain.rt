@@ -1,7 +1,7 @@
 // What can be known of an image by its first bytes.
 ghost use Rattle.refusal.specs.Refusal.{answered, mapped};
 ghost use Rattle.typedescriptor.specs.Slots.{slotRow};
-ghost use Rattle.listing.specs.Calls.{guarded};
+ghost use Rattle.refusal.specs.Guarded.{guarded};
 ghost use Rattle.certainty.specs.Certain.{certain};
 ghost use Rattle.certainty.specs.JoinedName.{nameCertain};
 ghost use Rattle.certainty.specs.Calls.{certaintyOf};

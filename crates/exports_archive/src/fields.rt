@@ -3,7 +3,7 @@ ghost use mathlib.Core.Path.{_≡_};
 ghost use Rattle.refusal.specs.Refusal.{answered, mapped};
 ghost use Rattle.field.specs.Fields.{fieldStep};
 ghost use Rattle.field.specs.Records.{recordStep};
-ghost use Rattle.listing.specs.Calls.{guarded};
+ghost use Rattle.refusal.specs.Guarded.{guarded};
 ghost use Rattle.exports.specs.Numbers.{Tells};
 ghost use Rattle.exports_archive.specs.Fields.{fieldStepNumbers, recordNumbers, recordsAt};
 use field::FieldIter;

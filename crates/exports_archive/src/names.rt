@@ -5,7 +5,7 @@ ghost use Rattle.refusal.specs.Refusal.{answered, mapped};
 ghost use Rattle.runtime.specs.Reads.{textPlace};
 ghost use Rattle.runtime.specs.FieldName.{fieldName};
 ghost use Rattle.runtime.specs.PlaceNumbers.{textNumbers, fieldNumbers};
-ghost use Rattle.listing.specs.Calls.{guarded};
+ghost use Rattle.refusal.specs.Guarded.{guarded};
 ghost use Rattle.listing.specs.Bodies.{textAnswer};
 ghost use Rattle.exports.specs.Numbers.{Tells};
 ghost use Rattle.exports_archive.specs.Names.{recordBy, descriptorBy};

@@ -4,7 +4,7 @@ ghost use Rattle.refusal.specs.Refusal.{answered, mapped};
 ghost use Rattle.runtime.specs.Reads.{run};
 ghost use Rattle.typebody.specs.Body.{body};
 ghost use Rattle.fieldoffsets.specs.Offsets.{offsets, offsetsPlace, staticPlace, offsetIn, offsetsOf};
-ghost use Rattle.listing.specs.Calls.{guarded};
+ghost use Rattle.refusal.specs.Guarded.{guarded};
 ghost use Rattle.exports.specs.Numbers.{Tells, valueNumbers};
 ghost use Rattle.exports_archive.specs.Offsets.{offsetsNumbers};
 use crate::fields::ANSWERED;

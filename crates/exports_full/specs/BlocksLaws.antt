@@ -16,8 +16,8 @@ use Rattle.typebody.specs.Body.{Body, body}
 use Rattle.typebody.specs.Items.{trailers, trailersOf}
 use Rattle.typebody.specs.declared.trailers.TrailingRead.{TrailingRead}
 use Rattle.typebody.specs.declared.trailers.TrailingStart.{TrailingStart}
-use Rattle.listing.specs.Calls.{guarded}
-use Rattle.listing.specs.CallsLaws.{answered-is}
+use Rattle.refusal.specs.Guarded.{guarded}
+use Rattle.refusal.specs.GuardedLaws.{answered-is}
 use Rattle.listing.specs.Blocks.{kindFrom}
 use Rattle.exports_util.specs.Flags.{flagNumber}
 use Rattle.exports_full.specs.Blocks.{startAt, startNumbers, blockNumbers, kindNumbered, blockNumbered}

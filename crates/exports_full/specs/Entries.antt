@@ -1,19 +1,20 @@
 -- docs/SPECIFICATION.md, "Calls for C".
--- A step over the entries of a table as numbers, of an entry of `n` words: 1, the next entry's number, the entry's address and its words; for an
--- unreadable entry 2, the next entry's number, and as many times 0; at the end only 0.
-use Prim.Native.Nat.{ℕ, zero, suc}
+-- A step over the entries of a table as numbers: 1, the next entry's number, the entry's address and its words; for an unreadable entry 2, the next
+-- entry's number, and as many times 0; at the end only 0. Of entries of `n` words there are 3 + `n` numbers.
+use Prim.Native.Nat.{ℕ, _+_}
 use mathlib.Core.List.{List, [], _∷_}
-use mathlib.Core.Option.{Option, some, none}
-use Rattle.vtable.specs.Entries.{Entry, Step}
+use lib.ListN.{take}
+use Rattle.vtable.specs.declared.cursor.EntryStep.{EntryStep}
+use Rattle.exports_full.specs.declared.entries.StepNumbers.{StepNumbers}
 
-abbrev pub zeros : ℕ → List ℕ
-zeros zero = []
-zeros (suc n) = 0 ∷ zeros n
+abbrev pub stepNumbers : EntryStep → List ℕ
+stepNumbers (EntryStep.Entry e c) = 1 ∷ (c .next ∷ (e .address ∷ (e .first ∷ (e .second ∷ (e .third ∷ [])))))
+stepNumbers (EntryStep.Unreadable c) = 2 ∷ (c .next ∷ (0 ∷ (0 ∷ (0 ∷ (0 ∷ [])))))
+stepNumbers EntryStep.End = 0 ∷ (0 ∷ (0 ∷ (0 ∷ (0 ∷ (0 ∷ [])))))
 
-abbrev pub foundEntryNumbers : ℕ → ℕ → Option Entry → List ℕ
-foundEntryNumbers n next none = 2 ∷ (next ∷ (0 ∷ zeros n))
-foundEntryNumbers n next (some e) = 1 ∷ (next ∷ (e .address ∷ e .words))
+abbrev pub entryStepNumbers : ℕ → EntryStep → List ℕ
+entryStepNumbers n s = take (3 + n) (stepNumbers s)
 
-abbrev pub entryStepNumbers : ℕ → Option Step → List ℕ
-entryStepNumbers n none = 0 ∷ (0 ∷ (0 ∷ zeros n))
-entryStepNumbers n (some s) = foundEntryNumbers n (s .next .next) (s .found)
+-- the six numbers in the code's struct
+abbrev pub numbersIn : StepNumbers → List ℕ
+numbersIn n = n .told ∷ (n .next ∷ (n .address ∷ (n .first ∷ (n .second ∷ (n .third ∷ [])))))

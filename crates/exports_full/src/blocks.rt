@@ -3,7 +3,7 @@ ghost use mathlib.Core.Path.{_≡_};
 ghost use Rattle.refusal.specs.Refusal.{answered, mapped};
 ghost use Rattle.classtrailers.specs.Blocks.{nextBlock};
 ghost use Rattle.typebody.specs.Items.{trailersOf};
-ghost use Rattle.listing.specs.Calls.{guarded};
+ghost use Rattle.refusal.specs.Guarded.{guarded};
 ghost use Rattle.listing.specs.Blocks.{blockAnswer};
 ghost use Rattle.exports.specs.Numbers.{Tells};
 ghost use Rattle.exports_full.specs.Blocks.{startAt, startNumbers, walkAt, blockNumbers, blockNumbersOf, blockStepNumbers, kindBlockNumbers, kindNumbered, kindReadOf, blockNumbered};

@@ -5,7 +5,7 @@ ghost use Rattle.refusal.specs.Refusal.{answered, mapped};
 ghost use Rattle.runtime.specs.PlaceNumbers.{textNumbers};
 ghost use Rattle.runtime.specs.Reads.{run, textPlace};
 ghost use Rattle.typebody.specs.Body.{body, bodyOf, classOf};
-ghost use Rattle.listing.specs.Calls.{guarded};
+ghost use Rattle.refusal.specs.Guarded.{guarded};
 ghost use Rattle.exports.specs.Numbers.{Tells};
 ghost use Rattle.fullrows.specs.FullRows.{bodyNumbers};
 use listing::BodyAnswer;

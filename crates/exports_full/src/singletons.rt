@@ -2,7 +2,7 @@
 ghost use Rattle.refusal.specs.Refusal.{answered, mapped};
 ghost use Rattle.runtime.specs.Reads.{run};
 ghost use Rattle.typebody.specs.Singleton.{singletonInit, singletonPointer};
-ghost use Rattle.listing.specs.Calls.{guarded};
+ghost use Rattle.refusal.specs.Guarded.{guarded};
 ghost use Rattle.exports.specs.Numbers.{Tells, valueNumbers};
 ghost use Rattle.exports_full.specs.Singletons.{initNumbers};
 use crate::bodies::ANSWERED;

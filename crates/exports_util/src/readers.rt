@@ -8,7 +8,7 @@ ghost use Rattle.util.specs.Cstr.{fixedText};
 ghost use Rattle.segment.specs.Segments.{segmentsOf};
 ghost use Rattle.segment.specs.VmAddress.{vmAddress};
 ghost use Rattle.refusal.specs.Refusal.{answered, mapped};
-ghost use Rattle.listing.specs.Calls.{guarded};
+ghost use Rattle.refusal.specs.Guarded.{guarded};
 ghost use Rattle.exports.specs.Numbers.{Tells, valueNumbers};
 ghost use Rattle.exports_util.specs.Readers.{ulebNumbers, slebNumbers, lengthNumbers};
 use leb128::Sleb128;

@@ -66,7 +66,7 @@ impl FieldRecordIter {
         }
     }
 
-    pub fn next_near(self, image: &[u8], segments: &[u64], mapping: Mapping) -> FieldRecordStep
+    pub fn next(self, image: &[u8], segments: &[u64], mapping: Mapping) -> FieldRecordStep
         ensures { λ r. ⌜ recordStepOf r ≡ recordStep (now (image .entry)) (withMapping mapping (now (segments .entry))) self ⌝ }
     {
         if self.count <= self.cursor {
@@ -95,13 +95,6 @@ impl FieldRecordIter {
             record: field_record(bytes, address),
             next,
         }
-    }
-
-    // The same with nothing known of the addresses around.
-    pub fn next(self, image: &[u8], segments: &[u64]) -> FieldRecordStep
-        ensures { λ r. ⌜ recordStepOf r ≡ recordStep (now (image .entry)) (now (segments .entry)) self ⌝ }
-    {
-        self.next_near(image, segments, Mapping::empty())
     }
 }
 

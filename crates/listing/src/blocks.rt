@@ -5,7 +5,7 @@ ghost use Rattle.classtrailers.specs.Blocks.{nextBlock};
 ghost use Rattle.classtrailers.specs.Calls.{walkOf};
 ghost use Rattle.typebody.specs.Body.{bodyOf};
 ghost use Rattle.typebody.specs.Items.{trailers};
-ghost use Rattle.listing.specs.Calls.{guarded};
+ghost use Rattle.refusal.specs.Guarded.{guarded};
 ghost use Rattle.listing.specs.Blocks.{walkFrom, kindFrom, nextBlockAnswer, blockAnswer};
 use classtrailers::Block;
 use classtrailers::BlockKind;

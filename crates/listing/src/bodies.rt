@@ -3,7 +3,7 @@ ghost use mathlib.Core.Path.{_≡_};
 ghost use Rattle.refusal.specs.Refusal.{answered};
 ghost use Rattle.runtime.specs.Reads.{run, textPlace};
 ghost use Rattle.typebody.specs.Body.{body, bodyOf, superclassName};
-ghost use Rattle.listing.specs.Calls.{guarded};
+ghost use Rattle.refusal.specs.Guarded.{guarded};
 ghost use Rattle.listing.specs.Bodies.{bodyAnswer, textAnswer};
 use refusal::Refusal;
 use typebody::TypeBody;

@@ -5,7 +5,7 @@ ghost use Rattle.runtime.specs.Reads.{textPlace};
 ghost use Rattle.runtime.specs.FieldName.{fieldName};
 ghost use Rattle.field.specs.Fields.{fieldStep, fieldStepOf};
 ghost use Rattle.field.specs.Records.{recordStep};
-ghost use Rattle.listing.specs.Calls.{guarded};
+ghost use Rattle.refusal.specs.Guarded.{guarded};
 ghost use Rattle.listing.specs.Bodies.{textAnswer};
 ghost use Rattle.listing.specs.Fields.{recordAnswer, fieldNameAnswer};
 use crate::bodies::TextAnswer;
@@ -17,6 +17,7 @@ use field::FieldRecordStep;
 use field::FieldStep;
 use refusal::Refusal;
 use runtime::FieldName;
+use segment::Mapping;
 
 pub enum NextFieldRecord {
     Step(FieldRecordStep),
@@ -42,7 +43,7 @@ pub fn next_field_record(image: &[u8], segments: &[u64], walk: FieldRecordIter) 
     if segments.len() % 4 != 0 {
         return NextFieldRecord::Refused(Refusal::RaggedSegments);
     }
-    NextFieldRecord::Step(walk.next(image, segments))
+    NextFieldRecord::Step(walk.next(image, segments, Mapping::empty()))
 }
 
 // The name of a record's field: the image's text, else that of the string section, whose first byte is at `strings_va`.

@@ -3,7 +3,7 @@ ghost use mathlib.Core.Path.{_≡_};
 ghost use Rattle.refusal.specs.Refusal.{answered};
 ghost use Rattle.typebody.specs.Body.{bodyOf};
 ghost use Rattle.fieldoffsets.specs.Offsets.{offsetsPlace, staticPlace};
-ghost use Rattle.listing.specs.Calls.{guarded};
+ghost use Rattle.refusal.specs.Guarded.{guarded};
 ghost use Rattle.listing.specs.Offsets.{offsetsAnswer};
 use fieldoffsets::FieldOffsets;
 use refusal::Refusal;

@@ -3,7 +3,7 @@ ghost use mathlib.Core.Path.{_≡_};
 ghost use Rattle.refusal.specs.Refusal.{answered};
 ghost use Rattle.runtime.specs.Reads.{run};
 ghost use Rattle.typebody.specs.Singleton.{singletonInit, singletonPointer};
-ghost use Rattle.listing.specs.Calls.{guarded};
+ghost use Rattle.refusal.specs.Guarded.{guarded};
 ghost use Rattle.listing.specs.Singletons.{initAnswer, pointerAnswer};
 use refusal::Refusal;
 use typebody::SingletonMetadataInit;

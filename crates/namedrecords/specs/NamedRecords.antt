@@ -3,7 +3,7 @@ use Prim.Native.Nat.{ℕ, _/_}
 use mathlib.Core.List.{List, _++_}
 use lib.ListN.{length, getD}
 use Rattle.refusal.specs.Refusal.{Guarded, answered}
-use Rattle.listing.specs.Calls.{guarded}
+use Rattle.refusal.specs.Guarded.{guarded}
 use Rattle.runtime.specs.Reads.{textPlace}
 use Rattle.runtime.specs.FieldName.{fieldName}
 use Rattle.runtime.specs.PlaceNumbers.{textNumbers, fieldNumbers}

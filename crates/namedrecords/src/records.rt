@@ -135,7 +135,7 @@ pub fn list_records(
             entry_size,
             cursor: k,
         };
-        let step = here.next_near(image, segments, mapping);
+        let step = here.next(image, segments, mapping);
         match step {
             FieldRecordStep::Record { record, next: _ } => {
                 put_record(

@@ -15,7 +15,7 @@ use Rattle.util.specs.CstrLaws.{part-in}
 use Rattle.typedescriptor.specs.Slots.{Found, nextRow}
 use Rattle.bundle_parts.specs.Parts.{bytesOf, listedNumbers}
 use Rattle.bundle.specs.declared.open.Layout.{Layout}
-use Rattle.listing.specs.Calls.{guarded}
+use Rattle.refusal.specs.Guarded.{guarded}
 use Rattle.printing.specs.Lines.{refusedLine, Line, line, lineText, lineAt, lineStep}
 use Rattle.printing.specs.LinesLaws.{Given, line-put}
 use Rattle.printer.specs.Printed.{Pending, rows, refusal, finished, withLayout, printStep, numbersFor}

@@ -4,7 +4,7 @@ ghost use lib.ListN.{length};
 ghost use Rattle.refusal.specs.Refusal.{answered};
 ghost use Rattle.util.specs.Buffer.{atStart, overwritten};
 ghost use Rattle.bundle.specs.Open.{openBundle};
-ghost use Rattle.listing.specs.Calls.{guarded};
+ghost use Rattle.refusal.specs.Guarded.{guarded};
 ghost use Rattle.printing.specs.Lines.{lineText};
 ghost use Rattle.printer.specs.Printed.{numbersFor, startOf, pendingOf, rows, printStep, printAnswer};
 use bundle::Layout;

@@ -17,8 +17,8 @@ use Rattle.printing.specs.Digits.{digit, hex, decimal}
 use Rattle.typedescriptor.specs.Row.{TypeRow}
 use Rattle.typedescriptor.specs.Slots.{Found, nextRow}
 use Rattle.refusal.specs.Refusal.{Guarded, answered, refused, mapped, answerOf}
-use Rattle.listing.specs.Calls.{guarded}
-use Rattle.listing.specs.CallsLaws.{ragged, whole}
+use Rattle.refusal.specs.Guarded.{guarded}
+use Rattle.refusal.specs.GuardedLaws.{ragged, whole}
 use Rattle.qualifiedname.specs.Name.{nameAnswer, qualifiedName}
 use Rattle.qualifiedname.specs.NameLaws.{name-length}
 use Rattle.printing.specs.DigitsLaws.{decimal-none, decimal-one, decimal-more, decimal-length}

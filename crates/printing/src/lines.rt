@@ -7,7 +7,7 @@ ghost use mathlib.Core.Bool.{false};
 ghost use Rattle.refusal.specs.Refusal.{answered, refusalNumber};
 ghost use Rattle.util.specs.Buffer.{Put, overwritten};
 ghost use Rattle.typedescriptor.specs.Row.{rowOf};
-ghost use Rattle.listing.specs.Calls.{guarded};
+ghost use Rattle.refusal.specs.Guarded.{guarded};
 ghost use Rattle.printing.specs.Digits.{digit, hex, decimal};
 ghost use Rattle.printing.specs.Lines.{nameBytes, lineBytes, space, kindWord, refusedText, refusedLine, nameText, rowLine, endLine, lineStep, lineAnswer, lineText};
 use crate::digits::digit_of;

@@ -1,2 +1,4 @@
 pub mod Refusal
 pub mod RefusalLaws
+pub mod Guarded
+pub mod GuardedLaws

@@ -8,7 +8,7 @@ use lib.ListN.{length, take, drop}
 use lib.Dec.{leb, ltb}
 use Rattle.util.specs.Buffer.{pasted, atStart, overwritten}
 use Rattle.refusal.specs.Refusal.{Guarded, answered, refused, refusalNumber, mapped, answerOf}
-use Rattle.listing.specs.Calls.{guarded}
+use Rattle.refusal.specs.Guarded.{guarded}
 use Rattle.runtime.specs.Reads.{bytesPlace}
 use Rattle.vtable.specs.Entries.{Word, number, pointer, Layout, Entry, entrySize, entryOf, Step, entryStep}
 use Rattle.vtable.specs.declared.cursor.EntryCursor.{EntryCursor}
@@ -36,9 +36,13 @@ ended stop = record { numbers = []; entries = 0; stop = stop }
 abbrev pub entryThen : (Entry → List ℕ) → Entry → WholeTable → WholeTable
 entryThen f e t = record { numbers = f e ++ t .numbers; entries = suc (t .entries); stop = t .stop }
 
+-- why a list with no room for entry `k` ends: it is full, unless the table ends there
+abbrev pub stopAt : ℕ → ℕ → ℕ
+stopAt k count = cond (ltb k count) 1 0
+
 -- the entries from where a walk stands up to the first that cannot be read, at most so many, each by the numbers that `f` gives of it
 unfoldable pub tableBy : (Entry → List ℕ) → List ℕ → List ℕ → Layout → ℕ → EntryCursor → WholeTable
-tableBy f image segments l zero c = ended (cond (ltb (c .next) (c .count)) 1 0)
+tableBy f image segments l zero c = ended (stopAt (c .next) (c .count))
 tableBy f image segments l (suc n) c =
     elim (entryStep image segments l c) [
       | none ↦ ended 0

@@ -1,7 +1,7 @@
 -- What the code finds of a table is `tableFrom`: where an entry lies (`no-place`, `a-place`), its numbers in the list (`set-put`, `set-more`), the
 -- entries of a run (`Ran`), and run after run (`Going`, for whatever numbers are said of an entry: `tableBy`). The table is the entries that stepping
 -- gives, as numbers (`table-listed`); its counts do not go by those numbers (`same-counts`).
-use Prim.Native.Nat.{ℕ, zero, suc, _+_, _-_, _*_, _/_, _%_, _^_, _≤_, _<_}
+use Prim.Native.Nat.{ℕ, zero, suc, _+_, _-_, _*_, _/_, _%_, _^_, _≤_, _<_, min}
 use native.Mathlib.Nat.{mul-le-mul-left, mul-div-le, mul-zero, mul-suc, mul-add, mod-eq-of-lt, le-antisymm, le-trans, div-le-self, div-eq-of-lt, div-eq-sub-div, zero-add}
 use native.Mathlib.Decide.{decLe, decLt}
 use native.Mathlib.Numerals.{add-one}
@@ -22,8 +22,8 @@ use Rattle.segment.specs.Mapping.{Located, Has}
 use Rattle.segment.specs.declared.segment.Mapping.{Mapping}
 use Rattle.segment.specs.declared.segment.Around.{Around}
 use Rattle.refusal.specs.Refusal.{Guarded, answered, refused, mapped, answerOf}
-use Rattle.listing.specs.Calls.{guarded}
-use Rattle.listing.specs.CallsLaws.{ragged, whole}
+use Rattle.refusal.specs.Guarded.{guarded}
+use Rattle.refusal.specs.GuardedLaws.{ragged, whole}
 use Rattle.runtime.specs.Reads.{bytesPlace, run, andThen}
 use Rattle.runtime.specs.CallsLaws.{bytes-at, bytes-past, bytes-nowhere, bytes-within}
 use Rattle.vtable.specs.Entries.{Word, Layout, Entry, entrySize, entryOf, entryAddress, entryAt, Step, entryStep, wordAt, wordsFrom}
@@ -34,7 +34,7 @@ use Rattle.tables.specs.declared.list.Words.{Words}
 use Rattle.tables.specs.declared.list.Listed.{Listed}
 use Rattle.tables.specs.declared.calls.TableAnswer.{TableAnswer}
 use Rattle.tables.specs.declared.window.Window.{Window}
-use Rattle.tables.specs.Tables.{entryNumbers, WholeTable, Counts, ended, entryThen, tableBy, tableFrom, tableIn, width, counts, tableNumbers, tableAnswer, bufferWith, GivesTable, first, shape, entryPlace, Opens, wordsIn, runNumbers, PutRun, Lists}
+use Rattle.tables.specs.Tables.{entryNumbers, WholeTable, Counts, ended, stopAt, entryThen, tableBy, tableFrom, tableIn, width, counts, tableNumbers, tableAnswer, bufferWith, GivesTable, first, shape, entryPlace, Opens, wordsIn, runNumbers, PutRun, Lists}
 
 -- ---- where an entry lies
 
@@ -59,6 +59,9 @@ module _ (image segments : List ℕ) (size a : ℕ) where
       go (no w) = (omega arith, bytes-within image segments a size o (simp (lt-leb (2 ^ 64) (a + (size - 4)) (omega arith)) at e))
 
 -- how far entries go on: in a mapping, in the image, below 2^64
+lesser : (x a b : ℕ) → x ≡ min a b → (x ≤ a) × (x ≤ b)
+lesser x a b e = (omega arith, omega arith)
+
 on-mapping : (n entryThen last : ℕ) → entryThen < n → last ≤ n - entryThen - 1 → last < n - entryThen
 on-mapping n entryThen last h l = omega arith
 
@@ -88,7 +91,7 @@ module _ (image segments : List ℕ) (size a : ℕ) (w : a + (size - 4) < 2 ^ 64
     abbrev past : ℕ
     past = a - m .vmaddr
 
-    pub opens-all : (u last : ℕ) → m .fileoff ≤ length image → past ≤ length image - m .fileoff → size ≤ length image - (m .fileoff + past)
+    opens-all : (u last : ℕ) → m .fileoff ≤ length image → past ≤ length image - m .fileoff → size ≤ length image - (m .fileoff + past)
         → (u ≤ length image - (m .fileoff + past) - size) × (u ≤ 18446744073709551615 - (size - 4) - a) → (last ≤ m .size - past - 1) × (last ≤ u)
         → Opens image segments size a (Window.At (m .fileoff + past) last)
     opens-all u last hf hp hs hu hl i h =
@@ -99,6 +102,11 @@ module _ (image segments : List ℕ) (size a : ℕ) (w : a + (size - 4) < 2 ^ 64
         let far : m .fileoff + (a + i - m .vmaddr) ≡ m .fileoff + past + i = omega (arith, f .1 .from) in
         let e : fileOffset (segmentsOf segments) (a + i) ≡ some (m .fileoff + past + i) = f .2 .offset (a + i) has ∙ ap some far in
         place-as image segments size (a + i) (some (m .fileoff + past + i)) (omega (arith, below)) (bytes-at image segments (a + i) size (m .fileoff + past + i) (sym e) (omega (arith, inside)))
+
+    pub opens-least : (u last : ℕ) → m .fileoff ≤ length image → past ≤ length image - m .fileoff → size ≤ length image - (m .fileoff + past)
+        → u ≡ min (length image - (m .fileoff + past) - size) (18446744073709551615 - (size - 4) - a) → last ≡ min (m .size - past - 1) u
+        → Opens image segments size a (Window.At (m .fileoff + past) last)
+    opens-least u last hf hp hs eu el = opens-all u last hf hp hs (lesser u _ _ eu) (lesser last _ _ el)
 
 module _ (image segments : List ℕ) (size a o last : ℕ) (w : Opens image segments size a (Window.At o last)) where
   pub opens-here : some o ≡ entryPlace image segments size a
@@ -153,10 +161,10 @@ module _ (numbered : Bool) where
   shape-stride (suc (suc n)) stride = refl
 
 -- more than two pointers are two
-shape-least : (numbered : Bool) (more r stride : ℕ) → (more ≤ 2 → r ≡ more) × (2 ≤ more → r ≡ 2) → shape numbered r stride ≡ shape numbered more stride
-shape-least numbered zero r stride e = ap (λ (n : ℕ). shape numbered n stride) (e .0 (omega arith))
-shape-least numbered (suc zero) r stride e = ap (λ (n : ℕ). shape numbered n stride) (e .0 (omega arith))
-shape-least numbered (suc (suc n)) r stride e = ap (λ (n : ℕ). shape numbered n stride) (e .1 (omega arith))
+shape-least : (numbered : Bool) (more stride : ℕ) → shape numbered (min more 2) stride ≡ shape numbered more stride
+shape-least numbered zero stride = refl
+shape-least numbered (suc zero) stride = refl
+shape-least numbered (suc (suc n)) stride = let two : min (suc (suc n)) 2 ≡ 2 = omega arith in ap (λ (j : ℕ). shape numbered j stride) two
 
 words-long : (ws : List Word) (a o : ℕ) (h : List ℕ) → length (wordsFrom ws a o h) ≡ length ws
 words-long [] a o h = refl
@@ -306,6 +314,13 @@ module _ (image : List ℕ) (numbered : Bool) (more stride o last a most : ℕ) 
 
 -- ---- run after run
 
+-- why a list ends that has no room for an entry
+pub stop-full : (k count : ℕ) → k < count → 1 ≡ stopAt k count
+stop-full k count h = simp (lt-ltb k count h)
+
+pub stop-ended : (k count : ℕ) → count ≤ k → 0 ≡ stopAt k count
+stop-ended k count h = simp (le-ltb k count h)
+
 -- whatever numbers are said of an entry
 module _ (say : Entry → List ℕ) (image segments : List ℕ) (l : Layout) (base count : ℕ) where
   abbrev left : ℕ → ℕ → WholeTable
@@ -313,12 +328,12 @@ module _ (say : Entry → List ℕ) (image segments : List ℕ) (l : Layout) (ba
 
   from-end : (n k : ℕ) → count ≤ k → left n k ≡ ended 0
   unfolding tableBy
-  from-end zero k h = simp (le-ltb k count h)
+  from-end zero k h = ap ended (sym (stop-ended k count h))
   from-end (suc n) k h = rw (tableBy, sym (step-end image segments l (walkAt base count k) h))
 
   from-full : (k : ℕ) → k < count → left 0 k ≡ ended 1
   unfolding tableBy
-  from-full k h = simp (lt-ltb k count h)
+  from-full k h = ap ended (sym (stop-full k count h))
 
   from-none : (n k : ℕ) → k < count → none ≡ run image segments (entryAt l base k) → left (suc n) k ≡ ended 2
   unfolding tableBy
@@ -505,16 +520,12 @@ module _ (say : Entry → List ℕ) (image segments : List ℕ) (l : Layout) (ba
       pub stops-end : count ≤ k → (record { entries = n; stop = 0 } ≡ counts (left most k₀)) × (b ≡ atStart (tableNumbers (left most k₀)) b₀)
       stops-end h = stops 0 (from-end (most - n) k h)
 
-      pub stops-full : n ≡ most → (s : ℕ) → (k < count → s ≡ 1) × (count ≤ k → s ≡ 0)
+      pub stops-full : n ≡ most → (s : ℕ) → s ≡ stopAt k count
           → (record { entries = n; stop = s } ≡ counts (left most k₀)) × (b ≡ atStart (tableNumbers (left most k₀)) b₀)
-      stops-full e s f = go (decLt k count)
-        where
-          none-left : most - n ≡ 0
-          none-left = omega arith
-
-          go : Dec (k < count) → (record { entries = n; stop = s } ≡ counts (left most k₀)) × (b ≡ atStart (tableNumbers (left most k₀)) b₀)
-          go (yes h) = stops s (ap (λ (j : ℕ). left j k) none-left ∙ from-full k h ∙ ap ended (sym (f .0 h)))
-          go (no h) = stops s (from-end (most - n) k (omega arith) ∙ ap ended (sym (f .1 (omega arith))))
+      unfolding tableBy
+      stops-full e s f =
+          let none-left : most - n ≡ 0 = omega arith in
+          stops s (ap (λ (j : ℕ). left j k) none-left ∙ ap ended (sym f))
 
       module _ (h : k < count) (m : n < most) where
         one-left : most - n ≡ suc (most - (n + 1))
@@ -606,7 +617,7 @@ module _ (image segments : List ℕ) (numbered : Bool) (more stride base count :
     abbrev Done : ℕ → Type 0
     Done s = Lists (tableFrom image segments l (length b₀ / width l) (walkAt base count k₀)) b₀ (record { entries = n; stop = s }) b
 
-    pub table-full : (s : ℕ) → length b₀ / (2 + more) ≤ n → (k < count → s ≡ 1) × (count ≤ k → s ≡ 0) → Done s
+    pub table-full : (s : ℕ) → length b₀ / (2 + more) ≤ n → s ≡ stopAt k count → Done s
     table-full s h f = stops-full entryNumbers image segments l base count (width l) b₀ k₀ k n b g (le-antisymm (g .few) (rw wide h)) s f
 
     module _ (h : k < count) (m : n < length b₀ / (2 + more)) where
@@ -643,7 +654,7 @@ module _ (image segments : List ℕ) (numbered : Bool) (more stride base count :
   module _ (h : k₀ + 1 ≡ count) where
     pub one-full : length b₀ < 2 + more → Lists only b₀ (record { entries = 0; stop = 1 }) b₀
     one-full m =
-        table-full k₀ 0 b₀ (start-going entryNumbers image segments l base count (width l) b₀ k₀) 1 (omega (arith, div-eq-of-lt m)) ((λ _. refl), λ z. absurd (omega arith))
+        table-full k₀ 0 b₀ (start-going entryNumbers image segments l base count (width l) b₀ k₀) 1 (omega (arith, div-eq-of-lt m)) (stop-full k₀ count (omega arith))
 
     module _ (m : 2 + more ≤ length b₀) where
       one-fits : 0 < length b₀ / (2 + more)
@@ -660,9 +671,10 @@ module _ (image segments : List ℕ) (numbered : Bool) (more stride base count :
           (omega arith)
 
 -- a shape with more pointers than two is that with two
-pub lists-least : (image segments : List ℕ) (numbered : Bool) (more r stride : ℕ) (c : EntryCursor) (b b′ : List ℕ) (x : Listed) → (more ≤ 2 → r ≡ more) × (2 ≤ more → r ≡ 2)
+pub lists-least : (image segments : List ℕ) (numbered : Bool) (more r stride : ℕ) (c : EntryCursor) (b b′ : List ℕ) (x : Listed) → r ≡ min more 2
     → Lists (tableIn image segments (shape numbered r stride) c (length b)) b x b′ → Lists (tableIn image segments (shape numbered more stride) c (length b)) b x b′
-lists-least image segments numbered more r stride c b b′ x e h = subst (λ (l : Layout). Lists (tableIn image segments l c (length b)) b x b′) (shape-least numbered more r stride e) h
+lists-least image segments numbered more r stride c b b′ x e h =
+    subst (λ (l : Layout). Lists (tableIn image segments l c (length b)) b x b′) (ap (λ (n : ℕ). shape numbered n stride) e ∙ shape-least numbered more stride) h
 
 -- ---- the calls
 

@@ -5,7 +5,7 @@ ghost use Prim.Native.Nat.{_+_, _*_, _^_, _≤_, _<_, min};
 ghost use lib.ListN.{length, take, drop};
 ghost use Rattle.util.specs.Buffer.{pasted, atStart};
 ghost use Rattle.vtable.specs.Entries.{entryOf, wordAt, wordsFrom};
-ghost use Rattle.tables.specs.Tables.{entryNumbers, first, shape, wordsIn, PutRun, tableIn, Lists};
+ghost use Rattle.tables.specs.Tables.{entryNumbers, stopAt, first, shape, wordsIn, PutRun, tableIn, Lists};
 use crate::window::Window;
 use crate::window::window_at;
 use vtable::EntryCursor;
@@ -172,7 +172,7 @@ fn list_one(
 
 // Why a list with no room for entry `k` ends: it is full, unless the table ends there.
 pub fn stopped(k: u32, count: u32) -> u64
-    ensures { λ r. ⌜ (k < count → r ≡ 1) × (count ≤ k → r ≡ 0) ⌝ }
+    ensures { λ r. ⌜ r ≡ stopAt k count ⌝ }
 {
     if k < count { FULL } else { ENDED }
 }
@@ -244,7 +244,7 @@ fn list_runs(
 }
 
 fn at_most_two(more: u32) -> u32
-    ensures { λ r. ⌜ (r ≤ 2) × ((more ≤ 2 → r ≡ more) × (2 ≤ more → r ≡ 2)) ⌝ }
+    ensures { λ r. ⌜ r ≡ min more 2 ⌝ }
 {
     if more < 2 { more } else { 2 }
 }

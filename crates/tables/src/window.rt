@@ -1,6 +1,6 @@
 // Where an entry lies in the image, and how far on from it entries lie there one after the other, by one walk over the segments.
 ghost use mathlib.Core.Path.{_≡_};
-ghost use Prim.Native.Nat.{_+_, _-_, _*_, _^_, _≤_, _<_};
+ghost use Prim.Native.Nat.{_+_, _-_, _*_, _^_, _≤_, _<_, min};
 ghost use Rattle.tables.specs.Tables.{Opens};
 use runtime::Bytes;
 use segment::Around;
@@ -12,7 +12,7 @@ pub enum Window {
 }
 
 fn least(a: u64, b: u64) -> u64
-    ensures { λ r. ⌜ (r ≤ a) × (r ≤ b) ⌝ }
+    ensures { λ r. ⌜ r ≡ min a b ⌝ }
 {
     if a < b { a } else { b }
 }

@@ -15,10 +15,7 @@ use listing::BodyAnswer;
 use listing::InitAnswer;
 use listing::NextBlock;
 use listing::NextContext;
-use listing::NextDefaultOverride;
-use listing::NextMethod;
-use listing::NextOverride;
-use listing::NextPrespecialization;
+use listing::NextEntry;
 use listing::NextRow;
 use listing::PointerAnswer;
 use listing::TextAnswer;
@@ -37,11 +34,10 @@ use typebody::TypeBody;
 use typedescriptor::Row;
 use typedescriptor::TypeIter;
 use util::Text;
-use vtable::DefaultOverrideStep;
 use vtable::EntryCursor;
-use vtable::MethodStep;
-use vtable::OverrideStep;
-use vtable::PrespecializationStep;
+use vtable::EntryKind;
+use vtable::EntryStep;
+use vtable::TableEntry;
 
 fn number(n: u64) {
     io::write_all(1, b" ");
@@ -210,57 +206,40 @@ fn try_blocks(image: &[u8], segments: &[u64]) {
 }
 
 // The last word of an entry of each kind of table.
-fn method_word(step: MethodStep) {
-    match step {
-        MethodStep::Entry { entry, next: _ } => number(entry.impl_va),
-        MethodStep::Unreadable { next: _ } => unreadable(),
-        MethodStep::End => end(),
+fn last_word(kind: EntryKind, entry: TableEntry) {
+    match kind {
+        EntryKind::Method => number(entry.second),
+        EntryKind::Override => number(entry.third),
+        EntryKind::DefaultOverride => number(entry.second),
+        EntryKind::Prespecialization => number(entry.first),
     }
 }
 
-fn override_word(step: OverrideStep) {
-    match step {
-        OverrideStep::Entry { entry, next: _ } => number(entry.impl_va),
-        OverrideStep::Unreadable { next: _ } => unreadable(),
-        OverrideStep::End => end(),
+fn entry_word(kind: EntryKind, answer: NextEntry) {
+    match answer {
+        NextEntry::Step(step) => match step {
+            EntryStep::Entry { entry, next: _ } => last_word(kind, entry),
+            EntryStep::Unreadable { next: _ } => unreadable(),
+            EntryStep::End => end(),
+        },
+        NextEntry::Refused(refusal) => refused(refusal),
     }
 }
 
-fn default_override_word(step: DefaultOverrideStep) {
-    match step {
-        DefaultOverrideStep::Entry { entry, next: _ } => number(entry.impl_va),
-        DefaultOverrideStep::Unreadable { next: _ } => unreadable(),
-        DefaultOverrideStep::End => end(),
-    }
-}
-
-fn prespecialization_word(step: PrespecializationStep) {
-    match step {
-        PrespecializationStep::Entry { entry, next: _ } => number(entry.metadata_va),
-        PrespecializationStep::Unreadable { next: _ } => unreadable(),
-        PrespecializationStep::End => end(),
-    }
+fn try_table(image: &[u8], segments: &[u64], cursor: EntryCursor, kind: EntryKind) {
+    entry_word(kind, listing::next_entry(image, segments, cursor, kind));
 }
 
 // The descriptor's bytes as the first entry of each kind of table.
 fn try_tables(image: &[u8], segments: &[u64]) {
     let cursor = EntryCursor::new(0x1000, 1);
-    match listing::next_method(image, segments, cursor) {
-        NextMethod::Step(step) => method_word(step),
-        NextMethod::Refused(refusal) => refused(refusal),
-    }
-    match listing::next_override(image, segments, cursor) {
-        NextOverride::Step(step) => override_word(step),
-        NextOverride::Refused(refusal) => refused(refusal),
-    }
-    match listing::next_default_override(image, segments, cursor) {
-        NextDefaultOverride::Step(step) => default_override_word(step),
-        NextDefaultOverride::Refused(refusal) => refused(refusal),
-    }
-    match listing::next_prespecialization(image, segments, cursor) {
-        NextPrespecialization::Step(step) => prespecialization_word(step),
-        NextPrespecialization::Refused(refusal) => refused(refusal),
-    }
+    entry_word(
+        EntryKind::Method,
+        listing::next_method(image, segments, cursor),
+    );
+    try_table(image, segments, cursor, EntryKind::Override);
+    try_table(image, segments, cursor, EntryKind::DefaultOverride);
+    try_table(image, segments, cursor, EntryKind::Prespecialization);
 }
 
 // The descriptor's bytes as the records of a singleton: the completion function, and the metadata.

@@ -8,8 +8,8 @@ use mathlib.Core.Option.{Option, some, none}
 use lib.ListN.{length}
 use borrow.Author.Tests.{eq-eqb, ne-eqb}
 use Rattle.refusal.specs.Refusal.{Guarded, answered, refused}
-use Rattle.listing.specs.Calls.{guarded}
-use Rattle.listing.specs.CallsLaws.{answered-is, never-refused, ragged}
+use Rattle.refusal.specs.Guarded.{guarded}
+use Rattle.refusal.specs.GuardedLaws.{answered-is, never-refused, ragged}
 use Rattle.typedescriptor.specs.Slots.{Found, nextRow}
 use Rattle.typedescriptor.specs.SlotsLaws.{stepped}
 use Rattle.field.specs.Fields.{Step, fieldStep}

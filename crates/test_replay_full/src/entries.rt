@@ -9,90 +9,45 @@ use crate::refused;
 use crate::three;
 use crate::two;
 use crate::word;
-use listing::NextDefaultOverride;
-use listing::NextMethod;
-use listing::NextOverride;
-use listing::NextPrespecialization;
-use vtable::DefaultOverrideStep;
+use listing::NextEntry;
 use vtable::EntryCursor;
-use vtable::MethodStep;
-use vtable::OverrideStep;
-use vtable::PrespecializationStep;
+pub use vtable::EntryKind as Kind;
+use vtable::EntryStep;
+use vtable::TableEntry;
 
 // How many entries of each kind are read at a row's own address.
 const AT_ROW: u32 = 5;
 
-// The kinds of tables.
-pub enum Kind {
-    Method,
-    Override,
-    DefaultOverride,
-    Prespecialization,
-}
-
-fn method_line(step: MethodStep) {
-    match step {
-        MethodStep::Entry { entry, next: _ } => {
+fn words(kind: Kind, entry: TableEntry) {
+    match kind {
+        Kind::Method => {
             word(b"method");
-            three(entry.address, entry.flags as u64, entry.impl_va);
+            three(entry.address, entry.first, entry.second);
         }
-        MethodStep::Unreadable { next: _ } => word(b"unreadable\n"),
-        MethodStep::End => word(b"bad line\n"),
-    }
-}
-
-fn override_line(step: OverrideStep) {
-    match step {
-        OverrideStep::Entry { entry, next: _ } => {
+        Kind::Override => {
             word(b"override");
             number_field(entry.address);
-            three(entry.class_va, entry.method_va, entry.impl_va);
+            three(entry.first, entry.second, entry.third);
         }
-        OverrideStep::Unreadable { next: _ } => word(b"unreadable\n"),
-        OverrideStep::End => word(b"bad line\n"),
-    }
-}
-
-fn default_override_line(step: DefaultOverrideStep) {
-    match step {
-        DefaultOverrideStep::Entry { entry, next: _ } => {
+        Kind::DefaultOverride => {
             word(b"default");
-            three(entry.address, entry.method_va, entry.impl_va);
+            three(entry.address, entry.first, entry.second);
         }
-        DefaultOverrideStep::Unreadable { next: _ } => word(b"unreadable\n"),
-        DefaultOverrideStep::End => word(b"bad line\n"),
-    }
-}
-
-fn prespecialization_line(step: PrespecializationStep) {
-    match step {
-        PrespecializationStep::Entry { entry, next: _ } => {
+        Kind::Prespecialization => {
             word(b"metadata");
-            two(entry.address, entry.metadata_va);
+            two(entry.address, entry.first);
         }
-        PrespecializationStep::Unreadable { next: _ } => word(b"unreadable\n"),
-        PrespecializationStep::End => word(b"bad line\n"),
     }
 }
 
 fn entry_line(image: &[u8], segments: &[u64], kind: Kind, cursor: EntryCursor) {
-    match kind {
-        Kind::Method => match listing::next_method(image, segments, cursor) {
-            NextMethod::Step(step) => method_line(step),
-            NextMethod::Refused(refusal) => refused(refusal),
+    match listing::next_entry(image, segments, cursor, kind) {
+        NextEntry::Step(step) => match step {
+            EntryStep::Entry { entry, next: _ } => words(kind, entry),
+            EntryStep::Unreadable { next: _ } => word(b"unreadable\n"),
+            EntryStep::End => word(b"bad line\n"),
         },
-        Kind::Override => match listing::next_override(image, segments, cursor) {
-            NextOverride::Step(step) => override_line(step),
-            NextOverride::Refused(refusal) => refused(refusal),
-        },
-        Kind::DefaultOverride => match listing::next_default_override(image, segments, cursor) {
-            NextDefaultOverride::Step(step) => default_override_line(step),
-            NextDefaultOverride::Refused(refusal) => refused(refusal),
-        },
-        Kind::Prespecialization => match listing::next_prespecialization(image, segments, cursor) {
-            NextPrespecialization::Step(step) => prespecialization_line(step),
-            NextPrespecialization::Refused(refusal) => refused(refusal),
-        },
+        NextEntry::Refused(refusal) => refused(refusal),
     }
 }
 

@@ -69,9 +69,10 @@ fn records(
     descriptor: FieldDescriptor,
 ) {
     let mut walk = descriptor.records();
+    let mapping = walk.locate(segments);
     let mut shown: u32 = 0;
     while shown < SHOWN {
-        let step = walk.next(image, segments);
+        let step = walk.next(image, segments, mapping);
         match step {
             FieldRecordStep::Record { record, next } => {
                 record_lines(image, segments, strings, strings_va, record);

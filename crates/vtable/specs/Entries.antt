@@ -5,21 +5,18 @@ use Prim.Native.Nat.{ℕ, zero, suc, _+_, _-_, _*_, _^_}
 use mathlib.Core.List.{List, [], _∷_}
 use mathlib.Core.Bool.{cond}
 use mathlib.Core.Option.{Option, some, none}
-use lib.ListN.{length}
+use lib.ListN.{length, getD}
+use denote.Ref.{RefT}
 use lib.Dec.{leb, ltb}
 use Rattle.util.specs.LittleEndian.{unsignedIn, signedIn}
 use Rattle.util.specs.Pointer.{relativeAddress}
 use Rattle.runtime.specs.Reads.{Reads, done, nothing, bytes, bind, run}
 use Rattle.runtime.specs.Bytes.{bytesRead}
-use Rattle.vtable.specs.declared.entry.VTableEntry.{VTableEntry}
-use Rattle.vtable.specs.declared.entry.OverrideEntry.{OverrideEntry}
-use Rattle.vtable.specs.declared.entry.DefaultOverrideEntry.{DefaultOverrideEntry}
-use Rattle.vtable.specs.declared.entry.PrespecializationEntry.{PrespecializationEntry}
+use Rattle.vtable.specs.declared.entry.EntryKind.{EntryKind}
+use Rattle.vtable.specs.declared.entry.TableEntry.{TableEntry}
 use Rattle.vtable.specs.declared.cursor.EntryCursor.{EntryCursor}
-use Rattle.vtable.specs.declared.cursor.MethodStep.{MethodStep}
-use Rattle.vtable.specs.declared.cursor.OverrideStep.{OverrideStep}
-use Rattle.vtable.specs.declared.cursor.DefaultOverrideStep.{DefaultOverrideStep}
-use Rattle.vtable.specs.declared.cursor.PrespecializationStep.{PrespecializationStep}
+use Rattle.vtable.specs.declared.cursor.EntryStep.{EntryStep}
+use Rattle.vtable.specs.declared.walk.MethodWalk.{MethodWalk}
 
 -- a word of four bytes: a number, or the offset of a relative pointer that may be null
 pub data Word : Type 0 where
@@ -37,17 +34,26 @@ packed ws = record { words = ws; stride = 4 * length ws }
 
 -- method: flags and implementation; override: class, method and implementation; default override: method and implementation (the header has
 -- three pointers, see docs/DIFFERENCES.md); prespecialization: the metadata
+abbrev pub wordsOf : EntryKind → List Word
+wordsOf EntryKind.Method = number ∷ pointer ∷ []
+wordsOf EntryKind.Override = pointer ∷ pointer ∷ pointer ∷ []
+wordsOf EntryKind.DefaultOverride = pointer ∷ pointer ∷ []
+wordsOf EntryKind.Prespecialization = pointer ∷ []
+
+abbrev pub layoutOf : EntryKind → Layout
+layoutOf k = packed (wordsOf k)
+
 abbrev pub method : Layout
-method = packed (number ∷ pointer ∷ [])
+method = layoutOf EntryKind.Method
 
 abbrev pub override : Layout
-override = packed (pointer ∷ pointer ∷ pointer ∷ [])
+override = layoutOf EntryKind.Override
 
 abbrev pub defaultOverride : Layout
-defaultOverride = packed (pointer ∷ pointer ∷ [])
+defaultOverride = layoutOf EntryKind.DefaultOverride
 
 abbrev pub prespecialization : Layout
-prespecialization = packed (pointer ∷ [])
+prespecialization = layoutOf EntryKind.Prespecialization
 
 abbrev pub entrySize : Layout → ℕ
 entrySize layout = 4 * length (layout .words)
@@ -110,42 +116,19 @@ entryBytes image segments size stride base k =
     cond (ltb size 4) []
     (cond (leb (2 ^ 64) (base + stride * k + (size - 4))) [] (bytesRead image segments (base + stride * k) size))
 
--- the entries as lists of words
-abbrev pub ofMethod : VTableEntry → Entry
-ofMethod e = record { address = e .address; words = e .flags ∷ (e .«impl_va» ∷ []) }
+-- an entry as a value of three words: one that its kind does not have is 0
+abbrev pub tableEntry : Entry → TableEntry
+tableEntry e = record { address = e .address; first = getD (e .words) 0 0; second = getD (e .words) 1 0; third = getD (e .words) 2 0 }
 
-abbrev pub ofOverride : OverrideEntry → Entry
-ofOverride e = record { address = e .address; words = e .«class_va» ∷ (e .«method_va» ∷ (e .«impl_va» ∷ [])) }
+-- the answer of a step
+abbrev pub foundAnswer : Option Entry → EntryCursor → EntryStep
+foundAnswer none c = EntryStep.Unreadable c
+foundAnswer (some e) c = EntryStep.Entry (tableEntry e) c
 
-abbrev pub ofDefaultOverride : DefaultOverrideEntry → Entry
-ofDefaultOverride e = record { address = e .address; words = e .«method_va» ∷ (e .«impl_va» ∷ []) }
+abbrev pub stepAnswer : Option Step → EntryStep
+stepAnswer none = EntryStep.End
+stepAnswer (some s) = foundAnswer (s .found) (s .next)
 
-abbrev pub ofPrespecialization : PrespecializationEntry → Entry
-ofPrespecialization e = record { address = e .address; words = e .«metadata_va» ∷ [] }
-
--- the steps' answers
-abbrev pub entryFound : Entry → EntryCursor → Option Step
-entryFound e c = some (record { found = some e; next = c })
-
-abbrev pub unreadable : EntryCursor → Option Step
-unreadable c = some (record { found = none; next = c })
-
-abbrev pub methodStep : MethodStep → Option Step
-methodStep (MethodStep.Entry e c) = entryFound (ofMethod e) c
-methodStep (MethodStep.Unreadable c) = unreadable c
-methodStep MethodStep.End = none
-
-abbrev pub overrideStep : OverrideStep → Option Step
-overrideStep (OverrideStep.Entry e c) = entryFound (ofOverride e) c
-overrideStep (OverrideStep.Unreadable c) = unreadable c
-overrideStep OverrideStep.End = none
-
-abbrev pub defaultOverrideStep : DefaultOverrideStep → Option Step
-defaultOverrideStep (DefaultOverrideStep.Entry e c) = entryFound (ofDefaultOverride e) c
-defaultOverrideStep (DefaultOverrideStep.Unreadable c) = unreadable c
-defaultOverrideStep DefaultOverrideStep.End = none
-
-abbrev pub prespecializationStep : PrespecializationStep → Option Step
-prespecializationStep (PrespecializationStep.Entry e c) = entryFound (ofPrespecialization e) c
-prespecializationStep (PrespecializationStep.Unreadable c) = unreadable c
-prespecializationStep PrespecializationStep.End = none
+-- the walk that holds the image and the segments
+abbrev pub walkFrom : EntryCursor → RefT (List ℕ) → RefT (List ℕ) → MethodWalk
+walkFrom c image segments = record { cursor = c; image = image; segments = segments }

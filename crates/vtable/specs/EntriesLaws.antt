@@ -1,5 +1,6 @@
 -- What the calls' tests say of the definitions, once for every layout: the bytes of an entry (`small`, `wraps`, `below`), what they say
--- (`entry-of`, `no-entry`, `an-entry`), a step's answers (`step-end`, `step-gives`, `step-moves`), and that a true mapping changes none (`step-mapped`).
+-- (`entry-of`, `no-entry`, `an-entry`), a step's answers (`step-end`, `step-gives`, `step-moves`), and that a true mapping changes none (`step-mapped`);
+-- and of a step over the entries of a kind (`kind-end`, `kind-unreadable`, `kind-entry`), whose answer has the entry's words (`words-in`).
 use Prim.Native.Nat.{ℕ, _+_, _-_, _*_, _%_, _^_, _≤_, _<_}
 use native.Mathlib.Nat.{mod-eq-of-lt, mul-le-mul-left, mul-lt-mul-of-pos-right, lt-of-le-of-lt, le-of-lt}
 use native.Mathlib.Decide.{decLe}
@@ -7,7 +8,7 @@ use native.Mathlib.Omega.{arith}
 use mathlib.Core.Path.{_≡_, refl, sym, ap, _∙_}
 use mathlib.Core.List.{List, [], _∷_}
 use mathlib.Core.Option.{Option, some, none}
-use lib.ListN.{length, length-take, length-drop}
+use lib.ListN.{length, take, length-take, length-drop}
 use borrow.Author.Tests.{le-leb, lt-leb, lt-ltb, le-ltb}
 use Rattle.util.specs.LittleEndian.{signedIn}
 use Rattle.util.specs.Pointer.{relativeAddress}
@@ -16,8 +17,11 @@ use Rattle.segment.specs.declared.segment.Mapping.{Mapping}
 use Rattle.runtime.specs.Reads.{Reads, bytesPlace, run, done}
 use Rattle.runtime.specs.Bytes.{bytesFrom, bytesRead}
 use Rattle.runtime.specs.CallsLaws.{bytes-within, run-bytes, run-no-bytes, run-mapped, read-mapped}
+use Rattle.vtable.specs.declared.entry.EntryKind.{EntryKind}
+use Rattle.vtable.specs.declared.entry.TableEntry.{TableEntry}
 use Rattle.vtable.specs.declared.cursor.EntryCursor.{EntryCursor}
-use Rattle.vtable.specs.Entries.{Word, pointer, Layout, entrySize, wordAt, wordsFrom, Entry, entryOf, entryAddress, entryAt, moved, entryStep, entryBytes}
+use Rattle.vtable.specs.declared.cursor.EntryStep.{EntryStep}
+use Rattle.vtable.specs.Entries.{Word, pointer, Layout, wordsOf, layoutOf, entrySize, wordAt, wordsFrom, Entry, entryOf, entryAddress, entryAt, moved, entryStep, entryBytes, tableEntry, stepAnswer}
 
 -- two numbers of 32 bits have a product of 64
 pub product : {a b : ℕ} → a < 2 ^ 32 → b < 2 ^ 32 → a * b < 2 ^ 64
@@ -147,3 +151,51 @@ module _ (image segments : List ℕ) (layout : Layout) (c : EntryCursor) where
   pub step-mapped : (m : Mapping) → Mapped segments m → entryStep image (withMapping m segments) layout c ≡ entryStep image segments layout c
   unfolding entryStep
   step-mapped m w = rw (run-mapped image segments m w (entryAt layout (c .«base_va») (c .next)))
+
+-- ---- a step over the entries of a kind
+
+some-words : (kind : EntryKind) → 1 ≤ length (wordsOf kind)
+some-words EntryKind.Method = omega arith
+some-words EntryKind.Override = omega arith
+some-words EntryKind.DefaultOverride = omega arith
+some-words EntryKind.Prespecialization = omega arith
+
+-- an entry's value has its words, in their order
+pub words-in : (kind : EntryKind) (a : ℕ) (h : List ℕ)
+    → take (length (wordsOf kind)) (tableEntry (entryOf (layoutOf kind) a h) .first ∷ (tableEntry (entryOf (layoutOf kind) a h) .second ∷ (tableEntry (entryOf (layoutOf kind) a h) .third ∷ [])))
+    ≡ entryOf (layoutOf kind) a h .words
+words-in EntryKind.Method a h = refl
+words-in EntryKind.Override a h = refl
+words-in EntryKind.DefaultOverride a h = refl
+words-in EntryKind.Prespecialization a h = refl
+
+-- what the words of an entry of a kind say
+pub told-words : (kind k : EntryKind) (a : ℕ) (h xs : List ℕ) → kind ≡ k → Says (wordsOf k) a 0 h xs → tableEntry (record { address = a; words = xs }) ≡ tableEntry (entryOf (layoutOf kind) a h)
+told-words kind k a h xs e s = ap tableEntry (entry-of (layoutOf k) a h xs s ∙ ap (λ (j : EntryKind). entryOf (layoutOf j) a h) (sym e))
+
+module _ (image segments : List ℕ) (kind : EntryKind) (c : EntryCursor) where
+  abbrev answer : EntryStep
+  answer = stepAnswer (entryStep image segments (layoutOf kind) c)
+
+  pub kind-end : c .count ≤ c .next → EntryStep.End ≡ answer
+  kind-end h = ap stepAnswer (step-end image segments (layoutOf kind) c h)
+
+  module _ (size : ℕ) (es : size ≡ entrySize (layoutOf kind)) (m : Mapping) (em : Mapped segments m) (h : List ℕ) (eh : h ≡ entryBytes image (withMapping m segments) size size (c .«base_va») (c .next)) where
+    bytes-sized : h ≡ entryBytes image segments (entrySize (layoutOf kind)) (entrySize (layoutOf kind)) (c .«base_va») (c .next)
+    bytes-sized = eh ∙ bytes-mapped image segments size size (c .«base_va») (c .next) m em ∙ ap (λ (s : ℕ). entryBytes image segments s s (c .«base_va») (c .next)) es
+
+    at-sized : (a : ℕ) → a ≡ (c .«base_va» + size * c .next) % 2 ^ 64 → a ≡ entryAddress (layoutOf kind) (c .«base_va») (c .next) % 2 ^ 64
+    at-sized a ea = ea ∙ ap (λ (s : ℕ). (c .«base_va» + s * c .next) % 2 ^ 64) es
+
+    pub kind-below : (length h ≡ 0 → ⊥) → (a : ℕ) → a ≡ (c .«base_va» + size * c .next) % 2 ^ 64 → a + (entrySize (layoutOf kind) - 4) < 2 ^ 64
+    kind-below n a ea = slots-below image segments (layoutOf kind) (c .«base_va») (c .next) (some-words kind) h bytes-sized n a (at-sized a ea)
+
+    module _ (n : EntryCursor) (en : n ≡ moved c) (l : c .next < c .count) where
+      pub kind-unreadable : length h ≡ 0 → EntryStep.Unreadable n ≡ answer
+      kind-unreadable z = ap stepAnswer (step-moves image segments (layoutOf kind) c none n (no-entry image segments (layoutOf kind) (c .«base_va») (c .next) (some-words kind) h bytes-sized z) en l)
+
+      pub kind-entry : (length h ≡ 0 → ⊥) → (a : ℕ) (x : TableEntry) → a ≡ (c .«base_va» + size * c .next) % 2 ^ 64 → x ≡ tableEntry (entryOf (layoutOf kind) a h)
+          → EntryStep.Entry x n ≡ answer
+      kind-entry z a x ea ex =
+          ap (λ (y : TableEntry). EntryStep.Entry y n) ex
+          ∙ ap stepAnswer (step-moves image segments (layoutOf kind) c (some (entryOf (layoutOf kind) a h)) n (an-entry image segments (layoutOf kind) (c .«base_va») (c .next) (some-words kind) h bytes-sized z a _ (at-sized a ea) refl) en l)

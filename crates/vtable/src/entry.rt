@@ -1,42 +1,40 @@
 ghost use mathlib.Core.Path.{_≡_};
 ghost use Prim.Native.Nat.{_+_, _*_, _%_, _^_};
 ghost use Rattle.segment.specs.Mapping.{withMapping};
-ghost use Rattle.vtable.specs.Entries.{entryBytes};
+ghost use Rattle.vtable.specs.Entries.{layoutOf, entrySize, entryBytes};
 use segment::Mapping;
 
-// One entry of each kind: its address, and what its words say. A relative pointer of offset 0 gives address 0.
-pub struct VTableEntry {
-    pub address: u64,
-    pub flags: u32,
-    pub impl_va: u64,
+// The kinds of tables.
+pub enum EntryKind {
+    Method,
+    Override,
+    DefaultOverride,
+    Prespecialization,
 }
 
-pub struct OverrideEntry {
-    pub address: u64,
-    pub class_va: u64,
-    pub method_va: u64,
-    pub impl_va: u64,
+impl EntryKind {
+    // How many bytes an entry has.
+    pub fn size(self) -> u32
+        ensures { λ r. ⌜ r ≡ entrySize (layoutOf self) ⌝ }
+    {
+        match self {
+            EntryKind::Method => 8,
+            EntryKind::Override => 12,
+            EntryKind::DefaultOverride => 8,
+            EntryKind::Prespecialization => 4,
+        }
+    }
 }
 
-pub struct DefaultOverrideEntry {
+// One entry: its address, and what its words say. A method's are its flags and its implementation; an override's the class, the method and the
+// implementation; a default override's the method and the implementation; a prespecialization's the metadata. A relative pointer of offset 0 gives
+// address 0, and a word that the kind does not have is 0.
+pub struct TableEntry {
     pub address: u64,
-    pub method_va: u64,
-    pub impl_va: u64,
+    pub first: u64,
+    pub second: u64,
+    pub third: u64,
 }
-
-pub struct PrespecializationEntry {
-    pub address: u64,
-    pub metadata_va: u64,
-}
-
-// How many bytes an entry of each kind has.
-pub const METHOD_SIZE: u32 = 8;
-
-pub const OVERRIDE_SIZE: u32 = 12;
-
-pub const DEFAULT_OVERRIDE_SIZE: u32 = 8;
-
-pub const PRESPECIALIZATION_SIZE: u32 = 4;
 
 // The address of entry `k` of a table whose entries are `stride` bytes from one another, modulo 2^64.
 pub fn entry_address(base_va: u64, stride: u32, k: u32) -> u64

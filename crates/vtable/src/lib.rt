@@ -4,15 +4,10 @@ mod cursor;
 mod entry;
 mod walk;
 
-pub use cursor::DefaultOverrideStep;
 pub use cursor::EntryCursor;
-pub use cursor::MethodStep;
-pub use cursor::OverrideStep;
-pub use cursor::PrespecializationStep;
-pub use entry::DefaultOverrideEntry;
-pub use entry::OverrideEntry;
-pub use entry::PrespecializationEntry;
-pub use entry::VTableEntry;
+pub use cursor::EntryStep;
+pub use entry::EntryKind;
+pub use entry::TableEntry;
 pub use entry::entry_address;
 pub use entry::entry_bytes;
 pub use walk::MethodWalk;

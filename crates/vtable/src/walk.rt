@@ -1,9 +1,9 @@
 // A walk over methods as one value that carries the image, the segments and the next entry's number. What it does is done by the step on
 // slices and numbers; each function here makes such a value or takes it apart.
 ghost use mathlib.Core.Path.{_≡_};
-ghost use Rattle.vtable.specs.Entries.{method, entryStep, methodStep};
+ghost use Rattle.vtable.specs.Entries.{method, entryStep, stepAnswer, walkFrom};
 use crate::cursor::EntryCursor;
-use crate::cursor::MethodStep;
+use crate::cursor::EntryStep;
 
 pub struct MethodWalk<'a, 'b> {
     pub cursor: EntryCursor,
@@ -16,7 +16,7 @@ pub fn method_walk<'a, 'b>(
     image: &'a [u8],
     segments: &'b [u64],
 ) -> MethodWalk<'a, 'b>
-    ensures { λ r. ⌜ (r .cursor ≡ cursor) × (r .image ≡ image .entry) × (r .segments ≡ segments .entry) ⌝ }
+    ensures { λ r. ⌜ r ≡ walkFrom cursor (image .entry) (segments .entry) ⌝ }
 {
     MethodWalk {
         cursor,
@@ -26,15 +26,15 @@ pub fn method_walk<'a, 'b>(
 }
 
 // The next method. The walk from there on is one with the cursor that is handed back.
-pub fn walk_step<'a, 'b>(w: MethodWalk<'a, 'b>) -> MethodStep
-    ensures { λ r. ⌜ methodStep r ≡ entryStep (now (w .entry .image)) (now (w .entry .segments)) method (w .entry .cursor) ⌝ }
+pub fn walk_step<'a, 'b>(w: MethodWalk<'a, 'b>) -> EntryStep
+    ensures { λ r. ⌜ r ≡ stepAnswer (entryStep (now (w .entry .image)) (now (w .entry .segments)) method (w .entry .cursor)) ⌝ }
 {
     w.cursor.next_method(w.image, w.segments)
 }
 
 // The same of slices and numbers, with the value in between: whoever calls this needs no proof by hand.
-pub fn method_step(cursor: EntryCursor, image: &[u8], segments: &[u64]) -> MethodStep
-    ensures { λ r. ⌜ methodStep r ≡ entryStep (now (image .entry)) (now (segments .entry)) method cursor ⌝ }
+pub fn method_step(cursor: EntryCursor, image: &[u8], segments: &[u64]) -> EntryStep
+    ensures { λ r. ⌜ r ≡ stepAnswer (entryStep (now (image .entry)) (now (segments .entry)) method cursor) ⌝ }
 {
     walk_step(method_walk(cursor, image, segments))
 }

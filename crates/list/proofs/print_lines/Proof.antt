@@ -4,7 +4,7 @@ use Prim.Native.Nat.{_-_}
 use native.Mathlib.Omega.{arith}
 use mathlib.Core.Path.{sym}
 use Rattle.util.specs.AnswersLaws.{told}
-use Rattle.listing.specs.CallsLaws.{answered-is, never-refused}
+use Rattle.refusal.specs.GuardedLaws.{answered-is, never-refused}
 use Rattle.printer.specs.Printed.{linesMost, pendingOf, printAnswer}
 use Rattle.printer.specs.PrintedLaws.{step-part}
 use Rattle.printer.specs.PrintsLaws.{Going, going-start, going-on, going-end, going-full}

@@ -5,7 +5,7 @@ use borrow.Author.Tests.{not-true, not-false}
 use Rattle.refusal.specs.Refusal.{answered}
 use Rattle.util.specs.AnswersLaws.{told}
 use Rattle.typedescriptor.specs.Row.{descriptorOf}
-use Rattle.listing.specs.CallsLaws.{ragged, whole-as}
+use Rattle.refusal.specs.GuardedLaws.{ragged, whole-as}
 use Rattle.certainty.specs.ReadLaws.{name-open, name-none, name-by}
 use borrow.Author.Needs.{needs}
 use Rattle.certainty.proofs.calls.name_certain.Statement.{statement}

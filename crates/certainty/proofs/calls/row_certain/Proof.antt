@@ -2,7 +2,7 @@
 -- Assumes nothing.
 use mathlib.Core.Path.{ap, _∙_}
 use Rattle.refusal.specs.Refusal.{answered}
-use Rattle.listing.specs.CallsLaws.{ragged, whole-as}
+use Rattle.refusal.specs.GuardedLaws.{ragged, whole-as}
 use borrow.Author.Needs.{needs}
 use Rattle.certainty.proofs.calls.row_certain.Statement.{statement}
 use Rattle.certainty.proofs.calls.row_certain.Tie as tie

@@ -6,7 +6,7 @@ use Rattle.util.specs.AnswersLaws.{told}
 use Rattle.classtrailers.specs.Calls.{blockReadOf}
 use Rattle.typebody.specs.Items.{trailersOf}
 use Rattle.listing.specs.Blocks.{kindFrom}
-use Rattle.listing.specs.CallsLaws.{ragged, whole-as}
+use Rattle.refusal.specs.GuardedLaws.{ragged, whole-as}
 use borrow.Author.Needs.{needs}
 use Rattle.listing.proofs.blocks.block_of_kind.Statement.{statement}
 use Rattle.listing.proofs.blocks.block_of_kind.Tie as tie

@@ -4,7 +4,7 @@ use mathlib.Core.Path.{ap}
 use Rattle.refusal.specs.Refusal.{answered}
 use Rattle.util.specs.AnswersLaws.{told}
 use Rattle.classtrailers.specs.Calls.{blockStepOf}
-use Rattle.listing.specs.CallsLaws.{ragged, whole-as}
+use Rattle.refusal.specs.GuardedLaws.{ragged, whole-as}
 use borrow.Author.Needs.{needs}
 use Rattle.listing.proofs.blocks.next_block.Statement.{statement}
 use Rattle.listing.proofs.blocks.next_block.Tie as tie

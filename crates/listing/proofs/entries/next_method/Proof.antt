@@ -2,7 +2,7 @@
 -- Assumes nothing.
 use mathlib.Core.Path.{ap}
 use Rattle.refusal.specs.Refusal.{answered}
-use Rattle.listing.specs.CallsLaws.{ragged, whole-as}
+use Rattle.refusal.specs.GuardedLaws.{ragged, whole-as}
 use borrow.Author.Needs.{needs}
 use Rattle.listing.proofs.entries.next_method.Statement.{statement}
 use Rattle.listing.proofs.entries.next_method.Tie as tie
@@ -10,11 +10,11 @@ use Rattle.listing.proofs.entries.next_method.Tie as tie
 returns : tie.Need-returns
 returns c = ragged _ _ (c .if1 .taken)
 
-next-method-requires : tie.Need-next-method-requires
-next-method-requires c κs = search needs
+method-step-requires : tie.Need-method-step-requires
+method-step-requires c κs = search needs
 
 returns-2 : tie.Need-returns-2
-returns-2 c = whole-as _ _ _ (ap answered (c .next-method .ensures)) (c .before .if1 .left)
+returns-2 c = whole-as _ _ _ (ap answered (c .method-step .ensures)) (c .before .if1 .left)
 
 pub next-method-spec : {M : Type 1} → statement M
-next-method-spec = tie.close (tie.spec returns next-method-requires returns-2)
+next-method-spec = tie.close (tie.spec returns method-step-requires returns-2)

@@ -26,8 +26,8 @@ locate-requires c κs = search needs
 loop-holds : tie.Need-loop-holds Inv-loop μ-loop
 loop-holds c = start-going _ _ _ _ _ _ _ _ _
 
-next-near-requires : tie.Need-next-near-requires Inv-loop μ-loop
-next-near-requires c κs = search needs
+next-requires : tie.Need-next-requires Inv-loop μ-loop
+next-requires c κs = search needs
 
 enum-known-step : tie.Need-enum-known-step Inv-loop μ-loop
 enum-known-step c = search needs
@@ -48,7 +48,7 @@ add-k : tie.Need-add-k Inv-loop μ-loop
 add-k c =
     let a = c .before .before .before .before .before .before .before .before .before in
     let s = a .before .before .before .before .before .before in
-    let f : a .loop .k < s .args .walk .count = step-found _ _ _ (a .before .locate .ensures) _ _ (told recordStepOf (c .before .before .before .before .before .before .before .next-near .ensures) (c .before .before .before .before .before .step .given .1)) .0 in
+    let f : a .loop .k < s .args .walk .count = step-found _ _ _ (a .before .locate .ensures) _ _ (told recordStepOf (c .before .before .before .before .before .before .before .next .ensures) (c .before .before .before .before .before .step .given .1)) .0 in
     record { fits = omega (arith, f, s .good .1 .1 .1 .1 .0) }
 
 add-n : tie.Need-add-n Inv-loop μ-loop
@@ -65,7 +65,7 @@ loop-again c =
     let a = c .before .before .before .before .before .before .before .before .before in
     let s = a .before .before .before .before .before .before in
     let r = c .before .before .before .before .before .step .given .0 .0 in
-    let f = step-found _ _ _ (a .before .locate .ensures) _ _ (told recordStepOf (c .before .before .before .before .before .before .before .next-near .ensures) (c .before .before .before .before .before .step .given .1)) in
+    let f = step-found _ _ _ (a .before .locate .ensures) _ _ (told recordStepOf (c .before .before .before .before .before .before .before .next .ensures) (c .before .before .before .before .before .step .given .1)) in
     let written = pasted-as (a .loop .buffer) _ _ _ (10 * a .loop .n) (c .before .before .put-record .ensures) (named-mapped (s .args .image .now) (s .args .segments .now) (s .args .strings .now) (s .args .strings-va) _ (a .before .locate .ensures) (ofRecord r)) in
     goes-on (namedNumbers (s .args .image .now) (s .args .segments .now) (s .args .strings .now) (s .args .strings-va)) (s .args .image .now) (s .args .segments .now) (recordLayout (s .args .walk .«entry_size»)) (s .args .walk .«base_va») (s .args .walk .count) 10 (s .args .buffer .now) (s .args .walk .cursor) (a .loop .k) (a .loop .n) (a .loop .buffer) (a .loop .inv) (f .0) (c .before .before .before .before .before .before .before .before .loop-test .taken) (ofRecord r) _ (f .1) (named-long _ _ _ _ r) written
 
@@ -79,7 +79,7 @@ returns : tie.Need-returns Inv-loop μ-loop
 returns c =
     let a = c .before .before .before .before in
     let s = a .before .before .before .before .before .before in
-    let f = step-found _ _ _ (a .before .locate .ensures) _ _ (told recordStepOf (c .before .before .next-near .ensures) (c .enum-told .given .1)) in
+    let f = step-found _ _ _ (a .before .locate .ensures) _ _ (told recordStepOf (c .before .before .next .ensures) (c .enum-told .given .1)) in
     stops-none (namedNumbers (s .args .image .now) (s .args .segments .now) (s .args .strings .now) (s .args .strings-va)) (s .args .image .now) (s .args .segments .now) (recordLayout (s .args .walk .«entry_size»)) (s .args .walk .«base_va») (s .args .walk .count) 10 (s .args .buffer .now) (s .args .walk .cursor) (a .loop .k) (a .loop .n) _ (a .loop .inv) (f .0) (c .before .before .before .loop-test .taken) (f .1)
 
 enum-told-2 : tie.Need-enum-told-2 Inv-loop μ-loop
@@ -92,7 +92,7 @@ returns-2 : tie.Need-returns-2 Inv-loop μ-loop
 returns-2 c =
     let a = c .before .before .before .before in
     let s = a .before .before .before .before .before .before in
-    stops-end (namedNumbers (s .args .image .now) (s .args .segments .now) (s .args .strings .now) (s .args .strings-va)) (s .args .image .now) (s .args .segments .now) (recordLayout (s .args .walk .«entry_size»)) (s .args .walk .«base_va») (s .args .walk .count) 10 (s .args .buffer .now) (s .args .walk .cursor) (a .loop .k) (a .loop .n) _ (a .loop .inv) (step-ended _ _ _ (a .before .locate .ensures) _ (told recordStepOf (c .before .before .next-near .ensures) (c .enum-told2 .given .1)))
+    stops-end (namedNumbers (s .args .image .now) (s .args .segments .now) (s .args .strings .now) (s .args .strings-va)) (s .args .image .now) (s .args .segments .now) (recordLayout (s .args .walk .«entry_size»)) (s .args .walk .«base_va») (s .args .walk .count) 10 (s .args .buffer .now) (s .args .walk .cursor) (a .loop .k) (a .loop .n) _ (a .loop .inv) (step-ended _ _ _ (a .before .locate .ensures) _ (told recordStepOf (c .before .before .next .ensures) (c .enum-told2 .given .1)))
 
 stopped-requires : tie.Need-stopped-requires Inv-loop μ-loop
 stopped-requires c κs = search needs
@@ -114,7 +114,7 @@ list-records-spec =
     μ-loop
     locate-requires
     loop-holds
-    next-near-requires
+    next-requires
     enum-known-step
     mul-put-record
     put-record-requires

@@ -21,7 +21,7 @@ returns : tie.Need-returns
 returns c =
     let m = c .before .before .before .before .before .before .before .before in
     let s = m .before .before .before .before in
-    lists-least (s .args .image .now) (s .args .segments .now) (s .args .numbered) (s .args .more) (m .at-most-two .result) (s .args .stride) (s .args .cursor) (s .args .buffer .now) _ (c .before .before .list-one .result) (m .at-most-two .ensures .1) (c .before .before .list-one .ensures)
+    lists-least (s .args .image .now) (s .args .segments .now) (s .args .numbered) (s .args .more) (m .at-most-two .result) (s .args .stride) (s .args .cursor) (s .args .buffer .now) _ (c .before .before .list-one .result) (m .at-most-two .ensures) (c .before .before .list-one .ensures)
 
 list-runs-requires : tie.Need-list-runs-requires
 list-runs-requires c κs = search needs
@@ -33,7 +33,7 @@ returns-2 : tie.Need-returns-2
 returns-2 c =
     let m = c .before .before .before .before .before .before in
     let s = m .before .before .before .before in
-    lists-least (s .args .image .now) (s .args .segments .now) (s .args .numbered) (s .args .more) (m .at-most-two .result) (s .args .stride) (s .args .cursor) (s .args .buffer .now) _ (c .before .before .list-runs .result) (m .at-most-two .ensures .1) (c .before .before .list-runs .ensures)
+    lists-least (s .args .image .now) (s .args .segments .now) (s .args .numbered) (s .args .more) (m .at-most-two .result) (s .args .stride) (s .args .cursor) (s .args .buffer .now) _ (c .before .before .list-runs .result) (m .at-most-two .ensures) (c .before .before .list-runs .ensures)
 
 pub list-entries-spec : {M : Type 1} → statement M
 list-entries-spec =

@@ -3,7 +3,7 @@
 use native.Mathlib.Omega.{arith}
 use Rattle.util.specs.AnswersLaws.{case}
 use Rattle.segment.specs.Mapping.{Located}
-use Rattle.tables.specs.TablesLaws.{opens-nowhere, opens-past, opens-all}
+use Rattle.tables.specs.TablesLaws.{opens-nowhere, opens-past, opens-least}
 use borrow.Author.Needs.{needs}
 use Rattle.tables.proofs.window.window_of_all.Statement.{statement}
 use Rattle.tables.proofs.window.window_of_all.Tie as tie
@@ -81,7 +81,7 @@ returns-4 : tie.Need-returns-4
 returns-4 c =
     let q = c .before .before .before .before .before .before .before .before in
     let found = case (Located _ _) (q .before .before .locate .ensures) (q .mapping .given .1) in
-    opens-all _ _ _ _ (q .before .before .before .before .before .pre .1) _ found _ _ (c .before .before .before .before .before .if1 .left) (c .before .before .before .before .if2 .left) (c .before .before .before .if3 .left) (c .before .least .ensures) (c .least2 .ensures)
+    opens-least _ _ _ _ (q .before .before .before .before .before .pre .1) _ found _ _ (c .before .before .before .before .before .if1 .left) (c .before .before .before .before .if2 .left) (c .before .before .before .if3 .left) (c .before .least .ensures) (c .least2 .ensures)
 
 returns-5 : tie.Need-returns-5
 returns-5 c = opens-nowhere _ _ _ _ (c .before .before .before .before .before .pre .1) (case (Located _ _) (c .before .before .locate .ensures) (c .enum-told .given .1))

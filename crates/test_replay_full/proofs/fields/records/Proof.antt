@@ -5,13 +5,16 @@ use Rattle.test_replay_full.proofs.fields.records.Statement.{statement}
 use Rattle.test_replay_full.proofs.fields.records.Tie as tie
 
 abbrev Inv-loop : tie.InvT-loop
-Inv-loop image segments strings strings-va descriptor walk₀ shown₀ walk shown = Unit
+Inv-loop image segments strings strings-va descriptor mapping walk₀ shown₀ walk shown = Unit
 
 abbrev μ-loop : tie.MeasureT-loop
-μ-loop image segments strings strings-va descriptor walk₀ shown₀ walk shown = 12 - shown
+μ-loop image segments strings strings-va descriptor mapping walk₀ shown₀ walk shown = 12 - shown
 
 records-requires : tie.Need-records-requires Inv-loop μ-loop
 records-requires c κs = search needs
+
+locate-requires : tie.Need-locate-requires Inv-loop μ-loop
+locate-requires c κs = search needs
 
 loop-holds : tie.Need-loop-holds Inv-loop μ-loop
 loop-holds c = search needs
@@ -71,6 +74,7 @@ records-spec =
     Inv-loop
     μ-loop
     records-requires
+    locate-requires
     loop-holds
     next-requires
     enum-known-step

@@ -63,7 +63,7 @@ module _ {M : Type 1} (𝓤 : URA M) (H : Heap 𝓤) (A : Atoms 𝓤) (W : Given
   exits : ent 𝓤 (onEntry 𝓤 H A this.signature κs (q, (q′, tt)) (c, (s, (t, tt))) at) (Post (T′.lowered made))
   exits =
       qed W ((‵ (flft κ q) ⊛ ‵ (flft κ′ q′) ⊛ ‵ ftrue) ∷ ‵ (Parts 𝓤 H A W κ κ′ c s t) ∷ []) ∵
-      suffices ! _ (ends-at 𝓤 H A this.ended stayed (this.clauses 𝓤 H A mem run) W ((κs, (q, (q′, tt)), tt, (c, (s, (t, tt))), at), tt) (T′.lowered made) made (tt, (tt, (tt, tt))) (tt, (tt, (tt, tt)))) $ says ! (refl, refl, refl) $
+      suffices ! _ (ends-at 𝓤 H A this.ended stayed (this.clauses 𝓤 H A mem run) W ((κs, (q, (q′, tt)), tt, (c, (s, (t, tt))), at), tt) (T′.lowered made) made (tt, (tt, (tt, tt))) (tt, (tt, (tt, tt)))) $ says ! refl $
       frame ! $ use1 W (‵ (Parts 𝓤 H A W κ κ′ c s t) ⊛ ‵ (Parts 𝓤 H A W κ κ′ c s t)) (twice 𝓤 H A W κ κ′ c s t) $ split ! $ frame ! $
       -- [what the parts own]: that is what the struct owns
       by ! (own-shut 𝓤 H A W (T.the-type (namedLft 2 0 tt κs) (namedLft 2 1 tt κs)) (T′.the-laws (namedLft 2 0 tt κs) (namedLft 2 1 tt κs)) (c, (s, (t, tt))))

@@ -1,20 +1,42 @@
--- `field::record::FieldRecordIter::next` meets its contract.
+-- `field::record::FieldRecordIter::next` meets its contract: each `return` is a case of `recordStep`.
 -- Assumes nothing.
-use mathlib.Core.Path.{_∙_}
-use Rattle.segment.specs.MappingLaws.{empty-mapped}
-use Rattle.field.specs.RecordsLaws.{record-mapped}
+use native.Mathlib.Omega.{arith}
+use Rattle.vtable.specs.EntriesLaws.{slots-below, no-entry, an-entry}
+use Rattle.field.specs.Records.{recordLayout}
+use Rattle.field.specs.RecordsLaws.{record-end, record-gives}
 use borrow.Author.Needs.{needs}
 use Rattle.field.proofs.record.FieldRecordIter.next.Statement.{statement}
 use Rattle.field.proofs.record.FieldRecordIter.next.Tie as tie
 
-empty-requires : tie.Need-empty-requires
-empty-requires c κs = search needs
-
-next-near-requires : tie.Need-next-near-requires
-next-near-requires c κs = search needs
-
 returns : tie.Need-returns
-returns c = c .next-near .ensures ∙ record-mapped _ _ _ _ (empty-mapped _ _ (c .before .empty .ensures))
+returns c = record-end _ _ _ (omega arith)
+
+add-t9 : tie.Need-add-t9
+add-t9 c = search needs
+
+entry-bytes-requires : tie.Need-entry-bytes-requires
+entry-bytes-requires c κs = search needs
+
+returns-2 : tie.Need-returns-2
+returns-2 c = record-gives _ _ _ _ (no-entry _ _ (recordLayout _) _ _ (omega arith) _ (c .before .entry-bytes .ensures) (c .if2 .taken)) (omega arith)
+
+entry-address-requires : tie.Need-entry-address-requires
+entry-address-requires c κs = search needs
+
+field-record-requires : tie.Need-field-record-requires
+field-record-requires c κs = slots-below _ _ (recordLayout _) _ _ (omega arith) _ (c .before .before .entry-bytes .ensures) (c .before .if2 .left) _ (c .entry-address .ensures)
+
+returns-3 : tie.Need-returns-3
+returns-3 c = record-gives _ _ _ _ (an-entry _ _ (recordLayout _) _ _ (omega arith) _ (c .before .before .before .entry-bytes .ensures) (c .before .before .if2 .left) _ _ (c .before .entry-address .ensures) (c .field-record .ensures)) (omega arith)
 
 pub next-spec : {M : Type 1} → statement M
-next-spec = tie.close (tie.spec empty-requires next-near-requires returns)
+next-spec =
+    tie.close
+    (tie.spec
+    returns
+    add-t9
+    entry-bytes-requires
+    returns-2
+    entry-address-requires
+    field-record-requires
+    returns-3)
