@@ -25,6 +25,10 @@ u64 hodrupec_next_field(BYTES(fields), u64 vmaddr, size_t at, u64 out[8]);
 u64 hodrupec_next_field_record(IMAGE, u64 base_va, u32 count, u32 size, u32 next, u64 out[6]);
 u64 hodrupec_named_records(IMAGE, BYTES(strings), u64 strings_va, u64 base_va, u32 count, u32 size, u32 next, u64 *buffer, size_t room, u64 out[2]);
 u64 hodrupec_field_records(IMAGE, u64 base_va, u32 count, u32 size, u32 next, u64 *buffer, size_t room, u64 out[2]);
+u64 hodrupec_descriptor_type_name(IMAGE, const u64 descriptor[6], u64 out[3]);
+u64 hodrupec_descriptor_superclass_name(IMAGE, const u64 descriptor[6], u64 out[3]);
+u64 hodrupec_record_type_name(IMAGE, const u64 record[4], u64 out[3]);
+u64 hodrupec_record_field_name(IMAGE, BYTES(strings), u64 strings_va, const u64 record[4], u64 out[3]);
 u64 hodrupec_field_offsets(IMAGE, u64 address, u32 flags, u64 metadata_va, u64 out[3]);
 u64 hodrupec_static_field_offsets(IMAGE, u64 address, u32 flags, u64 out[3]);
 u64 hodrupec_field_offset(BYTES(image), size_t place, u32 count, u32 number, u64 out[2]);
@@ -260,6 +264,14 @@ int main(void) {
         LIST(va(RECORDS + 32), 6, va(TYPE_NAME), STRINGS + 2), 1, 0);
     GUARDED(hodrupec_named_records, (ON, strings, sizeof strings, STRINGS, va(RECORDS), 3, 16, 2, list, ROOM, out),
         LIST(va(RECORDS + 32), 6, va(TYPE_NAME), STRINGS + 2, 1, TYPE_NAME, 2, 2, 2, 4), 1, 0);
+    {
+        const u64 descriptor[6] = {FIELDS + 8, 1, 6, 2, va(TYPE_NAME), va(SUPER_NAME)};
+        const u64 record[4] = {va(RECORDS + 32), 6, va(TYPE_NAME), STRINGS + 2};
+        GUARDED(hodrupec_descriptor_type_name, (ON, descriptor, out), NONE, 1, TYPE_NAME, 2);
+        GUARDED(hodrupec_descriptor_superclass_name, (ON, descriptor, out), NONE, 1, SUPER_NAME, 5);
+        GUARDED(hodrupec_record_type_name, (ON, record, out), NONE, 1, TYPE_NAME, 2);
+        GUARDED(hodrupec_record_field_name, (ON, strings, sizeof strings, STRINGS, record, out), NONE, 2, 2, 4);
+    }
     GUARDED(hodrupec_field_name, (ON, strings, sizeof strings, STRINGS, STRINGS + 2, out), NONE, 2, 2, 4);
     GUARDED(hodrupec_field_offsets, (ON, va(OUTER), OUTER_FLAGS, va(METADATA) + 4, out), NONE, 1, METADATA + 4 + 16, 3);
     GUARDED(hodrupec_static_field_offsets, (ON, va(OUTER), OUTER_FLAGS, out), NONE, 1, METADATA + 16, 3);

@@ -1,7 +1,7 @@
 //! What is certain by an image's first bytes (docs/CUT.md), tried by running: a row that the proved call tells to be certain, all that the cut listing has of it, and a
 //! joined name, are the whole image's, and those of the same bytes with others behind them. Which are certain is computed here once more from the bytes.
 
-use super::{Item, Kind, Listing, Whole, pointer, slot_address};
+use super::{Item, Kind, Listing, Text, Whole, pointer, slot_address};
 use crate::generate::Rng;
 use crate::input::Input;
 use crate::proved;
@@ -133,14 +133,6 @@ fn names(image: Image<'_>, row: &Item) -> Vec<Result<Vec<u8>, String>> {
         .collect()
 }
 
-/// The bytes of a text that was found in the image.
-fn text<'a>(item: &Item, image: &'a [u8]) -> Option<&'a [u8]> {
-    let [1, place, length] = item.beside else {
-        return None;
-    };
-    image.get(place as usize..(place + length) as usize)
-}
-
 /// What is certain of the image's first `cut` bytes is so of the image `longer`, whose listing this is.
 fn held(
     input: &Input,
@@ -155,14 +147,14 @@ fn held(
     let arrived = Image { bytes, segments };
     let read = Whole {
         image: bytes,
-        segments: &input.segments,
+        ..Whole::of(input)
     };
     let whole = Image {
         bytes: longer,
         segments,
     };
     let (kept_items, kept_texts) = (Cell::new(0), Cell::new(0));
-    // An item of the longer image, word for word; and the text beside it, where that ends before the last byte that arrived.
+    // An item of the longer image, word for word; and the texts beside it, where they end before the last byte that arrived.
     let kept = |item: &Item| {
         let other = items.iter().find(|other| other.key == item.key);
         let same = |o: &&Item| o.numbers == item.numbers && o.name == item.name;
@@ -170,13 +162,17 @@ fn held(
             return Err(format!("{item:?} was certain, and there is {other:?}"));
         };
         kept_items.set(kept_items.get() + 1);
-        let [found, place, length] = item.beside;
-        if found == 1 && place + length < cut as u64 {
-            kept_texts.set(kept_texts.get() + 1);
-            if other.beside != item.beside || text(other, longer) != text(item, bytes) {
-                return Err(format!(
-                    "the text beside {item:?} was certain, and it is {other:?}"
-                ));
+        for (here, there) in item.texts.iter().zip(&other.texts) {
+            let Text::Image(place, text) = here else {
+                continue;
+            };
+            if place + (text.len() as u64) < cut as u64 {
+                kept_texts.set(kept_texts.get() + 1);
+                if there != here {
+                    return Err(format!(
+                        "the text beside {item:?} was certain, and it is {other:?}"
+                    ));
+                }
             }
         }
         Ok(())
