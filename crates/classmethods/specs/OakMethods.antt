@@ -13,7 +13,7 @@ use Rattle.util.specs.Cstr.{textAt}
 use Rattle.segment.specs.Segments.{segmentsOf, fileOffset, decides, inFile}
 use Rattle.runtime.specs.Reads.{within, bytesPlace, textOffset, run, bind}
 use Rattle.context.specs.Context.{kindOf}
-use Rattle.classtrailers.specs.Blocks.{rowAt, recordAt, endAt, passed, reached, blockIn, block}
+use Rattle.classtrailers.specs.Blocks.{rowAt, below, blockAt, recordAt, endAt, passed, reached, blockIn, block}
 use Rattle.typedescriptor.specs.Row.{rowName, descriptor}
 use Rattle.typedescriptor.specs.Slots.{slotRow}
 use Rattle.typebody.specs.Body.{classBody, bodyBytes, body}
@@ -49,5 +49,5 @@ pub record Worked : Type 0 where
   pub past : classesIn image segments once 0x2000 5 3 10 ≡ listed [] 0 5 3 true
 
 pub worked : Worked
-unfolding run bind bytesPlace within textOffset segmentsOf fileOffset decides inFile table following goesOn textAt textLength untilNul unsignedIn signedIn littleAt signedAt bytesAt littleEndian twosComplement relativeAddress relativePointer descriptor rowName slotRow classBody bodyBytes body startBelow rowAt recordAt endAt passed reached blockIn block entryAt entryStep kindOf tableBy rowClass slotClass classesFrom
+unfolding run bind bytesPlace within textOffset segmentsOf fileOffset decides inFile table following goesOn textAt textLength untilNul unsignedIn signedIn littleAt signedAt bytesAt littleEndian twosComplement relativeAddress relativePointer descriptor rowName slotRow classBody bodyBytes body startBelow rowAt below blockAt recordAt endAt passed reached blockIn block entryAt entryStep kindOf tableBy rowClass slotClass classesFrom
 worked = record { whole = refl; first = refl; second = refl; neither = refl; no-room = refl; cut = refl; two = refl; past = refl }

@@ -4,9 +4,9 @@ ghost use Rattle.segment.specs.Mapping.{withMapping};
 ghost use Rattle.items.specs.Items.{tableOf};
 ghost use Rattle.classmethods.specs.ClassMethods.{methodTable, tableAt};
 use classtrailers::Block;
+use classtrailers::BlockBody;
 use classtrailers::BlockKind;
 use classtrailers::BlockRead;
-use classtrailers::Trailing;
 use segment::Mapping;
 use typebody::TrailingRead;
 
@@ -19,31 +19,21 @@ pub enum TableAt {
 fn table_in(block: Block) -> TableAt
     ensures { λ r. ⌜ tableAt r ≡ tableOf block ⌝ }
 {
-    match block {
-        Block::VTable {
-            vtable_offset: _,
-            vtable_size,
+    let body = block.body;
+    match body {
+        BlockBody::At(_) => TableAt::Nothing,
+        BlockBody::Table {
+            offset: _,
+            count,
             entries_va,
         } => TableAt::At {
             base_va: entries_va,
-            count: vtable_size,
+            count,
         },
-        Block::OverrideTable {
-            num_entries,
-            entries_va,
-        } => TableAt::At {
-            base_va: entries_va,
-            count: num_entries,
-        },
-        Block::Prespecializations { count, base_va } => TableAt::At { base_va, count },
-        Block::DefaultOverrideTable {
-            num_entries,
-            entries_va,
-        } => TableAt::At {
-            base_va: entries_va,
-            count: num_entries,
-        },
-        _ => TableAt::Nothing,
+        BlockBody::Set {
+            bits: _,
+            protocols: _,
+        } => TableAt::Nothing,
     }
 }
 
@@ -59,18 +49,13 @@ pub fn vtable_near(
 {
     let body = typebody::decode_body_near(image, segments, mapping, address, flags);
     match typebody::trailing(address, flags, body) {
-        TrailingRead::Start(first) => {
-            let trailing = Trailing {
-                flags: first.flags,
-                is_class: first.is_class,
-                extra: first.extra,
-            };
+        TrailingRead::Start { trailing, start } => {
             let found = classtrailers::block_of_kind_near(
                 image,
                 segments,
                 mapping,
                 trailing,
-                first.start,
+                start,
                 BlockKind::VTable,
             );
             match found {

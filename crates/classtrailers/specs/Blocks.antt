@@ -4,7 +4,7 @@ use Prim.Native.Nat.{ℕ, zero, suc, _+_, _-_, _*_, _/_, _^_, _%_}
 use mathlib.Core.List.{List, [], _∷_, map}
 use mathlib.Core.Bool.{Bool, true, false, cond, _&&_}
 use mathlib.Core.Option.{Option, some, none, Option·map}
-use lib.ListN.{getD}
+use lib.ListN.{getD, getElem?}
 use lib.Dec.{leb, eqb}
 use Rattle.util.specs.LittleEndian.{unsignedIn}
 use Rattle.context.specs.Bits.{bit, low}
@@ -12,6 +12,7 @@ use Rattle.context.specs.Context.{isGeneric, hasInvertibleProtocols, kindSpecif
 use Rattle.context.specs.TypeContext.{hasCanonicalMetadataPrespecializations, hasSingletonMetadataPointer, classHasResilientSuperclass, classHasVTable, classHasOverrideTable, classHasDefaultOverrideTable}
 use Rattle.runtime.specs.Reads.{Reads, done, nothing, bytes, bind, run}
 use Rattle.classtrailers.specs.declared.block.Block.{Block}
+use Rattle.classtrailers.specs.declared.block.BlockBody.{BlockBody}
 use Rattle.classtrailers.specs.declared.block.BlockKind.{BlockKind}
 
 -- what tells which blocks a descriptor has: its flags word, whether it is a class, and the extra class flags, which only a class with a
@@ -24,6 +25,17 @@ pub record Trailing : Type 0 where
 abbrev pub typeFlags : Trailing → ℕ
 typeFlags t = kindSpecificFlags (t .flags)
 
+-- what is recorded of a block, by its kind: where it lies; a table's offset (0 where it has none), its number of entries and where they lie; the
+-- invertible set and the number of its protocols
+abbrev pub placedBlock : BlockKind → ℕ → Block
+placedBlock k a = record { kind = k; body = BlockBody.At a }
+
+abbrev pub tableBlock : BlockKind → ℕ → ℕ → ℕ → Block
+tableBlock k o n a = record { kind = k; body = BlockBody.Table o n a }
+
+abbrev pub setBlock : ℕ → ℕ → Block
+setBlock s n = record { kind = BlockKind.InvertibleProtocolSet; body = BlockBody.Set s n }
+
 -- a row of the table: when the block is there, how many header bytes are read, how long it is by them, whether it is recorded only if
 -- its end lies below 2^64, and what is recorded by its address and header
 pub record Row : Type 0 where
@@ -32,14 +44,14 @@ pub record Row : Type 0 where
   pub header : ℕ
   pub size : List ℕ → ℕ
   pub bounded : Bool
-  pub recorded : ℕ → List ℕ → Block
+  pub recorded : ℕ → List ℕ → BlockBody
 
 -- a block without a header
-abbrev pub plain : BlockKind → (Trailing → Bool) → ℕ → (ℕ → Block) → Row
-plain k t n r = record { kind = k; there = t; header = 0; size = λ _. n; bounded = false; recorded = λ a h. r a }
+abbrev pub plain : BlockKind → (Trailing → Bool) → ℕ → Row
+plain k t n = record { kind = k; there = t; header = 0; size = λ _. n; bounded = false; recorded = λ a h. BlockBody.At a }
 
 -- one with a header
-abbrev pub headed : BlockKind → (Trailing → Bool) → ℕ → (List ℕ → ℕ) → (ℕ → List ℕ → Block) → Row
+abbrev pub headed : BlockKind → (Trailing → Bool) → ℕ → (List ℕ → ℕ) → (ℕ → List ℕ → BlockBody) → Row
 headed k t n s r = record { kind = k; there = t; header = n; size = s; bounded = true; recorded = r }
 
 -- the numbers in a header
@@ -47,8 +59,8 @@ abbrev pub u32In : List ℕ → ℕ → ℕ
 u32In h o = unsignedIn 4 h o
 
 -- one whose header is the number of its entries
-abbrev pub listed : BlockKind → (Trailing → Bool) → ℕ → (ℕ → ℕ → Block) → Row
-listed k t n r = headed k t 4 (λ h. 4 + n * u32In h 0) (λ a h. r (u32In h 0) (a + 4))
+abbrev pub listed : BlockKind → (Trailing → Bool) → ℕ → Row
+listed k t n = headed k t 4 (λ h. 4 + n * u32In h 0) (λ a h. BlockBody.Table 0 (u32In h 0) (a + 4))
 
 -- `TargetTypeGenericContextDescriptorHeader`: 16 bytes, a byte for each parameter, padded to four, and 12 for each requirement
 unfoldable pub genericSize : ℕ → ℕ → ℕ
@@ -68,29 +80,29 @@ hasInitialization n t = eqb (low 2 (typeFlags t)) n
 
 abbrev pub blockTable : List Row
 blockTable =
-    headed BlockKind.Generic (λ t. isGeneric (t .flags)) 16 (λ h. genericSize (unsignedIn 2 h 8) (unsignedIn 2 h 10)) (λ a h. Block.Generic a) ∷
-    plain BlockKind.ResilientSuperclass (ofClass classHasResilientSuperclass) 4 Block.ResilientSuperclass ∷
-    plain BlockKind.ForeignMetadataInit (hasInitialization 2) 4 Block.ForeignMetadataInit ∷
-    plain BlockKind.SingletonMetadataInit (hasInitialization 1) 12 Block.SingletonMetadataInit ∷
-    headed BlockKind.VTable (ofClass classHasVTable) 8 (λ h. 8 + 8 * u32In h 4) (λ a h. Block.VTable (u32In h 0) (u32In h 4) (a + 8)) ∷
-    listed BlockKind.OverrideTable (ofClass classHasOverrideTable) 12 Block.OverrideTable ∷
-    plain BlockKind.ObjcResilientClassStub (λ t. ofClass classHasResilientSuperclass t && bit 0 (t .extra)) 4 Block.ObjcResilientClassStub ∷
-    listed BlockKind.Prespecializations (λ t. hasCanonicalMetadataPrespecializations (typeFlags t)) 8 Block.Prespecializations ∷
+    headed BlockKind.Generic (λ t. isGeneric (t .flags)) 16 (λ h. genericSize (unsignedIn 2 h 8) (unsignedIn 2 h 10)) (λ a h. BlockBody.At a) ∷
+    plain BlockKind.ResilientSuperclass (ofClass classHasResilientSuperclass) 4 ∷
+    plain BlockKind.ForeignMetadataInit (hasInitialization 2) 4 ∷
+    plain BlockKind.SingletonMetadataInit (hasInitialization 1) 12 ∷
+    headed BlockKind.VTable (ofClass classHasVTable) 8 (λ h. 8 + 8 * u32In h 4) (λ a h. BlockBody.Table (u32In h 0) (u32In h 4) (a + 8)) ∷
+    listed BlockKind.OverrideTable (ofClass classHasOverrideTable) 12 ∷
+    plain BlockKind.ObjcResilientClassStub (λ t. ofClass classHasResilientSuperclass t && bit 0 (t .extra)) 4 ∷
+    listed BlockKind.Prespecializations (λ t. hasCanonicalMetadataPrespecializations (typeFlags t)) 8 ∷
     record {
       kind = BlockKind.InvertibleProtocolSet;
       there = λ t. hasInvertibleProtocols (t .flags);
       header = 2;
       size = λ _. 4;
       bounded = false;
-      recorded = λ a h. Block.InvertibleProtocolSet (unsignedIn 2 h 0) (setBits 16 (unsignedIn 2 h 0));
+      recorded = λ a h. BlockBody.Set (unsignedIn 2 h 0) (setBits 16 (unsignedIn 2 h 0));
     } ∷
-    plain BlockKind.SingletonMetadataPointer (λ t. hasSingletonMetadataPointer (typeFlags t)) 4 Block.SingletonMetadataPointer ∷
-    listed BlockKind.DefaultOverrideTable (ofClass classHasDefaultOverrideTable) 8 Block.DefaultOverrideTable ∷
+    plain BlockKind.SingletonMetadataPointer (λ t. hasSingletonMetadataPointer (typeFlags t)) 4 ∷
+    listed BlockKind.DefaultOverrideTable (ofClass classHasDefaultOverrideTable) 8 ∷
     []
 
 -- the row with a number; past the table's end one that is never there
 unfoldable pub rowAt : ℕ → Row
-rowAt n = getD blockTable n (plain BlockKind.Generic (λ _. false) 0 Block.Generic)
+rowAt n = getD blockTable n (plain BlockKind.Generic (λ _. false) 0)
 
 -- ---- a block at an address
 
@@ -99,14 +111,35 @@ abbrev pub readHeader : {A : Type 0} → ℕ → ℕ → (List ℕ → Reads A) 
 readHeader a zero k = k []
 readHeader a (suc n) k = bytes a (suc n) k
 
+-- an end, unless it reaches 2^64
+unfoldable pub below : ℕ → Option ℕ
+below n = cond (leb (2 ^ 64) n) none (some n)
+
+-- a block, and where the next one starts: nowhere if its end reaches 2^64
+pub record Ended : Type 0 where
+  pub block : Block
+  pub end : Option ℕ
+
+-- a bounded one is recorded only with an end
+abbrev pub ended : Bool → Block → Option ℕ → Reads Ended
+ended true b none = nothing
+ended true b (some e) = done (record { block = b; end = some e })
+ended false b e = done (record { block = b; end = e })
+
+unfoldable pub blockAt : Row → ℕ → Reads Ended
+blockAt r a = readHeader a (r .header) (λ h. ended (r .bounded) (record { kind = r .kind; body = r .recorded a h }) (below (a + r .size h)))
+
 -- what is recorded of it
 unfoldable pub recordAt : Row → ℕ → Reads Block
-recordAt r a =
-    readHeader a (r .header) (λ h. cond (r .bounded && leb (2 ^ 64) (a + r .size h)) nothing (done (r .recorded a h)))
+recordAt r a = bind (blockAt r a) (λ x. done (x .block))
 
--- where the next one starts; the walk stops if that reaches 2^64
+-- where the next one starts; the walk stops where it starts nowhere
+abbrev pub somewhere : Option ℕ → Reads ℕ
+somewhere none = nothing
+somewhere (some e) = done e
+
 unfoldable pub endAt : Row → ℕ → Reads ℕ
-endAt r a = readHeader a (r .header) (λ h. cond (leb (2 ^ 64) (a + r .size h)) nothing (done (a + r .size h)))
+endAt r a = bind (blockAt r a) (λ x. somewhere (x .end))
 
 -- ---- the block of a kind: the headers of those before it, and then its own
 
@@ -135,6 +168,13 @@ rowNumber BlockKind.InvertibleProtocolSet = 8
 rowNumber BlockKind.SingletonMetadataPointer = 9
 rowNumber BlockKind.DefaultOverrideTable = 10
 
+-- the kind with a number in the table's order, and that kind if a descriptor has a block of it
+unfoldable pub kindNumbered : ℕ → Option BlockKind
+kindNumbered n = getElem? (map (λ (r : Row). r .kind) blockTable) n
+
+unfoldable pub kindThere : Trailing → ℕ → Option BlockKind
+kindThere t n = cond (rowAt n .there t) (kindNumbered n) none
+
 unfoldable pub block : Trailing → ℕ → BlockKind → Reads Block
 block t start k = blockIn t start (rowNumber k)
 
@@ -157,8 +197,7 @@ after t i (some a) = record { trailing = t; row = i; address = a }
 
 unfoldable pub stepAt : List ℕ → List ℕ → Trailing → ℕ → ℕ → Option Step
 stepAt image segments t i a =
-    Option·map (λ b. record { block = b; next = after t (i + 1) (run image segments (endAt (rowAt i) a)) })
-    (run image segments (recordAt (rowAt i) a))
+    Option·map (λ x. record { block = x .block; next = after t (i + 1) (x .end) }) (run image segments (blockAt (rowAt i) a))
 
 -- the next block of `n` rows from row `i` on, at address `a`: rows that are not there are passed, and the first failure ends the walk
 unfoldable pub stepIn : List ℕ → List ℕ → Trailing → ℕ → ℕ → ℕ → Option Step

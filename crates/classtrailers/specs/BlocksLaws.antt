@@ -1,20 +1,22 @@
 -- What the definitions of the blocks say from outside: the numbers of the kinds are their places in the table (`kind-row`, `table-length`),
 -- stepping from the start gives the blocks of all kinds that are there and can be read (`stepped-take`, `stepped-blocks`), and then none is left
--- (`stepped-end`); and what the set's count counts (`bits-are`).
+-- (`stepped-end`); what the set's count counts (`bits-are`); and that the block of a kind is of that kind, with what its row records (`block-recorded`).
 use Prim.Native.Nat.{ℕ, zero, suc, _+_, _-_, _/_, _%_, _^_, _≤_, _<_}
 use native.Mathlib.Nat.{pow-suc, mod-lt, mul-comm, div-one, div-div-eq-div-mul}
 use native.Mathlib.Omega.{arith}
 use mathlib.Core.Path.{_≡_, refl, sym, _∙_, ap}
 use mathlib.Core.List.{List, [], _∷_}
-use mathlib.Core.Bool.{Bool, true, false, cond, _&&_}
+use mathlib.Core.Bool.{Bool, true, false, cond}
 use mathlib.Core.Option.{Option, some, none}
 use lib.ListN.{length, take, drop}
 use lib.Seq.{take-all}
-use lib.Dec.{leb, eqb}
+use lib.Dec.{eqb}
 use Rattle.context.specs.Bits.{bit}
-use Rattle.runtime.specs.Reads.{Reads, done, nothing, bytesPlace, andThen, run}
-use Rattle.classtrailers.specs.Blocks.{Trailing, Row, blockTable, setBits, rowAt, readHeader, recordAt, endAt, reached, blockIn, rowNumber, block, Walk, Step, after, stepAt, nextBlock, withBlock, blocks}
-use Rattle.classtrailers.specs.CallsLaws.{next-there, next-absent, walk-over, pass-absent, pass-there, reached-start, reached-next, stopped, kind-stops, kind-absent, kind-there}
+use Rattle.runtime.specs.Reads.{Reads, nothing, andThen, run}
+use Rattle.runtime.specs.ReadsLaws.{run-bind}
+use Rattle.runtime.specs.PathLaws.{bytes-read}
+use Rattle.classtrailers.specs.Blocks.{Trailing, blockTable, setBits, rowAt, readHeader, below, Ended, ended, blockAt, recordAt, reached, blockIn, rowNumber, block, Walk, Step, after, nextBlock, withBlock, blocks}
+use Rattle.classtrailers.specs.CallsLaws.{record-says, end-says, step-as, next-there, next-absent, walk-over, pass-absent, pass-there, reached-start, reached-next, stopped, kind-stops, kind-absent, kind-there}
 use Rattle.classtrailers.specs.declared.block.Block.{Block}
 use Rattle.classtrailers.specs.declared.block.BlockKind.{BlockKind}
 
@@ -49,29 +51,6 @@ kind-row BlockKind.Prespecializations = refl
 kind-row BlockKind.InvertibleProtocolSet = refl
 kind-row BlockKind.SingletonMetadataPointer = refl
 kind-row BlockKind.DefaultOverrideTable = refl
-
--- ---- a block that is not recorded has no end
-
-module _ (image segments : List ℕ) (r : Row) (a : ℕ) where
-  tested : (c d : Bool) (b : Block) (e : ℕ) → none ≡ run image segments (cond (c && d) nothing (done b)) → none ≡ run image segments (cond d nothing (done e))
-  unfolding run
-  tested true true b e h = refl
-  tested true false b e h = let z : _≡_ {A = ℕ} 0 1 = cc in absurd (omega arith)
-  tested false d b e h = let z : _≡_ {A = ℕ} 0 1 = cc in absurd (omega arith)
-
-  both : (n : ℕ) (f : List ℕ → Reads Block) (g : List ℕ → Reads ℕ) → ((h : List ℕ) → none ≡ run image segments (f h) → none ≡ run image segments (g h))
-      → none ≡ run image segments (readHeader a n f) → none ≡ run image segments (readHeader a n g)
-  unfolding run
-  both zero f g t e = t [] e
-  both (suc n) f g t e = go (bytesPlace image segments a (suc n)) e
-    where
-      go : (x : Option ℕ) → none ≡ andThen x (λ o. run image segments (f (take (suc n) (drop o image)))) → none ≡ andThen x (λ o. run image segments (g (take (suc n) (drop o image))))
-      go none h = refl
-      go (some o) h = t _ h
-
-  pub no-record-no-end : none ≡ run image segments (recordAt r a) → none ≡ run image segments (endAt r a)
-  unfolding recordAt endAt
-  no-record-no-end e = both (r .header) _ _ (λ h f. tested (r .bounded) (leb (2 ^ 64) (a + r .size h)) (r .recorded a h) (a + r .size h) f) e
 
 -- ---- stepping
 
@@ -150,25 +129,28 @@ module _ (image segments : List ℕ) where
       )
 
       module _ (y : rowAt i .there t ≡ true) where
-        pub end-reached : run image segments (endAt (rowAt i) a) ≡ run image segments (reached t start (i + 1))
-        end-reached = reached-next image segments t start i a _ e (pass-there image segments t (rowAt i) a _ y refl)
+        end-reached : (x : Option Ended) → x ≡ run image segments (blockAt (rowAt i) a) → andThen x (λ z. z .end) ≡ run image segments (reached t start (i + 1))
+        end-reached x f = reached-next image segments t start i a _ e (pass-there image segments t (rowAt i) a _ y (end-says image segments (rowAt i) a x f))
 
         -- one that cannot be read ends the walk
-        pub row-fails : none ≡ run image segments (recordAt (rowAt i) a)
+        pub row-fails : none ≡ run image segments (blockAt (rowAt i) a)
             → (none ≡ run image segments (reached t start (i + 1))) × (none ≡ run image segments (blockIn t start i)) × (none ≡ nextBlock image segments (at i a))
-        unfolding stepAt
         row-fails f = (
-          no-record-no-end image segments (rowAt i) a f ∙ end-reached,
-          kind-there image segments t start i i a _ y e refl f,
-          next-there image segments t i a _ y (rw (← f)) h,
+          end-reached none f,
+          kind-there image segments t start i i a _ y e refl (record-says image segments (rowAt i) a none f),
+          next-there image segments t i a _ y (step-as image segments t i a none f) h,
         )
 
-        -- one that can be read is the next block
-        pub row-read : (b : Block) → some b ≡ run image segments (recordAt (rowAt i) a)
-            → (some b ≡ run image segments (blockIn t start i))
-            × (some (record { block = b; next = after t (i + 1) (run image segments (endAt (rowAt i) a)) }) ≡ nextBlock image segments (at i a))
-        unfolding stepAt
-        row-read b f = (kind-there image segments t start i i a _ y e refl f, next-there image segments t i a _ y (rw (← f)) h)
+        -- one that can be read is the next block, and the walk goes on where it ends
+        pub row-read : (b : Ended) → some b ≡ run image segments (blockAt (rowAt i) a)
+            → (some (b .block) ≡ run image segments (blockIn t start i))
+            × (some (record { block = b .block; next = after t (i + 1) (b .end) }) ≡ nextBlock image segments (at i a))
+            × (b .end ≡ run image segments (reached t start (i + 1)))
+        row-read b f = (
+          kind-there image segments t start i i a _ y e refl (record-says image segments (rowAt i) a (some b) f),
+          next-there image segments t i a _ y (step-as image segments t i a (some b) f) h,
+          end-reached (some b) f,
+        )
 
     -- from row `i` on, which lies at `a`, steps give the blocks of the rows that are left
     abbrev Gives : ℕ → ℕ → ℕ → Type 0
@@ -188,18 +170,18 @@ module _ (image segments : List ℕ) where
         on further (some c) f n = further c f n
 
         there : ((c : ℕ) → some c ≡ run image segments (reached t start (i + 1)) → Gives m (i + 1) c) → rowAt i .there t ≡ true
-            → (x : Option Block) → x ≡ run image segments (recordAt (rowAt i) a) → Gives (suc m) i a
+            → (x : Option Ended) → x ≡ run image segments (blockAt (rowAt i) a) → Gives (suc m) i a
         there further y none f n =
             let w = row-fails i a l e y f in
             stepped-over n (at i a) (w .2) ∙ rw (blocksFrom, ← w .1, none-after m (i + 1) (w .0)) (take-none n)
         there further y (some b) f zero = refl
         there further y (some b) f (suc n) =
             let w = row-read i a l e y b f in
-            rw (stepped, ← w .1, blocksFrom, ← w .0) (ap (λ (s : List Block). b ∷ s) (on further _ (end-reached i a l e y) n))
+            rw (stepped, ← w .1, blocksFrom, ← w .0) (ap (λ (s : List Block). b .block ∷ s) (on further _ (w .2) n))
 
         by : ((c : ℕ) → some c ≡ run image segments (reached t start (i + 1)) → Gives m (i + 1) c) → (n : ℕ) (b : Bool) → rowAt i .there t ≡ b
             → stepped image segments n (at i a) ≡ take n (blocksFrom (suc m) i)
-        by further n true y = there further y (run image segments (recordAt (rowAt i) a)) refl n
+        by further n true y = there further y (run image segments (blockAt (rowAt i) a)) refl n
         by further n false y =
             let w = row-absent i a l e y in
             stepped-same n (at i a) (at (i + 1) a) (w .2) ∙ further a (w .0) n ∙ rw (blocksFrom, ← w .1)
@@ -217,7 +199,7 @@ module _ (image segments : List ℕ) where
     Ends m i a = (n : ℕ) → m ≤ n → none ≡ nextBlock image segments (steppedTo image segments n (at i a))
 
     ends : (m i a : ℕ) → i + m ≡ 11 → Ends m i a
-    unfolding steppedTo stepAt
+    unfolding steppedTo
     ends zero i a h n g = rw (left-over n (at i a) (over i a (omega arith))) (over i a (omega arith))
     ends (suc m) i a h zero g = absurd (omega arith)
     ends (suc m) i a h (suc n) g = by (λ c. ends m (i + 1) c (omega arith)) (rowAt i .there t) refl
@@ -229,18 +211,18 @@ module _ (image segments : List ℕ) where
         on further none = rw (left-over n (at 11 0) (over 11 0 (omega arith))) (over 11 0 (omega arith))
         on further (some c) = further c n (omega arith)
 
-        there : ((c : ℕ) → Ends m (i + 1) c) → rowAt i .there t ≡ true → (x : Option Block) → x ≡ run image segments (recordAt (rowAt i) a)
+        there : ((c : ℕ) → Ends m (i + 1) c) → rowAt i .there t ≡ true → (x : Option Ended) → x ≡ run image segments (blockAt (rowAt i) a)
             → none ≡ nextBlock image segments (steppedTo image segments (suc n) (at i a))
         there further y none f =
-            let w : none ≡ nextBlock image segments (at i a) = next-there image segments t i a _ y (rw (← f)) l in
+            let w : none ≡ nextBlock image segments (at i a) = next-there image segments t i a _ y (step-as image segments t i a none f) l in
             rw (left-over (suc n) (at i a) w) w
         there further y (some b) f =
-            let w : some (record { block = b; next = after t (i + 1) (run image segments (endAt (rowAt i) a)) }) ≡ nextBlock image segments (at i a)
-            = next-there image segments t i a _ y (rw (← f)) l in
-            rw (steppedTo, ← w) (on further (run image segments (endAt (rowAt i) a)))
+            let w : some (record { block = b .block; next = after t (i + 1) (b .end) }) ≡ nextBlock image segments (at i a)
+            = next-there image segments t i a _ y (step-as image segments t i a (some b) f) l in
+            rw (steppedTo, ← w) (on further (b .end))
 
         by : ((c : ℕ) → Ends m (i + 1) c) → (b : Bool) → rowAt i .there t ≡ b → none ≡ nextBlock image segments (steppedTo image segments (suc n) (at i a))
-        by further true y = there further y (run image segments (recordAt (rowAt i) a)) refl
+        by further true y = there further y (run image segments (blockAt (rowAt i) a)) refl
         by further false y = left-same (suc n) (at i a) (at (i + 1) a) (next-absent image segments t i a y l) (further a (suc n) (omega arith))
 
     pub stepped-end : (n : ℕ) → 11 ≤ n → none ≡ nextBlock image segments (steppedTo image segments n (at 0 start))
@@ -285,3 +267,55 @@ highest-bit = refl
 pub all-bits : setBits 16 0xffff ≡ 16
 unfolding setBits
 all-bits = refl
+
+-- ---- what a block is: of its kind, with what the kind's row records
+
+pub record RecordedAs (k : BlockKind) (x : Block) : Type 0 where
+  pub address : ℕ
+  pub header : List ℕ
+  pub is : x ≡ record { kind = k; body = rowAt (rowNumber k) .recorded address header }
+
+module _ (image segments : List ℕ) where
+  ended-is : (c : Bool) (b : Block) (e : Option ℕ) (x : Ended) → run image segments (ended c b e) ≡ some x → x .block ≡ b
+  unfolding run
+  ended-is true b none x f = let z : _≡_ {A = ℕ} 0 1 = cc in absurd (omega arith)
+  ended-is true b (some e) x f = let g : record { block = b; end = some e } ≡ x = cc in ap (λ (y : Ended). y .block) (sym g)
+  ended-is false b e x f = let g : record { block = b; end = e } ≡ x = cc in ap (λ (y : Ended). y .block) (sym g)
+
+  module _ (k : BlockKind) where
+    at-recorded : (a : ℕ) (x : Ended) → run image segments (blockAt (rowAt (rowNumber k)) a) ≡ some x → RecordedAs k (x .block)
+    unfolding blockAt
+    at-recorded a x e = go (rowAt (rowNumber k) .header) e
+      where
+        its : List ℕ → Reads Ended
+        its h = ended (rowAt (rowNumber k) .bounded) (record { kind = rowAt (rowNumber k) .kind; body = rowAt (rowNumber k) .recorded a h }) (below (a + rowAt (rowNumber k) .size h))
+
+        by : (h : List ℕ) → run image segments (its h) ≡ some x → RecordedAs k (x .block)
+        by h f =
+            record {
+              address = a;
+              header = h;
+              is =
+                  ended-is (rowAt (rowNumber k) .bounded) _ _ x f
+                  ∙ ap (λ (j : BlockKind). record { kind = j; body = rowAt (rowNumber k) .recorded a h }) (kind-row k);
+            }
+
+        go : (n : ℕ) → run image segments (readHeader a n its) ≡ some x → RecordedAs k (x .block)
+        go zero f = by [] f
+        go (suc n) f = let w = bytes-read image segments a x (suc n) its f in by (take (suc n) (drop (w .offset) image)) (w .goes)
+
+    pub block-recorded : (t : Trailing) (start : ℕ) (x : Block) → run image segments (block t start k) ≡ some x → RecordedAs k x
+    unfolding block blockIn recordAt run
+    block-recorded t start x e = reach (run image segments (reached t start (rowNumber k))) (sym (run-bind image segments _ (reached t start (rowNumber k))) ∙ e)
+      where
+        made : (a : ℕ) (y : Option Ended) → run image segments (blockAt (rowAt (rowNumber k)) a) ≡ y → andThen y (λ z. some (z .block)) ≡ some x → RecordedAs k x
+        made a none f g = let z : _≡_ {A = ℕ} 0 1 = cc in absurd (omega arith)
+        made a (some y) f g = let q : y .block ≡ x = cc in rw q at (at-recorded a y f)
+
+        there : (a : ℕ) (b : Bool) → run image segments (cond b (recordAt (rowAt (rowNumber k)) a) nothing) ≡ some x → RecordedAs k x
+        there a true f = made a (run image segments (blockAt (rowAt (rowNumber k)) a)) refl (sym (run-bind image segments _ (blockAt (rowAt (rowNumber k)) a)) ∙ f)
+        there a false f = let z : _≡_ {A = ℕ} 0 1 = cc in absurd (omega arith)
+
+        reach : (y : Option ℕ) → andThen y (λ a. run image segments (cond (rowAt (rowNumber k) .there t) (recordAt (rowAt (rowNumber k)) a) nothing)) ≡ some x → RecordedAs k x
+        reach none f = let z : _≡_ {A = ℕ} 0 1 = cc in absurd (omega arith)
+        reach (some a) f = there a (rowAt (rowNumber k) .there t) f

@@ -5,25 +5,21 @@ use native.Mathlib.Omega.{arith}
 use native.Mathlib.Numerals.{add-one}
 use native.Mathlib.Nat.{pow-suc, mul-le-mul-right, sub-eq-zero-of-le}
 use mathlib.Core.Path.{_≡_, refl, sym, _∙_, ap}
-use mathlib.Core.List.{List, []}
-use mathlib.Core.Bool.{Bool, true, false, cond, _&&_}
-use mathlib.Core.Option.{Option, some, none}
-use lib.ListN.{length, List·getD-eq-default}
+use mathlib.Core.List.{List, [], _∷_, map}
+use mathlib.Core.Bool.{Bool, true, false, cond}
+use mathlib.Core.Option.{Option, some, none, Option·map}
+use lib.ListN.{length, getElem?, List·getD-eq-default}
 use lib.Dec.{leb}
 use lib.Count.{ones, ones-step}
 use borrow.Author.Tests.{le-leb, lt-leb}
-use Rattle.segment.specs.Mapping.{withMapping, Mapped}
-use Rattle.segment.specs.declared.segment.Mapping.{Mapping}
-use Rattle.runtime.specs.Reads.{Reads, done, nothing, run, andThen}
+use Rattle.runtime.specs.Reads.{done, run, andThen}
 use Rattle.runtime.specs.ReadsLaws.{run-bind}
 use Rattle.runtime.specs.Bytes.{bytesRead}
-use Rattle.runtime.specs.CallsLaws.{run-bytes, run-no-bytes, run-mapped}
-use Rattle.classtrailers.specs.Blocks.{Trailing, Row, plain, blockTable, setBits, rowAt, recordAt, endAt, passed, reached, blockIn, block, rowNumber, Step, stepAt, stepIn, nextBlock}
-use Rattle.classtrailers.specs.Calls.{Says, Unread, below, blockOf}
+use Rattle.runtime.specs.CallsLaws.{run-bytes, run-no-bytes}
+use Rattle.classtrailers.specs.Blocks.{Trailing, setBlock, Row, plain, blockTable, setBits, rowAt, below, Ended, ended, blockAt, recordAt, somewhere, endAt, passed, reached, blockIn, block, rowNumber, kindNumbered, kindThere, after, Step, stepAt, stepIn, nextBlock}
 use Rattle.classtrailers.specs.declared.block.Block.{Block}
+use Rattle.classtrailers.specs.declared.block.BlockBody.{BlockBody}
 use Rattle.classtrailers.specs.declared.block.BlockKind.{BlockKind}
-use Rattle.classtrailers.specs.declared.decode.BlockAt.{BlockAt}
-use Rattle.classtrailers.specs.declared.decode.Entries.{Entries}
 
 -- ---- ends
 
@@ -64,14 +60,14 @@ module _ (n : ℕ) where
 pub entries-fit : (n k : ℕ) → n ≤ 12 → k < 2 ^ 32 → 4 + n * k < 2 ^ 64
 entries-fit n k h l = omega (arith, mul-le-mul-right k h)
 
--- ---- a row by its number
+-- ---- a row by its kind
 
-module _ (n k : ℕ) (e : n ≡ k) where
-  pub row-there : (t : Trailing) (b : Bool) → b ≡ rowAt k .there t → b ≡ rowAt n .there t
-  row-there t b h = rw e h
+module _ (k l : BlockKind) (e : k ≡ l) where
+  pub kind-has : (t : Trailing) (b : Bool) → b ≡ rowAt (rowNumber l) .there t → b ≡ rowAt (rowNumber k) .there t
+  kind-has t b h = rw e h
 
-  pub row-says : (image segments : List ℕ) (a : ℕ) (x : BlockAt) → Says image segments (rowAt k) a x → Says image segments (rowAt n) a x
-  row-says image segments a x h = rw e h
+  pub kind-says : (image segments : List ℕ) (a : ℕ) (x : Option Ended) → x ≡ run image segments (blockAt (rowAt (rowNumber l)) a) → x ≡ run image segments (blockAt (rowAt (rowNumber k)) a)
+  kind-says image segments a x h = rw e h
 
 -- a number that is none of the first `k`
 abbrev pub Past : ℕ → ℕ → Type 0
@@ -84,107 +80,139 @@ past (suc k) n h =
     let l : k ≤ n = past k n (h .0) in
     elim (decLe n k) [ yes g ↦ absurd (h .1 (omega arith)) | no g ↦ omega arith ]
 
-pub no-row : (n : ℕ) (t : Trailing) → 11 ≤ n → false ≡ rowAt n .there t
+no-row : (n : ℕ) (t : Trailing) → 11 ≤ n → false ≡ rowAt n .there t
 unfolding rowAt
-no-row n t h = rw (List·getD-eq-default blockTable (plain BlockKind.Generic (λ _. false) 0 Block.Generic) h)
+no-row n t h = rw (List·getD-eq-default blockTable (plain BlockKind.Generic (λ _. false) 0) h)
 
--- a true mapping changes no answer
-pub says-mapped : (image segments : List ℕ) (m : Mapping) → Mapped segments m → (r : Row) (a : ℕ) (x : BlockAt) → Says image (withMapping m segments) r a x → Says image segments r a x
-says-mapped image segments m w r a x s =
-    record { recorded = s .recorded ∙ run-mapped image segments m w (recordAt r a); ends = s .ends ∙ run-mapped image segments m w (endAt r a) }
+-- ---- the kind with a number
 
--- the case of a list of entries
-pub entries-say : (image segments : List ℕ) (r : Row) (a : ℕ) (b : ℕ → ℕ → Block) {x y : Entries} → Says image segments r a (blockOf b x) → x ≡ y
-    → Says image segments r a (blockOf b y)
-entries-say image segments r a b h e = rw e at h
+pub kind-as : (n k : ℕ) (x : Option BlockKind) → n ≡ k → x ≡ kindNumbered k → x ≡ kindNumbered n
+kind-as n k x e f = rw e f
 
--- ---- a block without a header
+past-end : (l : List BlockKind) (n : ℕ) → length l ≤ n → none ≡ getElem? l n
+past-end [] n h = refl
+past-end (a ∷ l) zero h = absurd (omega arith)
+past-end (a ∷ l) (suc n) h = past-end l n (omega arith)
 
-unread-says : (image segments : List ℕ) (r : Row) → r .header ≡ 0 → r .bounded ≡ false → (a : ℕ) (x : BlockAt) → Unread (r .recorded a []) (a + r .size []) x
-    → Says image segments r a x
-unfolding recordAt endAt run below
-unread-says image segments r q f a x u =
-    record { recorded = u .recorded ∙ rw (q, f); ends = u .ends ∙ rw q (go (decLe (2 ^ 64) (a + r .size []))) }
+pub no-kind : (n : ℕ) → 11 ≤ n → none ≡ kindNumbered n
+unfolding kindNumbered
+no-kind n h = past-end (map (λ (r : Row). r .kind) blockTable) n h
+
+none-past : (n : ℕ) → none ≡ kindNumbered n → 11 ≤ n
+unfolding kindNumbered
+none-past n e = there (map (λ (r : Row). r .kind) blockTable) n e
   where
-    go : Dec (2 ^ 64 ≤ a + r .size []) → below (a + r .size []) ≡ run image segments (cond (leb (2 ^ 64) (a + r .size [])) nothing (done (a + r .size [])))
-    go (yes h) = simp (le-leb (2 ^ 64) (a + r .size []) h)
-    go (no h) = simp (lt-leb (2 ^ 64) (a + r .size []) (omega arith))
+    there : (l : List BlockKind) (n : ℕ) → none ≡ getElem? l n → length l ≤ n
+    there [] n e = omega arith
+    there (a ∷ l) zero e = let z : _≡_ {A = ℕ} 0 1 = cc in absurd (omega arith)
+    there (a ∷ l) (suc n) e = omega (arith, there l n e)
 
-module _ (image segments : List ℕ) (a : ℕ) (x : BlockAt) where
-  pub superclass-says : Unread (Block.ResilientSuperclass a) (a + 4) x → Says image segments (rowAt 1) a x
-  unfolding rowAt
-  superclass-says u = unread-says image segments (rowAt 1) refl refl a x u
+is-kind : (k l : BlockKind) (n : ℕ) → some k ≡ some l → n ≡ rowNumber l → n ≡ rowNumber k
+is-kind k l n e f = let g : k ≡ l = cc in rw g f
 
-  -- a number that no row has
-  pub no-row-says : (n : ℕ) → 11 ≤ n → Unread (Block.Generic a) (a + 0) x → Says image segments (rowAt n) a x
-  unfolding rowAt
-  no-row-says n h u = rw (List·getD-eq-default blockTable (plain BlockKind.Generic (λ _. false) 0 Block.Generic) {n = n} h) (unread-says image segments (plain BlockKind.Generic (λ _. false) 0 Block.Generic) refl refl a x u)
+kind-at : (n : ℕ) (k : BlockKind) → some k ≡ kindNumbered n → n ≡ rowNumber k
+unfolding kindNumbered
+kind-at zero k e = is-kind k BlockKind.Generic 0 e refl
+kind-at (suc zero) k e = is-kind k BlockKind.ResilientSuperclass 1 e refl
+kind-at (suc (suc zero)) k e = is-kind k BlockKind.ForeignMetadataInit 2 e refl
+kind-at (suc (suc (suc zero))) k e = is-kind k BlockKind.SingletonMetadataInit 3 e refl
+kind-at (suc (suc (suc (suc zero)))) k e = is-kind k BlockKind.VTable 4 e refl
+kind-at (suc (suc (suc (suc (suc zero))))) k e = is-kind k BlockKind.OverrideTable 5 e refl
+kind-at (suc (suc (suc (suc (suc (suc zero)))))) k e = is-kind k BlockKind.ObjcResilientClassStub 6 e refl
+kind-at (suc (suc (suc (suc (suc (suc (suc zero))))))) k e = is-kind k BlockKind.Prespecializations 7 e refl
+kind-at (suc (suc (suc (suc (suc (suc (suc (suc zero)))))))) k e = is-kind k BlockKind.InvertibleProtocolSet 8 e refl
+kind-at (suc (suc (suc (suc (suc (suc (suc (suc (suc zero))))))))) k e = is-kind k BlockKind.SingletonMetadataPointer 9 e refl
+kind-at (suc (suc (suc (suc (suc (suc (suc (suc (suc (suc zero)))))))))) k e = is-kind k BlockKind.DefaultOverrideTable 10 e refl
+kind-at (suc (suc (suc (suc (suc (suc (suc (suc (suc (suc (suc n))))))))))) k e = let z : _≡_ {A = ℕ} 0 1 = cc in absurd (omega arith)
 
-  pub foreign-says : Unread (Block.ForeignMetadataInit a) (a + 4) x → Says image segments (rowAt 2) a x
-  unfolding rowAt
-  foreign-says u = unread-says image segments (rowAt 2) refl refl a x u
+-- one of which there is a block, and one of which there is none
+module _ (t : Trailing) (n : ℕ) where
+  pub there-kind : (k : BlockKind) → rowAt (rowNumber k) .there t ≡ true → some k ≡ kindNumbered n → some k ≡ kindThere t n
+  unfolding kindThere
+  there-kind k y e = let f : rowAt n .there t ≡ true = rw (kind-at n k e) y in rw f e
 
-  pub singleton-says : Unread (Block.SingletonMetadataInit a) (a + 12) x → Says image segments (rowAt 3) a x
-  unfolding rowAt
-  singleton-says u = unread-says image segments (rowAt 3) refl refl a x u
+  pub absent-kind : (k : BlockKind) → rowAt (rowNumber k) .there t ≡ false → some k ≡ kindNumbered n → none ≡ kindThere t n
+  unfolding kindThere
+  absent-kind k y e = let f : rowAt n .there t ≡ false = rw (kind-at n k e) y in rw f
 
-  pub stub-says : Unread (Block.ObjcResilientClassStub a) (a + 4) x → Says image segments (rowAt 6) a x
-  unfolding rowAt
-  stub-says u = unread-says image segments (rowAt 6) refl refl a x u
+  pub no-kind-there : none ≡ kindNumbered n → none ≡ kindThere t n
+  unfolding kindThere
+  no-kind-there e = go (rowAt n .there t)
+    where
+      go : (b : Bool) → none ≡ cond b (kindNumbered n) none
+      go true = e
+      go false = refl
 
-  pub pointer-says : Unread (Block.SingletonMetadataPointer a) (a + 4) x → Says image segments (rowAt 9) a x
-  unfolding rowAt
-  pointer-says u = unread-says image segments (rowAt 9) refl refl a x u
+  pub is-there : (k : BlockKind) → some k ≡ kindThere t n → (rowAt n .there t ≡ true) × (n ≡ rowNumber k)
+  unfolding kindThere
+  is-there k e = go (rowAt n .there t) refl
+    where
+      go : (b : Bool) → rowAt n .there t ≡ b → (rowAt n .there t ≡ true) × (n ≡ rowNumber k)
+      go true y = let f : some k ≡ kindNumbered n = e ∙ rw y in (y, kind-at n k f)
+      go false y = let f : some k ≡ none = e ∙ rw y in let z : _≡_ {A = ℕ} 0 1 = cc in absurd (omega arith)
 
--- ---- one with a header, of one byte more than `n`
+  pub is-absent : none ≡ kindThere t n → rowAt n .there t ≡ false
+  unfolding kindThere
+  is-absent e = go (rowAt n .there t) refl (kindNumbered n) refl
+    where
+      go : (b : Bool) → rowAt n .there t ≡ b → (x : Option BlockKind) → kindNumbered n ≡ x → rowAt n .there t ≡ false
+      go false y x f = y
+      go true y (some k) f = let g : none ≡ some k = e ∙ rw (y, f) in let z : _≡_ {A = ℕ} 0 1 = cc in absurd (omega arith)
+      go true y none f = sym (no-row n t (none-past n (sym f)))
 
+-- ---- a block
+
+-- by where it ends
+pub ends-as : (b : Block) (x y : Option ℕ) → x ≡ y → _≡_ {A = Option Ended} (some (record { block = b; end = x })) (some (record { block = b; end = y }))
+ends-as b x y e = rw e
+
+module _ (image segments : List ℕ) (r : Row) (a : ℕ) (x : Option Ended) (e : x ≡ run image segments (blockAt r a)) where
+  pub record-says : Option·map (λ y. y .block) x ≡ run image segments (recordAt r a)
+  unfolding recordAt run
+  record-says = sym (run-bind image segments (λ y. done (y .block)) (blockAt r a) ∙ rw (← e) (go x))
+    where
+      go : (x : Option Ended) → andThen x (λ y. run image segments (done (y .block))) ≡ Option·map (λ y. y .block) x
+      go none = refl
+      go (some y) = refl
+
+  pub end-says : andThen x (λ y. y .end) ≡ run image segments (endAt r a)
+  unfolding endAt run
+  end-says = sym (run-bind image segments (λ y. somewhere (y .end)) (blockAt r a) ∙ rw (← e) (go x))
+    where
+      at : (o : Option ℕ) → run image segments (somewhere o) ≡ o
+      at none = refl
+      at (some n) = refl
+
+      go : (x : Option Ended) → andThen x (λ y. run image segments (somewhere (y .end))) ≡ andThen x (λ y. y .end)
+      go none = refl
+      go (some y) = at (y .end)
+
+-- with a header of one byte more than `n`
 module _ (image segments : List ℕ) (a n : ℕ) (h : List ℕ) (e : h ≡ bytesRead image segments a (suc n)) (r : Row) (q : r .header ≡ suc n) where
-  pub no-header : length h < suc n → Says image segments r a BlockAt.Nothing
-  unfolding recordAt endAt
-  no-header l =
-      record {
-        recorded = rw q (sym (run-no-bytes image segments a (suc n) _ h e l));
-        ends = rw q (sym (run-no-bytes image segments a (suc n) _ h e l));
-      }
+  pub no-header : length h < suc n → none ≡ run image segments (blockAt r a)
+  unfolding blockAt
+  no-header l = rw q (sym (run-no-bytes image segments a (suc n) _ h e l))
 
   module _ (l : suc n ≤ length h) where
-    recorded-by : run image segments (recordAt r a) ≡ run image segments (cond (r .bounded && leb (2 ^ 64) (a + r .size h)) nothing (done (r .recorded a h)))
-    unfolding recordAt
-    recorded-by = rw q (run-bytes image segments a (suc n) _ h e (omega arith) l)
-
-    ended-by : run image segments (endAt r a) ≡ below (a + r .size h)
-    unfolding endAt below run
-    ended-by = rw q (run-bytes image segments a (suc n) ending h e (omega arith) l ∙ go (decLe (2 ^ 64) (a + r .size h)))
-      where
-        ending : List ℕ → Reads ℕ
-        ending = λ g. cond (leb (2 ^ 64) (a + r .size g)) nothing (done (a + r .size g))
-
-        go : Dec (2 ^ 64 ≤ a + r .size h)
-            → run image segments (cond (leb (2 ^ 64) (a + r .size h)) nothing (done (a + r .size h))) ≡ below (a + r .size h)
-        go (yes w) = simp (le-leb (2 ^ 64) (a + r .size h) w)
-        go (no w) = simp (lt-leb (2 ^ 64) (a + r .size h) (omega arith))
+    by-header : run image segments (blockAt r a) ≡ run image segments (ended (r .bounded) (record { kind = r .kind; body = r .recorded a h }) (below (a + r .size h)))
+    unfolding blockAt
+    by-header = rw q (run-bytes image segments a (suc n) (λ g. ended (r .bounded) (record { kind = r .kind; body = r .recorded a g }) (below (a + r .size g))) h e (omega arith) l)
 
     -- recorded once the header is read
-    pub set-says : r .bounded ≡ false → (x : BlockAt) → Unread (r .recorded a h) (a + r .size h) x → Says image segments r a x
+    pub set-says : r .bounded ≡ false → (x : Option Ended) → x ≡ some (record { block = record { kind = r .kind; body = r .recorded a h }; end = below (a + r .size h) })
+        → x ≡ run image segments (blockAt r a)
     unfolding run
-    set-says f x u = record { recorded = u .recorded ∙ sym (recorded-by ∙ rw f); ends = u .ends ∙ sym ended-by }
+    set-says f x u = u ∙ sym (by-header ∙ rw f)
 
     module _ (t : r .bounded ≡ true) where
-      pub end-overflows : none ≡ below (a + r .size h) → Says image segments r a BlockAt.Nothing
+      pub end-overflows : none ≡ below (a + r .size h) → none ≡ run image segments (blockAt r a)
       unfolding run
-      end-overflows w =
-          record {
-            recorded = sym (recorded-by ∙ rw t (simp (le-leb (2 ^ 64) (a + r .size h) (below-none _ w))));
-            ends = w ∙ sym ended-by;
-          }
+      end-overflows w = sym (by-header ∙ rw (t, ← w))
 
-      pub block-says : (x : Block) (z : ℕ) → x ≡ r .recorded a h → some z ≡ below (a + r .size h) → Says image segments r a (BlockAt.Block x z)
+      pub block-says : (x : BlockBody) (z : ℕ) → x ≡ r .recorded a h → some z ≡ below (a + r .size h)
+          → some (record { block = record { kind = r .kind; body = x }; end = some z }) ≡ run image segments (blockAt r a)
       unfolding run
-      block-says x z p w =
-          record {
-            recorded = ap some p ∙ sym (recorded-by ∙ rw t (simp (lt-leb (2 ^ 64) (a + r .size h) (below-some _ _ w .1))));
-            ends = w ∙ sym ended-by;
-          }
+      block-says x z p w = sym (by-header ∙ rw (t, ← w, p))
 
 -- the operation's count of bits is the definition's
 pub bits-counted : (n w : ℕ) → w < 2 ^ n → ones w ≡ setBits n w
@@ -192,27 +220,20 @@ unfolding setBits ones
 bits-counted zero w h = let z : w ≡ 0 = omega arith in rw z
 bits-counted (suc n) w h = ones-step w ∙ ap (λ (k : ℕ). w % 2 + k) (bits-counted n (w / 2) (omega (arith, pow-suc 2 n)))
 
-pub set-counted : (b w n : ℕ) (x : BlockAt) → b ≡ w → b < 2 ^ 16 → Unread (Block.InvertibleProtocolSet b (ones b)) n x
-    → Unread (Block.InvertibleProtocolSet w (setBits 16 w)) n x
-set-counted b w n x e h u = record { recorded = u .recorded ∙ rw (bits-counted 16 b h, e); ends = u .ends }
+pub set-counted : (b w n : ℕ) (x : Option Ended) → b ≡ w → b < 2 ^ 16 → x ≡ some (record { block = setBlock b (ones b); end = below n })
+    → x ≡ some (record { block = setBlock w (setBits 16 w); end = below n })
+set-counted b w n x e h u = u ∙ rw (bits-counted 16 b h, e)
 
 -- ---- the walk
 
 module _ (image segments : List ℕ) (t : Trailing) (i a : ℕ) where
-  module _ (b : Block) where
-    pub step-on : (e : ℕ) → Says image segments (rowAt i) a (BlockAt.Block b e)
-        → some (record { block = b; next = record { trailing = t; row = i + 1; address = e } }) ≡ stepAt image segments t i a
-    unfolding stepAt
-    step-on e s = rw (← s .recorded, ← s .ends)
-
-    pub step-last : Says image segments (rowAt i) a (BlockAt.Last b)
-        → some (record { block = b; next = record { trailing = t; row = 11; address = 0 } }) ≡ stepAt image segments t i a
-    unfolding stepAt
-    step-last s = rw (← s .recorded, ← s .ends)
-
-  pub step-none : Says image segments (rowAt i) a BlockAt.Nothing → none ≡ stepAt image segments t i a
+  pub step-as : (x : Option Ended) → x ≡ run image segments (blockAt (rowAt i) a) → Option·map (λ y. record { block = y .block; next = after t (i + 1) (y .end) }) x ≡ stepAt image segments t i a
   unfolding stepAt
-  step-none s = rw (← s .recorded)
+  step-as x e = rw e
+
+  pub step-kind : (k : BlockKind) (x : Option Ended) → i ≡ rowNumber k → x ≡ run image segments (blockAt (rowAt (rowNumber k)) a)
+      → Option·map (λ y. record { block = y .block; next = after t (i + 1) (y .end) }) x ≡ stepAt image segments t i a
+  step-kind k x q e = step-as x (rw q e)
 
   here : i < 11 → nextBlock image segments (record { trailing = t; row = i; address = a }) ≡ stepIn image segments t (suc (11 - (i + 1))) i a
   unfolding nextBlock
@@ -234,19 +255,6 @@ module _ (image segments : List ℕ) (t : Trailing) (i a : ℕ) where
 
 -- ---- the block of a kind
 
-pub number-small : (k : BlockKind) → rowNumber k < 11
-number-small BlockKind.Generic = omega arith
-number-small BlockKind.ResilientSuperclass = omega arith
-number-small BlockKind.ForeignMetadataInit = omega arith
-number-small BlockKind.SingletonMetadataInit = omega arith
-number-small BlockKind.VTable = omega arith
-number-small BlockKind.OverrideTable = omega arith
-number-small BlockKind.ObjcResilientClassStub = omega arith
-number-small BlockKind.Prespecializations = omega arith
-number-small BlockKind.InvertibleProtocolSet = omega arith
-number-small BlockKind.SingletonMetadataPointer = omega arith
-number-small BlockKind.DefaultOverrideTable = omega arith
-
 module _ (image segments : List ℕ) (t : Trailing) where
   module _ (r : Row) (a : ℕ) where
     pub pass-absent : r .there t ≡ false → some a ≡ run image segments (passed t r a)
@@ -256,6 +264,15 @@ module _ (image segments : List ℕ) (t : Trailing) where
     pub pass-there : (x : Option ℕ) → r .there t ≡ true → x ≡ run image segments (endAt r a) → x ≡ run image segments (passed t r a)
     unfolding passed
     pass-there x y e = rw y e
+
+  -- past the kind with a number, if there is a block of it
+  module _ (n a : ℕ) where
+    pub pass-none : none ≡ kindThere t n → some a ≡ run image segments (passed t (rowAt n) a)
+    pass-none e = pass-absent (rowAt n) a (is-absent t n e)
+
+    pub pass-kind : (k : BlockKind) (x : Option Ended) → some k ≡ kindThere t n → x ≡ run image segments (blockAt (rowAt (rowNumber k)) a)
+        → andThen x (λ y. y .end) ≡ run image segments (passed t (rowAt n) a)
+    pass-kind k x e f = let w = is-there t n k e in pass-there (rowAt n) a _ (w .0) (end-says image segments (rowAt n) a x (rw (w .1) f))
 
   module _ (start : ℕ) where
     pub reached-start : some start ≡ run image segments (reached t start 0)
@@ -295,7 +312,3 @@ module _ (image segments : List ℕ) (t : Trailing) where
           → x ≡ run image segments (recordAt (rowAt n) a) → x ≡ run image segments (blockIn t start n)
       unfolding blockIn
       kind-there i a x y e q f = let g : some a ≡ run image segments (reached t start n) = rw q at e in f ∙ rw (run-bind, ← g, y)
-
-  pub of-kind : (start : ℕ) (k : BlockKind) (n : ℕ) (x : Option Block) → n ≡ rowNumber k → x ≡ run image segments (blockIn t start n) → x ≡ run image segments (block t start k)
-  unfolding block
-  of-kind start k n x e f = f ∙ rw e

@@ -10,13 +10,11 @@ use Rattle.segment.specs.Segments.{segmentsOf, fileOffset}
 use Rattle.util.specs.LittleEndian.{unsignedIn}
 use Rattle.runtime.specs.Reads.{run, bind, path, also, bytesRange}
 use Rattle.runtime.specs.Bytes.{bytesRead}
-use Rattle.classtrailers.specs.Blocks.{Trailing, genericSize, rowAt, passed, reached, block}
-use Rattle.classtrailers.specs.CallsLaws.{ends-below, block-says, pass-there, reached-next, kind-there}
-use Rattle.classtrailers.specs.Calls.{Says, below}
+use Rattle.classtrailers.specs.Blocks.{Trailing, tableBlock, genericSize, rowAt, below, blockAt, endAt, passed, reached, block}
+use Rattle.classtrailers.specs.CallsLaws.{ends-below, record-says, end-says, block-says, pass-there, reached-next, kind-there}
 use Rattle.classtrailers.specs.PathLaws.{headers, rowRange, block-path}
 use Rattle.classtrailers.specs.declared.block.Block.{Block}
 use Rattle.classtrailers.specs.declared.block.BlockKind.{BlockKind}
-use Rattle.classtrailers.specs.declared.decode.BlockAt.{BlockAt}
 
 -- a class with flags 0xc0000010, whatever its extra class flags are
 abbrev pub tabled : ℕ → Trailing
@@ -36,7 +34,7 @@ pub record CheckedBlocks : Type 0 where
   -- of the class at `a`, whose blocks start at `a` + 44: where the vtable's header lies, its entries, and the header of the overrides
   pub vtable-header : (image segments : List ℕ) (extra a : ℕ) → run image segments (reached (tabled extra) (a + 44) 4) ≡ some (a + 44)
   pub vtable-entries : (image segments : List ℕ) (extra a : ℕ) (h : List ℕ) → ThreeMethods image segments (a + 44) h → a + 76 < 2 ^ 64
-      → run image segments (block (tabled extra) (a + 44) BlockKind.VTable) ≡ some (Block.VTable (unsignedIn 4 h 0) 3 (a + 52))
+      → run image segments (block (tabled extra) (a + 44) BlockKind.VTable) ≡ some (tableBlock BlockKind.VTable (unsignedIn 4 h 0) 3 (a + 52))
   pub override-header : (image segments : List ℕ) (extra a : ℕ) (h : List ℕ) → ThreeMethods image segments (a + 44) h → a + 76 < 2 ^ 64
       → run image segments (reached (tabled extra) (a + 44) 5) ≡ some (a + 76)
   -- and what the overrides' block reads: both headers
@@ -51,7 +49,7 @@ module _ (image segments : List ℕ) (extra a : ℕ) where
   header = refl
 
   module _ (h : List ℕ) (w : ThreeMethods image segments (a + 44) h) (l : a + 76 < 2 ^ 64) where
-    says : Says image segments (rowAt 4) (a + 44) (BlockAt.Block (Block.VTable (unsignedIn 4 h 0) 3 (a + 52)) (a + 76))
+    says : some (record { block = tableBlock BlockKind.VTable (unsignedIn 4 h 0) 3 (a + 52); end = some (a + 76) }) ≡ run image segments (blockAt (rowAt 4) (a + 44))
     unfolding rowAt
     says =
         let size : a + 44 + (8 + 8 * unsignedIn 4 h 4) ≡ a + 76 = omega (arith, w .methods) in
@@ -62,12 +60,12 @@ module _ (image segments : List ℕ) (extra a : ℕ) where
     unfolding rowAt
     there = refl
 
-    entries : run image segments (block (tabled extra) (a + 44) BlockKind.VTable) ≡ some (Block.VTable (unsignedIn 4 h 0) 3 (a + 52))
+    entries : run image segments (block (tabled extra) (a + 44) BlockKind.VTable) ≡ some (tableBlock BlockKind.VTable (unsignedIn 4 h 0) 3 (a + 52))
     unfolding block
-    entries = sym (kind-there image segments (tabled extra) (a + 44) 4 4 (a + 44) _ there (sym header) refl (says .recorded))
+    entries = sym (kind-there image segments (tabled extra) (a + 44) 4 4 (a + 44) _ there (sym header) refl (record-says image segments (rowAt 4) (a + 44) _ says))
 
     overrides : run image segments (reached (tabled extra) (a + 44) 5) ≡ some (a + 76)
-    overrides = sym (reached-next image segments (tabled extra) (a + 44) 4 (a + 44) _ (sym header) (pass-there image segments (tabled extra) (rowAt 4) (a + 44) _ there (says .ends)))
+    overrides = sym (reached-next image segments (tabled extra) (a + 44) 4 (a + 44) _ (sym header) (pass-there image segments (tabled extra) (rowAt 4) (a + 44) _ there (end-says image segments (rowAt 4) (a + 44) _ says)))
 
     module _ (o q : ℕ) (p : fileOffset (segmentsOf segments) (a + 44) ≡ some o) (r : fileOffset (segmentsOf segments) (a + 76) ≡ some q) where
       vtable-range : headers image segments (tabled extra) (a + 44) 5 ≡ bytesRange o 8 ∷ []

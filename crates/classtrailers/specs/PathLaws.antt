@@ -1,17 +1,16 @@
 -- The path of a block, the headers of earlier blocks and its own (docs/SPECIFICATION.md, "Items, paths and the cut"), as an equation.
-use Prim.Native.Nat.{ℕ, zero, suc, _+_, _^_}
+use Prim.Native.Nat.{ℕ, zero, suc, _+_}
 use native.Mathlib.Omega.{arith}
 use mathlib.Core.Path.{_≡_, refl, sym, _∙_}
-use mathlib.Core.List.{List, [], _∷_, _++_}
-use mathlib.Core.Bool.{Bool, true, false, cond, _&&_}
+use mathlib.Core.List.{List, [], _∷_, _++_, append-nil}
+use mathlib.Core.Bool.{Bool, true, false, cond}
 use mathlib.Core.Option.{Option, some, none}
 use lib.ListN.{take, drop}
-use lib.Dec.{leb}
 use Rattle.segment.specs.Segments.{segmentsOf, fileOffset}
-use Rattle.runtime.specs.Reads.{Reads, done, nothing, run, Range, bytesRange, also, path}
+use Rattle.runtime.specs.Reads.{Reads, done, nothing, bind, run, Range, bytesRange, also, path}
 use Rattle.runtime.specs.ReadsLaws.{run-bind, path-bind}
 use Rattle.runtime.specs.PathLaws.{path-bytes, bytes-read}
-use Rattle.classtrailers.specs.Blocks.{Trailing, Row, rowAt, readHeader, recordAt, endAt, passed, reached, blockIn, rowNumber, block}
+use Rattle.classtrailers.specs.Blocks.{Trailing, Row, rowAt, readHeader, below, Ended, ended, blockAt, recordAt, somewhere, endAt, passed, reached, blockIn, rowNumber, block}
 use Rattle.classtrailers.specs.declared.block.Block.{Block}
 use Rattle.classtrailers.specs.declared.block.BlockKind.{BlockKind}
 
@@ -41,19 +40,41 @@ module _ (image segments : List ℕ) where
         path-bytes image segments a (suc n) k (w .offset) (w .at) (w .inside)
         ∙ rw (w .at, e (take (suc n) (drop (w .offset) image)))
 
-    tested : (c : Bool) (y : A) → path image segments (cond c nothing (done y)) ≡ []
-    unfolding path
-    tested true y = refl
-    tested false y = refl
-
   module _ (r : Row) (a : ℕ) where
+    ended-path : (c : Bool) (b : Block) (e : Option ℕ) → path image segments (ended c b e) ≡ []
+    unfolding path
+    ended-path true b none = refl
+    ended-path true b (some e) = refl
+    ended-path false b e = refl
+
+    somewhere-path : (e : Option ℕ) → path image segments (somewhere e) ≡ []
+    unfolding path
+    somewhere-path none = refl
+    somewhere-path (some e) = refl
+
+    -- what is made of a block reads no more than its header
+    made-path : {A : Type 0} (f : Ended → Reads A) → ((y : Ended) → path image segments (f y) ≡ []) → (x : A) → some x ≡ run image segments (bind (blockAt r a) f)
+        → path image segments (bind (blockAt r a) f) ≡ headerRange segments a (r .header)
+    unfolding blockAt
+    made-path {A} f nil x e = go (run image segments (blockAt r a)) refl
+      where
+        go : (y : Option Ended) → run image segments (blockAt r a) ≡ y → path image segments (bind (blockAt r a) f) ≡ headerRange segments a (r .header)
+        go none g =
+            let w : some x ≡ none = e ∙ rw (run-bind, g) in
+            let z : _≡_ {A = ℕ} 0 1 = cc in
+            absurd (omega arith)
+        go (some y) g =
+            path-bind image segments f (blockAt r a)
+            ∙ rw (g, header-path y a (r .header) _ (λ h. ended-path (r .bounded) (record { kind = r .kind; body = r .recorded a h }) (below (a + r .size h))) (sym g), nil y)
+            (append-nil (headerRange segments a (r .header)))
+
     pub record-path : (b : Block) → some b ≡ run image segments (recordAt r a) → path image segments (recordAt r a) ≡ headerRange segments a (r .header)
-    unfolding recordAt
-    record-path b e = header-path b a (r .header) _ (λ h. tested b (r .bounded && leb (2 ^ 64) (a + r .size h)) (r .recorded a h)) e
+    unfolding recordAt path
+    record-path b e = made-path (λ y. done (y .block)) (λ y. refl) b e
 
     pub end-path : (e : ℕ) → some e ≡ run image segments (endAt r a) → path image segments (endAt r a) ≡ headerRange segments a (r .header)
     unfolding endAt
-    end-path e f = header-path e a (r .header) _ (λ h. tested e (leb (2 ^ 64) (a + r .size h)) (a + r .size h)) f
+    end-path e f = made-path (λ y. somewhere (y .end)) (λ y. somewhere-path (y .end)) e f
 
   module _ (t : Trailing) (start : ℕ) where
     passed-path : (n a e : ℕ) → some e ≡ run image segments (passed t (rowAt n) a) → path image segments (passed t (rowAt n) a) ≡ rowRange segments t n a

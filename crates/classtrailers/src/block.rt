@@ -13,34 +13,22 @@ pub enum BlockKind {
     DefaultOverrideTable,
 }
 
-// What is recorded of a block: where it lies, or where its entries do and how many they are.
-pub enum Block {
-    Generic(u64),
-    ResilientSuperclass(u64),
-    ForeignMetadataInit(u64),
-    SingletonMetadataInit(u64),
-    VTable {
-        vtable_offset: u32,
-        vtable_size: u32,
-        entries_va: u64,
-    },
-    OverrideTable {
-        num_entries: u32,
-        entries_va: u64,
-    },
-    ObjcResilientClassStub(u64),
-    Prespecializations {
+// What is recorded of a block: where it lies; of a table, where its entries lie and how many they are, with a vtable's offset (0 in
+// every other table); or the invertible set, with the number of protocols it names.
+pub enum BlockBody {
+    At(u64),
+    Table {
+        offset: u32,
         count: u32,
-        base_va: u64,
+        entries_va: u64,
     },
-    // The set, and the number of protocols it names.
-    InvertibleProtocolSet {
+    Set {
         bits: u16,
         protocols: u32,
     },
-    SingletonMetadataPointer(u64),
-    DefaultOverrideTable {
-        num_entries: u32,
-        entries_va: u64,
-    },
+}
+
+pub struct Block {
+    pub kind: BlockKind,
+    pub body: BlockBody,
 }

@@ -1,10 +1,15 @@
 // What the blocks say at an address. A header is read once, as its bytes of the image.
 ghost use mathlib.Core.Path.{_≡_};
+ghost use mathlib.Core.Bool.{false};
+ghost use mathlib.Core.Option.{some};
 ghost use Prim.Native.Nat.{_+_, _*_, _≤_};
+ghost use Rattle.runtime.specs.Reads.{run};
 ghost use Rattle.segment.specs.Mapping.{withMapping};
-ghost use Rattle.classtrailers.specs.Blocks.{rowAt};
-ghost use Rattle.classtrailers.specs.Calls.{Says, Unread, Listed, below, endOf};
+ghost use Rattle.classtrailers.specs.Blocks.{placedBlock, listed, rowAt, rowNumber, below, blockAt};
+ghost use Rattle.classtrailers.specs.Calls.{blockAtOf, endOf};
 use crate::block::Block;
+use crate::block::BlockBody;
+use crate::block::BlockKind;
 use segment::Mapping;
 
 // How many bytes an entry has.
@@ -27,12 +32,6 @@ pub enum End {
     Nothing,
 }
 
-// The number of a block's entries, where they start, and where they end.
-pub enum Entries {
-    At { count: u32, base: u64, end: u64 },
-    Nothing,
-}
-
 fn end_of(at: u64, size: u64) -> End
     ensures { λ r. ⌜ endOf r ≡ below (at + size) ⌝ }
 {
@@ -44,7 +43,7 @@ fn end_of(at: u64, size: u64) -> End
 
 // A block that is recorded whatever its end is.
 fn unread(block: Block, at: u64, size: u64) -> BlockAt
-    ensures { λ r. ⌜ Unread block (at + size) r ⌝ }
+    ensures { λ r. ⌜ blockAtOf r ≡ some (record { block = block; end = below (at + size) }) ⌝ }
 {
     match end_of(at, size) {
         End::At(end) => BlockAt::Block { block, end },
@@ -52,9 +51,20 @@ fn unread(block: Block, at: u64, size: u64) -> BlockAt
     }
 }
 
+// One without a header.
+fn plain_at(kind: BlockKind, at: u64, size: u64) -> BlockAt
+    ensures { λ r. ⌜ blockAtOf r ≡ some (record { block = placedBlock kind at; end = below (at + size) }) ⌝ }
+{
+    let block = Block {
+        kind,
+        body: BlockBody::At(at),
+    };
+    unread(block, at, size)
+}
+
 // A generic header: its parameters take a byte each, padded to four by their number, its requirements 12.
 fn generic_at(image: &[u8], segments: &[u64], mapping: Mapping, at: u64) -> BlockAt
-    ensures { λ r. ⌜ Says (now (image .entry)) (withMapping mapping (now (segments .entry))) (rowAt 0) at r ⌝ }
+    ensures { λ r. ⌜ blockAtOf r ≡ run (now (image .entry)) (withMapping mapping (now (segments .entry))) (blockAt (rowAt 0) at) ⌝ }
 {
     let header = runtime::read_bytes_near(image, segments, mapping, at, 16);
     if header.len() < 16 {
@@ -64,7 +74,10 @@ fn generic_at(image: &[u8], segments: &[u64], mapping: Mapping, at: u64) -> Bloc
     let requirements = util::u16_at(header, 10) as u64;
     match end_of(at, 16 + 4 * ((parameters + 3) / 4) + 12 * requirements) {
         End::At(end) => BlockAt::Block {
-            block: Block::Generic(at),
+            block: Block {
+                kind: BlockKind::Generic,
+                body: BlockBody::At(at),
+            },
             end,
         },
         End::Nothing => BlockAt::Nothing,
@@ -72,19 +85,22 @@ fn generic_at(image: &[u8], segments: &[u64], mapping: Mapping, at: u64) -> Bloc
 }
 
 fn vtable_at(image: &[u8], segments: &[u64], mapping: Mapping, at: u64) -> BlockAt
-    ensures { λ r. ⌜ Says (now (image .entry)) (withMapping mapping (now (segments .entry))) (rowAt 4) at r ⌝ }
+    ensures { λ r. ⌜ blockAtOf r ≡ run (now (image .entry)) (withMapping mapping (now (segments .entry))) (blockAt (rowAt 4) at) ⌝ }
 {
     let header = runtime::read_bytes_near(image, segments, mapping, at, 8);
     if header.len() < 8 {
         return BlockAt::Nothing;
     }
-    let vtable_size = util::u32_at(header, 4);
-    match end_of(at, 8 + 8 * (vtable_size as u64)) {
+    let count = util::u32_at(header, 4);
+    match end_of(at, 8 + 8 * (count as u64)) {
         End::At(end) => BlockAt::Block {
-            block: Block::VTable {
-                vtable_offset: util::u32_at(header, 0),
-                vtable_size,
-                entries_va: at + 8,
+            block: Block {
+                kind: BlockKind::VTable,
+                body: BlockBody::Table {
+                    offset: util::u32_at(header, 0),
+                    count,
+                    entries_va: at + 8,
+                },
             },
             end,
         },
@@ -92,111 +108,104 @@ fn vtable_at(image: &[u8], segments: &[u64], mapping: Mapping, at: u64) -> Block
     }
 }
 
-// A block whose header is the number of its entries, each of so many bytes.
-fn entries_at(image: &[u8], segments: &[u64], mapping: Mapping, at: u64, entry: u64) -> Entries
+// A table whose header is the number of its entries, each of so many bytes.
+fn entries_at(
+    image: &[u8],
+    segments: &[u64],
+    mapping: Mapping,
+    kind: BlockKind,
+    at: u64,
+    entry: u64,
+) -> BlockAt
     requires { ⌜ entry ≤ 12 ⌝ }
-    ensures { λ r. ⌜ Listed (now (image .entry)) (withMapping mapping (now (segments .entry))) at entry r ⌝ }
+    ensures { λ r. ⌜ blockAtOf r ≡ run (now (image .entry)) (withMapping mapping (now (segments .entry))) (blockAt (listed kind (λ _. false) entry) at) ⌝ }
 {
     let header = runtime::read_bytes_near(image, segments, mapping, at, 4);
     if header.len() < 4 {
-        return Entries::Nothing;
+        return BlockAt::Nothing;
     }
     let count = util::u32_at(header, 0);
     match end_of(at, 4 + entry * (count as u64)) {
-        End::At(end) => Entries::At {
-            count,
-            base: at + 4,
-            end,
-        },
-        End::Nothing => Entries::Nothing,
-    }
-}
-
-fn overrides_at(image: &[u8], segments: &[u64], mapping: Mapping, at: u64) -> BlockAt
-    ensures { λ r. ⌜ Says (now (image .entry)) (withMapping mapping (now (segments .entry))) (rowAt 5) at r ⌝ }
-{
-    match entries_at(image, segments, mapping, at, OVERRIDE) {
-        Entries::At { count, base, end } => BlockAt::Block {
-            block: Block::OverrideTable {
-                num_entries: count,
-                entries_va: base,
+        End::At(end) => BlockAt::Block {
+            block: Block {
+                kind,
+                body: BlockBody::Table {
+                    offset: 0,
+                    count,
+                    entries_va: at + 4,
+                },
             },
             end,
         },
-        Entries::Nothing => BlockAt::Nothing,
-    }
-}
-
-fn prespecializations_at(image: &[u8], segments: &[u64], mapping: Mapping, at: u64) -> BlockAt
-    ensures { λ r. ⌜ Says (now (image .entry)) (withMapping mapping (now (segments .entry))) (rowAt 7) at r ⌝ }
-{
-    match entries_at(image, segments, mapping, at, PRESPECIALIZATION) {
-        Entries::At { count, base, end } => BlockAt::Block {
-            block: Block::Prespecializations {
-                count,
-                base_va: base,
-            },
-            end,
-        },
-        Entries::Nothing => BlockAt::Nothing,
+        End::Nothing => BlockAt::Nothing,
     }
 }
 
 // Two bytes are read and four passed.
 fn invertible_at(image: &[u8], segments: &[u64], mapping: Mapping, at: u64) -> BlockAt
-    ensures { λ r. ⌜ Says (now (image .entry)) (withMapping mapping (now (segments .entry))) (rowAt 8) at r ⌝ }
+    ensures { λ r. ⌜ blockAtOf r ≡ run (now (image .entry)) (withMapping mapping (now (segments .entry))) (blockAt (rowAt 8) at) ⌝ }
 {
     let header = runtime::read_bytes_near(image, segments, mapping, at, 2);
     if header.len() < 2 {
         return BlockAt::Nothing;
     }
     let bits = util::u16_at(header, 0);
-    let set = Block::InvertibleProtocolSet {
-        bits,
-        protocols: u16::count_ones(bits),
+    let set = Block {
+        kind: BlockKind::InvertibleProtocolSet,
+        body: BlockBody::Set {
+            bits,
+            protocols: u16::count_ones(bits),
+        },
     };
     unread(set, at, 4)
 }
 
-fn default_overrides_at(image: &[u8], segments: &[u64], mapping: Mapping, at: u64) -> BlockAt
-    ensures { λ r. ⌜ Says (now (image .entry)) (withMapping mapping (now (segments .entry))) (rowAt 10) at r ⌝ }
+// The block of a kind at an address. The mapping is asked before the segments: one that is true of them changes no answer.
+pub fn block_near(
+    image: &[u8],
+    segments: &[u64],
+    mapping: Mapping,
+    kind: BlockKind,
+    at: u64,
+) -> BlockAt
+    ensures { λ r. ⌜ blockAtOf r ≡ run (now (image .entry)) (withMapping mapping (now (segments .entry))) (blockAt (rowAt (rowNumber kind)) at) ⌝ }
 {
-    match entries_at(image, segments, mapping, at, DEFAULT_OVERRIDE) {
-        Entries::At { count, base, end } => BlockAt::Block {
-            block: Block::DefaultOverrideTable {
-                num_entries: count,
-                entries_va: base,
-            },
-            end,
-        },
-        Entries::Nothing => BlockAt::Nothing,
+    match kind {
+        BlockKind::Generic => generic_at(image, segments, mapping, at),
+        BlockKind::ResilientSuperclass => plain_at(BlockKind::ResilientSuperclass, at, 4),
+        BlockKind::ForeignMetadataInit => plain_at(BlockKind::ForeignMetadataInit, at, 4),
+        BlockKind::SingletonMetadataInit => plain_at(BlockKind::SingletonMetadataInit, at, 12),
+        BlockKind::VTable => vtable_at(image, segments, mapping, at),
+        BlockKind::OverrideTable => entries_at(
+            image,
+            segments,
+            mapping,
+            BlockKind::OverrideTable,
+            at,
+            OVERRIDE,
+        ),
+        BlockKind::ObjcResilientClassStub => plain_at(BlockKind::ObjcResilientClassStub, at, 4),
+        BlockKind::Prespecializations => {
+            entries_at(
+                image,
+                segments,
+                mapping,
+                BlockKind::Prespecializations,
+                at,
+                PRESPECIALIZATION,
+            )
+        }
+        BlockKind::InvertibleProtocolSet => invertible_at(image, segments, mapping, at),
+        BlockKind::SingletonMetadataPointer => plain_at(BlockKind::SingletonMetadataPointer, at, 4),
+        BlockKind::DefaultOverrideTable => {
+            entries_at(
+                image,
+                segments,
+                mapping,
+                BlockKind::DefaultOverrideTable,
+                at,
+                DEFAULT_OVERRIDE,
+            )
+        }
     }
-}
-
-// The block with this number of the order, at an address. The mapping is asked before the segments: one that is true of them changes no answer.
-pub fn block_near(image: &[u8], segments: &[u64], mapping: Mapping, row: u32, at: u64) -> BlockAt
-    ensures { λ r. ⌜ Says (now (image .entry)) (withMapping mapping (now (segments .entry))) (rowAt row) at r ⌝ }
-{
-    match row {
-        0 => generic_at(image, segments, mapping, at),
-        1 => unread(Block::ResilientSuperclass(at), at, 4),
-        2 => unread(Block::ForeignMetadataInit(at), at, 4),
-        3 => unread(Block::SingletonMetadataInit(at), at, 12),
-        4 => vtable_at(image, segments, mapping, at),
-        5 => overrides_at(image, segments, mapping, at),
-        6 => unread(Block::ObjcResilientClassStub(at), at, 4),
-        7 => prespecializations_at(image, segments, mapping, at),
-        8 => invertible_at(image, segments, mapping, at),
-        9 => unread(Block::SingletonMetadataPointer(at), at, 4),
-        10 => default_overrides_at(image, segments, mapping, at),
-        // No block has another number: as the definition has it, an empty one.
-        _ => unread(Block::Generic(at), at, 0),
-    }
-}
-
-// The same without a mapping.
-pub fn block_at(image: &[u8], segments: &[u64], row: u32, at: u64) -> BlockAt
-    ensures { λ r. ⌜ Says (now (image .entry)) (now (segments .entry)) (rowAt row) at r ⌝ }
-{
-    block_near(image, segments, Mapping::empty(), row, at)
 }

@@ -5,11 +5,14 @@ mod trailing;
 mod walk;
 
 pub use block::Block;
+pub use block::BlockBody;
 pub use block::BlockKind;
 pub use decode::BlockAt;
 pub use decode::block_near;
+pub use trailing::KindRead;
 pub use trailing::Trailing;
-pub use trailing::has_block;
+pub use trailing::kind_numbered;
+pub use trailing::kind_there;
 pub use trailing::number_of;
 pub use walk::BlockRead;
 pub use walk::BlockStep;

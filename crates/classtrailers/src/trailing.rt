@@ -1,7 +1,7 @@
 // Which blocks a descriptor has.
 ghost use mathlib.Core.Path.{_≡_};
-ghost use Rattle.classtrailers.specs.Blocks.{rowAt, rowNumber};
-ghost use Rattle.classtrailers.specs.Calls.{trailingOf};
+ghost use Rattle.classtrailers.specs.Blocks.{rowAt, rowNumber, kindNumbered, kindThere};
+ghost use Rattle.classtrailers.specs.Calls.{trailingOf, kindReadOf};
 use crate::block::BlockKind;
 use context::ContextDescriptorFlags;
 
@@ -10,6 +10,11 @@ pub struct Trailing {
     pub flags: u32,
     pub is_class: bool,
     pub extra: u32,
+}
+
+pub enum KindRead {
+    Kind(BlockKind),
+    Nothing,
 }
 
 // The number of a kind in the order in which blocks follow each other.
@@ -31,25 +36,62 @@ pub fn number_of(kind: BlockKind) -> u32
     }
 }
 
-// Whether the block with this number is there.
-pub fn has_block(trailing: Trailing, row: u32) -> bool
-    ensures { λ r. ⌜ r ≡ rowAt row .there (trailingOf trailing) ⌝ }
+// The kind with a number.
+pub fn kind_numbered(number: u32) -> KindRead
+    ensures { λ r. ⌜ kindReadOf r ≡ kindNumbered number ⌝ }
+{
+    match number {
+        0 => KindRead::Kind(BlockKind::Generic),
+        1 => KindRead::Kind(BlockKind::ResilientSuperclass),
+        2 => KindRead::Kind(BlockKind::ForeignMetadataInit),
+        3 => KindRead::Kind(BlockKind::SingletonMetadataInit),
+        4 => KindRead::Kind(BlockKind::VTable),
+        5 => KindRead::Kind(BlockKind::OverrideTable),
+        6 => KindRead::Kind(BlockKind::ObjcResilientClassStub),
+        7 => KindRead::Kind(BlockKind::Prespecializations),
+        8 => KindRead::Kind(BlockKind::InvertibleProtocolSet),
+        9 => KindRead::Kind(BlockKind::SingletonMetadataPointer),
+        10 => KindRead::Kind(BlockKind::DefaultOverrideTable),
+        _ => KindRead::Nothing,
+    }
+}
+
+// Whether there is a block of a kind.
+pub fn has_block(trailing: Trailing, kind: BlockKind) -> bool
+    ensures { λ r. ⌜ r ≡ rowAt (rowNumber kind) .there (trailingOf trailing) ⌝ }
 {
     let flags = ContextDescriptorFlags(trailing.flags);
     let types = flags.type_flags();
     let class = trailing.is_class;
-    match row {
-        0 => flags.is_generic(),
-        1 => class & types.class_has_resilient_superclass(),
-        2 => types.0 % 4 == 2,
-        3 => types.0 % 4 == 1,
-        4 => class & types.class_has_vtable(),
-        5 => class & types.class_has_override_table(),
-        6 => class & types.class_has_resilient_superclass() & (trailing.extra % 2 == 1),
-        7 => types.has_canonical_metadata_prespecializations(),
-        8 => flags.has_invertible_protocols(),
-        9 => types.has_singleton_metadata_pointer(),
-        10 => class & types.class_has_default_override_table(),
-        _ => false,
+    match kind {
+        BlockKind::Generic => flags.is_generic(),
+        BlockKind::ResilientSuperclass => class & types.class_has_resilient_superclass(),
+        BlockKind::ForeignMetadataInit => types.0 % 4 == 2,
+        BlockKind::SingletonMetadataInit => types.0 % 4 == 1,
+        BlockKind::VTable => class & types.class_has_vtable(),
+        BlockKind::OverrideTable => class & types.class_has_override_table(),
+        BlockKind::ObjcResilientClassStub => {
+            class & types.class_has_resilient_superclass() & (trailing.extra % 2 == 1)
+        }
+        BlockKind::Prespecializations => types.has_canonical_metadata_prespecializations(),
+        BlockKind::InvertibleProtocolSet => flags.has_invertible_protocols(),
+        BlockKind::SingletonMetadataPointer => types.has_singleton_metadata_pointer(),
+        BlockKind::DefaultOverrideTable => class & types.class_has_default_override_table(),
+    }
+}
+
+// The kind with a number, if there is a block of it.
+pub fn kind_there(trailing: Trailing, number: u32) -> KindRead
+    ensures { λ r. ⌜ kindReadOf r ≡ kindThere (trailingOf trailing) number ⌝ }
+{
+    match kind_numbered(number) {
+        KindRead::Kind(kind) => {
+            if has_block(trailing, kind) {
+                KindRead::Kind(kind)
+            } else {
+                KindRead::Nothing
+            }
+        }
+        KindRead::Nothing => KindRead::Nothing,
     }
 }

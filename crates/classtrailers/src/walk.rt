@@ -3,16 +3,17 @@ ghost use mathlib.Core.Path.{_≡_};
 ghost use Prim.Native.Nat.{_<_};
 ghost use Rattle.runtime.specs.Reads.{run};
 ghost use Rattle.segment.specs.Mapping.{withMapping};
-ghost use Rattle.classtrailers.specs.Blocks.{rowAt, passed, stepAt, nextBlock, block};
+ghost use Rattle.classtrailers.specs.Blocks.{rowAt, rowNumber, passed, stepAt, nextBlock, block};
 ghost use Rattle.classtrailers.specs.Calls.{trailingOf, walkOf, endOf, blockStepOf, blockReadOf};
 use crate::block::Block;
 use crate::block::BlockKind;
 use crate::decode::BlockAt;
 use crate::decode::End;
-use crate::decode::block_at;
 use crate::decode::block_near;
+use crate::trailing::KindRead;
 use crate::trailing::Trailing;
 use crate::trailing::has_block;
+use crate::trailing::kind_there;
 use crate::trailing::number_of;
 use segment::Mapping;
 
@@ -36,12 +37,19 @@ pub enum BlockRead {
     Nothing,
 }
 
-// A block that is there, and the walk from its end on.
-fn step_at(image: &[u8], segments: &[u64], trailing: Trailing, row: u32, address: u64) -> BlockStep
-    requires { ⌜ row < 11 ⌝ }
+// A block that is there, of the kind with this number, and the walk from its end on.
+fn step_at(
+    image: &[u8],
+    segments: &[u64],
+    trailing: Trailing,
+    row: u32,
+    kind: BlockKind,
+    address: u64,
+) -> BlockStep
+    requires { ⌜ (row < 11) × (row ≡ rowNumber kind) ⌝ }
     ensures { λ r. ⌜ blockStepOf r ≡ stepAt (now (image .entry)) (now (segments .entry)) (trailingOf trailing) row address ⌝ }
 {
-    match block_at(image, segments, row, address) {
+    match block_near(image, segments, Mapping::empty(), kind, address) {
         BlockAt::Block { block, end } => BlockStep::Block {
             block,
             next: BlockWalk {
@@ -65,7 +73,7 @@ fn step_at(image: &[u8], segments: &[u64], trailing: Trailing, row: u32, address
 impl BlockWalk {
     // The walk over the blocks that start at an address.
     pub fn start(trailing: Trailing, address: u64) -> BlockWalk
-        ensures { λ r. ⌜ (r .trailing ≡ trailing) × (r .row ≡ 0) × (r .address ≡ address) ⌝ }
+        ensures { λ r. ⌜ r ≡ record { trailing = trailing; row = 0; address = address } ⌝ }
     {
         BlockWalk {
             trailing,
@@ -82,10 +90,14 @@ impl BlockWalk {
         let address = self.address;
         let mut row = self.row;
         while row < ROWS {
-            if has_block(trailing, row) {
-                return step_at(image, segments, trailing, row, address);
+            match kind_there(trailing, row) {
+                KindRead::Kind(kind) => {
+                    return step_at(image, segments, trailing, row, kind, address);
+                }
+                KindRead::Nothing => {
+                    row += 1;
+                }
             }
-            row += 1;
         }
         BlockStep::End
     }
@@ -100,13 +112,12 @@ fn pass(
     row: u32,
     address: u64,
 ) -> End
-    requires { ⌜ row < 11 ⌝ }
     ensures { λ r. ⌜ endOf r ≡ run (now (image .entry)) (withMapping mapping (now (segments .entry))) (passed (trailingOf trailing) (rowAt row) address) ⌝ }
 {
-    if !has_block(trailing, row) {
+    let KindRead::Kind(kind) = kind_there(trailing, row) else {
         return End::At(address);
-    }
-    match block_near(image, segments, mapping, row, address) {
+    };
+    match block_near(image, segments, mapping, kind, address) {
         BlockAt::Block { block: _, end } => End::At(end),
         BlockAt::Last(_) => End::Nothing,
         BlockAt::Nothing => End::Nothing,
@@ -125,7 +136,7 @@ pub fn block_of_kind_near(
     ensures { λ r. ⌜ blockReadOf r ≡ run (now (image .entry)) (withMapping mapping (now (segments .entry))) (block (trailingOf trailing) start kind) ⌝ }
 {
     let number = number_of(kind);
-    if !has_block(trailing, number) {
+    if !has_block(trailing, kind) {
         return BlockRead::Nothing;
     }
     let mut address = start;
@@ -141,7 +152,7 @@ pub fn block_of_kind_near(
             }
         }
     }
-    match block_near(image, segments, mapping, number, address) {
+    match block_near(image, segments, mapping, kind, address) {
         BlockAt::Block { block, end: _ } => BlockRead::Block(block),
         BlockAt::Last(block) => BlockRead::Block(block),
         BlockAt::Nothing => BlockRead::Nothing,

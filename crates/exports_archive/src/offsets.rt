@@ -12,7 +12,6 @@ use crate::fields::THERE;
 use fieldoffsets::FieldOffset;
 use fieldoffsets::FieldOffsets;
 use listing::OffsetsAnswer;
-use typedescriptor::Row;
 
 fn offsets_numbers(offsets: FieldOffsets) -> [u64; 3]
     ensures { λ r. ⌜ r ≡ offsetsNumbers (offsetsOf offsets) ⌝ }
@@ -57,14 +56,7 @@ pub extern "C" fn hodrupec_static_field_offsets(
 ) -> u64
     ensures { λ r. ⌜ Tells (mapped offsetsNumbers (guarded (now (segments .entry)) (answered (staticPlace (now (image .entry)) (now (segments .entry)) address flags)))) (now (out .entry)) r (now (out .exit)) ⌝ }
 {
-    let row = Row {
-        address,
-        flags,
-        parent: 0,
-        name_place: 0,
-        name_length: 0,
-    };
-    match listing::static_field_offsets(image, segments, row) {
+    match listing::static_field_offsets(image, segments, address, flags) {
         OffsetsAnswer::Offsets(offsets) => {
             *out = offsets_numbers(offsets);
             ANSWERED

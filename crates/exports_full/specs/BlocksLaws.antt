@@ -1,26 +1,26 @@
 -- What an answer says of what is made of it: of the start of a descriptor's blocks, and of the block of a kind.
-use Prim.Native.Nat.{ℕ, zero, suc, _%_, _≤_}
-use native.Mathlib.Omega.{arith}
+use Prim.Native.Nat.{ℕ, _%_}
 use mathlib.Core.Path.{_≡_, refl, _∙_, ap}
-use mathlib.Core.List.{List, [], _∷_, _++_, map}
+use mathlib.Core.List.{List, [], _∷_, _++_}
 use mathlib.Core.Bool.{Bool, true, false, cond}
 use mathlib.Core.Option.{Option, some, none}
-use lib.ListN.{length, getElem?}
+use lib.ListN.{length}
 use lib.Dec.{eqb}
 use Rattle.refusal.specs.Refusal.{Guarded, answered, refused, mapped}
 use Rattle.runtime.specs.Reads.{andThen, run}
-use Rattle.classtrailers.specs.Blocks.{Row, blockTable}
+use Rattle.classtrailers.specs.Blocks.{rowNumber, kindNumbered}
 use Rattle.classtrailers.specs.declared.block.Block.{Block}
 use Rattle.classtrailers.specs.declared.block.BlockKind.{BlockKind}
+use Rattle.classtrailers.specs.declared.trailing.Trailing.{Trailing}
 use Rattle.typebody.specs.Body.{Body, body}
 use Rattle.typebody.specs.Items.{trailers, trailersOf}
 use Rattle.typebody.specs.declared.trailers.TrailingRead.{TrailingRead}
-use Rattle.typebody.specs.declared.trailers.TrailingStart.{TrailingStart}
+use Rattle.fullrows.specs.FullRows.{recordedNumbers}
 use Rattle.refusal.specs.Guarded.{guarded}
 use Rattle.refusal.specs.GuardedLaws.{answered-is}
 use Rattle.listing.specs.Blocks.{kindFrom}
 use Rattle.exports_util.specs.Flags.{flagNumber}
-use Rattle.exports_full.specs.Blocks.{startAt, startNumbers, blockNumbers, kindNumbered, blockNumbered}
+use Rattle.exports_full.specs.Blocks.{startAt, startNumbers, blockNumbers, kindBlockNumbers, blockNumbered}
 
 -- ---- what is made of an answer
 
@@ -41,26 +41,16 @@ module _ (segments : List ℕ) {A B : Type 0} (f : A → B) (x : A) where
 
 -- ---- numbers
 
-pub start-known : (read : TrailingRead) (s : TrailingStart) (b : ℕ) → read ≡ TrailingRead.Start s → b ≡ flagNumber (s .«is_class»)
-    → 1 ∷ (b ∷ (s .extra ∷ (s .start ∷ []))) ≡ startNumbers (trailersOf read)
-start-known read s b e eb = rw (eb, e)
+pub start-known : (read : TrailingRead) (t : Trailing) (s b : ℕ) → read ≡ TrailingRead.Start t s → b ≡ flagNumber (t .«is_class»)
+    → 1 ∷ (b ∷ (t .extra ∷ (s ∷ []))) ≡ startNumbers (trailersOf read)
+start-known read t s b e eb = rw (eb, e)
 
-pub step-known : (b : Block) (l rest : List ℕ) → l ≡ blockNumbers b → 1 ∷ (l ++ rest) ≡ 1 ∷ (blockNumbers b ++ rest)
-step-known b l rest e = ap (λ (x : List ℕ). 1 ∷ (x ++ rest)) e
+module _ (b : Block) (k : ℕ) (l : List ℕ) (ek : k ≡ rowNumber (b .kind)) (el : l ≡ recordedNumbers b) where
+  pub step-known : (rest : List ℕ) → 1 ∷ (k ∷ (l ++ rest)) ≡ 1 ∷ (blockNumbers b ++ rest)
+  step-known rest = rw (ek, el)
 
--- ---- the kind with a number
-
-pub kind-as : (n k : ℕ) (x : Option BlockKind) → n ≡ k → x ≡ kindNumbered k → x ≡ kindNumbered n
-kind-as n k x e f = rw e f
-
-past-end : (l : List BlockKind) (n : ℕ) → length l ≤ n → none ≡ getElem? l n
-past-end [] n h = refl
-past-end (a ∷ l) zero h = absurd (omega arith)
-past-end (a ∷ l) (suc n) h = past-end l n (omega arith)
-
-pub no-kind : (n : ℕ) → 11 ≤ n → none ≡ kindNumbered n
-unfolding kindNumbered
-no-kind n h = past-end (map (λ (r : Row). r .kind) blockTable) n h
+  pub block-known : 1 ∷ (k ∷ l) ≡ kindBlockNumbers (some b)
+  block-known = rw (ek, el)
 
 -- ---- the block of a kind
 

@@ -13,7 +13,6 @@ use listing::TextAnswer;
 use typebody::ClassBody;
 use typebody::ClassSizes;
 use typebody::TypeBody;
-use typedescriptor::Row;
 
 // The status of a call that answers.
 pub const ANSWERED: u64 = 0;
@@ -123,14 +122,7 @@ pub extern "C" fn hodrupec_body(
 ) -> u64
     ensures { λ r. ⌜ Tells (mapped bodyNumbers (guarded (now (segments .entry)) (answered (run (now (image .entry)) (now (segments .entry)) (body address flags))))) (now (out .entry)) r (now (out .exit)) ⌝ }
 {
-    let row = Row {
-        address,
-        flags,
-        parent: 0,
-        name_place: 0,
-        name_length: 0,
-    };
-    match listing::row_body(image, segments, row) {
+    match listing::row_body(image, segments, address, flags) {
         BodyAnswer::Body(body) => {
             *out = body_numbers(body);
             ANSWERED

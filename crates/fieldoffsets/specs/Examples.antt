@@ -7,7 +7,7 @@ use Rattle.util.specs.LittleEndian.{littleEndian, bytesAt, littleAt, twosComple
 use Rattle.util.specs.Pointer.{relativePointer, relativeAddress}
 use Rattle.segment.specs.Segments.{segmentsOf, fileOffset, decides, inFile}
 use Rattle.context.specs.Context.{kindOf}
-use Rattle.classtrailers.specs.Blocks.{rowAt, recordAt, endAt, passed, reached, blockIn, block}
+use Rattle.classtrailers.specs.Blocks.{rowAt, below, blockAt, recordAt, endAt, passed, reached, blockIn, block}
 use Rattle.runtime.specs.Reads.{within, bytesPlace, run, bind}
 use Rattle.typebody.specs.Body.{fixed, ofClass, ofStruct, ofEnum, structBody, bodyBytes, body}
 use Rattle.typebody.specs.Singleton.{singletonPointer}
@@ -50,7 +50,7 @@ pub record OffsetLists : Type 0 where
   pub static-no-metadata : staticPlace no-metadata lowSegment 0x1000 0x00090011 ≡ none
 
 pub offset-lists : OffsetLists
-unfolding littleEndian bytesAt littleAt twosComplement signedAt unsignedIn signedIn relativePointer relativeAddress segmentsOf fileOffset decides inFile kindOf within bytesPlace run bind rowAt recordAt endAt passed reached blockIn block structBody bodyBytes body singletonPointer vector u32s fieldOffsets offsetsPlace offsetIn metadataAt staticOffsets staticPlace
+unfolding littleEndian bytesAt littleAt twosComplement signedAt unsignedIn signedIn relativePointer relativeAddress segmentsOf fileOffset decides inFile kindOf within bytesPlace run bind rowAt below blockAt recordAt endAt passed reached blockIn block structBody bodyBytes body singletonPointer vector u32s fieldOffsets offsetsPlace offsetIn metadataAt staticOffsets staticPlace
 offset-lists =
     record {
       two-fields = refl;

@@ -19,10 +19,11 @@ use Rattle.runtime.specs.CallsLaws.{bytes-within}
 use Rattle.runtime.specs.PathLaws.{path-bytes, bytes-read}
 use Rattle.classtrailers.specs.Blocks.{block}
 use Rattle.classtrailers.specs.declared.block.Block.{Block}
+use Rattle.classtrailers.specs.declared.block.BlockBody.{BlockBody}
 use Rattle.classtrailers.specs.declared.block.BlockKind.{BlockKind}
 use Rattle.typebody.specs.Body.{Body, ofClass, ofStruct, ofEnum, body, slotBody, bodyOf}
-use Rattle.typebody.specs.Singleton.{needing}
-use Rattle.typebody.specs.Items.{Start, pointerOfBlock, trailers}
+use Rattle.typebody.specs.Singleton.{needing, singletonPointer}
+use Rattle.typebody.specs.Items.{Start, placeOf, pointerOfBlock, trailers}
 use Rattle.fieldoffsets.specs.Offsets.{Vector, vector, u32s, fieldOffsets, slotOffsets, Offsets, offsets, offsetsPlace, offsetIn, metadataAt, blocksStart, staticPlace, metadataAfter, offsetsOf}
 use Rattle.typebody.specs.PathLaws.{both-read, blocks-start}
 use Rattle.typebody.specs.declared.body.TypeBody.{TypeBody}
@@ -43,11 +44,11 @@ module _ (image segments : List ℕ) where
     unfolding offsetsPlace
     no-offsets-of e = offsets-of none (rw e)
 
-  module _ (b k : Block) (t : b ≡ k) where
-    pub pointer-of : (x : Option ℕ) → x ≡ run image segments (pointerOfBlock k) → x ≡ run image segments (pointerOfBlock b)
-    pointer-of x e = of-case (λ (c : Block). run image segments (pointerOfBlock c)) t e
+  module _ (b k : BlockBody) (t : b ≡ k) where
+    pub pointer-of : (x : Option ℕ) → x ≡ run image segments (needing (placeOf k) singletonPointer) → x ≡ run image segments (needing (placeOf b) singletonPointer)
+    pointer-of x e = of-case (λ (c : BlockBody). run image segments (needing (placeOf c) singletonPointer)) t e
 
-    pub no-pointer-of : pointerOfBlock k ≡ nothing → none ≡ run image segments (pointerOfBlock b)
+    pub no-pointer-of : placeOf k ≡ none → none ≡ run image segments (needing (placeOf b) singletonPointer)
     unfolding run
     no-pointer-of e = pointer-of none (rw e)
 

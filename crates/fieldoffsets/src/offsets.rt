@@ -7,16 +7,15 @@ ghost use Rattle.typebody.specs.Items.{pointerOfBlock, trailers};
 ghost use Rattle.typebody.specs.Singleton.{pointerOf};
 ghost use Rattle.fieldoffsets.specs.Offsets.{offsets, offsetsPlace, offsetIn, metadataAfter, staticPlace, offsetsOf, fieldOffsetOf};
 use classtrailers::Block;
+use classtrailers::BlockBody;
 use classtrailers::BlockKind;
 use classtrailers::BlockRead;
-use classtrailers::Trailing;
 use runtime::Bytes;
 use typebody::SingletonMetadataPointer;
 use typebody::TrailingRead;
 use typebody::TypeBody;
 use typebody::decode_body;
 use typebody::singleton_metadata_pointer;
-use typebody::trailing;
 use util::ReadU32;
 
 // Where the vector lies in the image, and how many numbers of four bytes it has.
@@ -114,35 +113,17 @@ pub fn field_offset(image: &[u8], offsets: FieldOffsets, number: u32) -> FieldOf
 fn pointer_of(image: &[u8], segments: &[u64], block: Block) -> SingletonMetadataPointer
     ensures { λ r. ⌜ pointerOf r ≡ run (now (image .entry)) (now (segments .entry)) (pointerOfBlock block) ⌝ }
 {
-    match block {
-        Block::SingletonMetadataPointer(address) => {
-            singleton_metadata_pointer(image, segments, address)
-        }
-        Block::Generic(_) => SingletonMetadataPointer::Nothing,
-        Block::ResilientSuperclass(_) => SingletonMetadataPointer::Nothing,
-        Block::ForeignMetadataInit(_) => SingletonMetadataPointer::Nothing,
-        Block::SingletonMetadataInit(_) => SingletonMetadataPointer::Nothing,
-        Block::VTable {
-            vtable_offset: _,
-            vtable_size: _,
-            entries_va: _,
-        } => SingletonMetadataPointer::Nothing,
-        Block::OverrideTable {
-            num_entries: _,
-            entries_va: _,
-        } => SingletonMetadataPointer::Nothing,
-        Block::ObjcResilientClassStub(_) => SingletonMetadataPointer::Nothing,
-        Block::Prespecializations {
+    let body = block.body;
+    match body {
+        BlockBody::At(address) => singleton_metadata_pointer(image, segments, address),
+        BlockBody::Table {
+            offset: _,
             count: _,
-            base_va: _,
+            entries_va: _,
         } => SingletonMetadataPointer::Nothing,
-        Block::InvertibleProtocolSet {
+        BlockBody::Set {
             bits: _,
             protocols: _,
-        } => SingletonMetadataPointer::Nothing,
-        Block::DefaultOverrideTable {
-            num_entries: _,
-            entries_va: _,
         } => SingletonMetadataPointer::Nothing,
     }
 }
@@ -157,18 +138,14 @@ fn metadata_after(
 ) -> SingletonMetadataPointer
     ensures { λ r. ⌜ pointerOf r ≡ metadataAfter (now (image .entry)) (now (segments .entry)) (trailers address flags (bodyOf body)) ⌝ }
 {
-    let TrailingRead::Start(first) = trailing(address, flags, body) else {
+    let TrailingRead::Start { trailing, start } = typebody::trailing(address, flags, body) else {
         return SingletonMetadataPointer::Nothing;
     };
     let found = classtrailers::block_of_kind(
         image,
         segments,
-        Trailing {
-            flags: first.flags,
-            is_class: first.is_class,
-            extra: first.extra,
-        },
-        first.start,
+        trailing,
+        start,
         BlockKind::SingletonMetadataPointer,
     );
     match found {

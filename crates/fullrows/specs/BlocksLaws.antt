@@ -5,21 +5,23 @@ use native.Mathlib.Nat.{mul-suc, add-zero}
 use native.Mathlib.Numerals.{add-one}
 use mathlib.Core.Path.{_≡_, refl, sym, _∙_, ap}
 use mathlib.Core.List.{List, [], _∷_, _++_, append-assoc, append-nil}
-use mathlib.Core.Bool.{true, false}
+use mathlib.Core.Bool.{Bool, true, false, cond}
 use mathlib.Core.Option.{Option, some, none}
 use lib.ListN.{length, set, replicate, length-append, length-replicate, replicate-append-replicate}
+use lib.Dec.{eqb}
+use borrow.Author.Tests.{ne-eqb}
 use Rattle.util.specs.Buffer.{pasted}
 use Rattle.util.specs.BufferLaws.{put-none}
 use Rattle.runtime.specs.Reads.{run}
-use Rattle.classtrailers.specs.Blocks.{Trailing, rowAt, reached, blockIn, block}
-use Rattle.classtrailers.specs.BlocksLaws.{row-absent, row-fails, row-read, end-reached}
-use Rattle.classtrailers.specs.CallsLaws.{reached-start, stopped, kind-stops}
-use Rattle.classtrailers.specs.Calls.{Says}
+use Rattle.classtrailers.specs.Blocks.{Trailing, rowAt, rowNumber, Ended, blockAt, reached, blockIn, kindThere, block}
+use Rattle.classtrailers.specs.BlocksLaws.{row-absent, row-fails, row-read}
+use Rattle.classtrailers.specs.CallsLaws.{is-there, is-absent, reached-start, stopped, kind-stops}
 use Rattle.classtrailers.specs.declared.block.Block.{Block}
-use Rattle.classtrailers.specs.declared.decode.BlockAt.{BlockAt}
+use Rattle.classtrailers.specs.declared.block.BlockBody.{BlockBody}
+use Rattle.classtrailers.specs.declared.block.BlockKind.{BlockKind}
 use Rattle.tables.specs.TablesLaws.{set-more}
 use Rattle.tables.specs.PastedLaws.{pasted-then, pasted-long, pasted-as}
-use Rattle.fullrows.specs.FullRows.{blockFour, blockFours}
+use Rattle.fullrows.specs.FullRows.{tableNumbers, recordedIn, blockFour, blockFours}
 
 -- ---- numbers at a place of a list
 
@@ -59,25 +61,28 @@ zeros-all b b′ at n m e q = e ∙ ap (λ (k : ℕ). pasted b at (zeros k)) q
 
 pub block-long : (x : Option Block) → length (blockFour x) ≡ 4
 block-long none = refl
-block-long (some (Block.Generic a)) = refl
-block-long (some (Block.ResilientSuperclass a)) = refl
-block-long (some (Block.ForeignMetadataInit a)) = refl
-block-long (some (Block.SingletonMetadataInit a)) = refl
-block-long (some (Block.VTable o n a)) = refl
-block-long (some (Block.OverrideTable n a)) = refl
-block-long (some (Block.ObjcResilientClassStub a)) = refl
-block-long (some (Block.Prespecializations n a)) = refl
-block-long (some (Block.InvertibleProtocolSet s n)) = refl
-block-long (some (Block.SingletonMetadataPointer a)) = refl
-block-long (some (Block.DefaultOverrideTable n a)) = refl
+block-long (some b) = ap suc (go (b .body))
+  where
+    table : (c : Bool) (o n a : ℕ) → length (cond c (o ∷ (n ∷ (a ∷ []))) (n ∷ (a ∷ (0 ∷ [])))) ≡ 3
+    table true o n a = refl
+    table false o n a = refl
 
--- the case of a block
-pub block-known : (b c : Block) (p : List ℕ) → b ≡ c → p ≡ blockFour (some c) → p ≡ blockFour (some b)
-block-known b c p e f = f ∙ ap (λ (x : Block). blockFour (some x)) (sym e)
+    go : (y : BlockBody) → length (recordedIn (b .kind) y) ≡ 3
+    go (BlockBody.At a) = refl
+    go (BlockBody.Table o n a) = table (eqb (rowNumber (b .kind)) 4) o n a
+    go (BlockBody.Set s n) = refl
 
-pub recorded-as : (b c : Block) (x y z u v w : ℕ) → b ≡ c → (x ≡ u) × (y ≡ v) × (z ≡ w) → 1 ∷ (u ∷ (v ∷ (w ∷ []))) ≡ blockFour (some c)
-    → 1 ∷ (x ∷ (y ∷ (z ∷ []))) ≡ blockFour (some b)
-recorded-as b c x y z u v w e q f = block-known b c _ e (rw (q .0, q .1, q .2) f)
+-- the case of what is recorded
+pub recorded-as : (k : BlockKind) (b c : BlockBody) (p : List ℕ) → b ≡ c → p ≡ recordedIn k c → p ≡ recordedIn k b
+recorded-as k b c p e f = f ∙ ap (recordedIn k) (sym e)
+
+-- those of a table
+module _ (k : BlockKind) (r o n a : ℕ) (e : r ≡ rowNumber k) where
+  pub vtable-numbers : r ≡ 4 → o ∷ (n ∷ (a ∷ [])) ≡ tableNumbers k o n a
+  vtable-numbers f = let q : rowNumber k ≡ 4 = sym e ∙ f in rw q
+
+  pub other-numbers : (r ≡ 4 → ⊥) → n ∷ (a ∷ (0 ∷ [])) ≡ tableNumbers k o n a
+  other-numbers f = simp (ne-eqb (rowNumber k) 4 (λ q. f (e ∙ q)))
 
 -- where nothing follows, all are 0
 pub none-follow : (image segments : List ℕ) → zeros 44 ≡ blockFours image segments none
@@ -184,30 +189,38 @@ module _ (image segments : List ℕ) (t : Trailing) (start : ℕ) where
                   ∙ ap (pasted b₀ at) (ap (λ (o : Option Block). upto i ++ blockFour o) e ∙ ap upto (sym (add-one i)));
             }
 
-        pub absent-put : rowAt i .there t ≡ false → (b′ : List ℕ) → b′ ≡ pasted b (at + 4 * i) (blockFour none) → Putting (i + 1) a b′
+        pub absent-put : none ≡ kindThere t i → (b′ : List ℕ) → b′ ≡ pasted b (at + 4 * i) (blockFour none) → Putting (i + 1) a b′
         absent-put y b′ eb =
-            let w = row-absent image segments t start i a h (g .here) y in
+            let w = row-absent image segments t start i a h (g .here) (is-absent t i y) in
             next-put a none b′ (w .1) (w .0) eb
 
-        module _ (y : rowAt i .there t ≡ true) where
-          pub there-put : (k : Block) (e : ℕ) (b′ : List ℕ) → Says image segments (rowAt i) a (BlockAt.Block k e) → b′ ≡ pasted b (at + 4 * i) (blockFour (some k))
+        -- a row with a block, of kind `j`
+        module _ (j : BlockKind) (y : some j ≡ kindThere t i) where
+          there : rowAt i .there t ≡ true
+          there = is-there t i j y .0
+
+          here-says : (x : Option Ended) → x ≡ run image segments (blockAt (rowAt (rowNumber j)) a) → x ≡ run image segments (blockAt (rowAt i) a)
+          here-says x f = rw (is-there t i j y .1) f
+
+          pub there-put : (k : Block) (e : ℕ) (b′ : List ℕ) → some (record { block = k; end = some e }) ≡ run image segments (blockAt (rowAt (rowNumber j)) a) → b′ ≡ pasted b (at + 4 * i) (blockFour (some k))
               → Putting (i + 1) e b′
           there-put k e b′ s eb =
-              next-put e (some k) b′ (row-read image segments t start i a h (g .here) y k (s .recorded) .0) (s .ends ∙ end-reached image segments t start i a h (g .here) y) eb
+              let w = row-read image segments t start i a h (g .here) there _ (here-says _ s) in
+              next-put e (some k) b′ (w .0) (w .2) eb
 
-          pub last-put : (k : Block) (b′ b″ : List ℕ) (n m : ℕ) → Says image segments (rowAt i) a (BlockAt.Last k) → b′ ≡ pasted b (at + 4 * i) (blockFour (some k))
+          pub last-put : (k : Block) (b′ b″ : List ℕ) (n m : ℕ) → some (record { block = k; end = none }) ≡ run image segments (blockAt (rowAt (rowNumber j)) a) → b′ ≡ pasted b (at + 4 * i) (blockFour (some k))
               → n ≡ 40 - 4 * i → m ≡ at + 4 * i + 4 → b″ ≡ pasted b′ m (zeros n) → Whole b″
           unfolding from
           last-put k b′ b″ n m s eb en em eb″ =
-              let f : none ≡ run image segments (reached t start (i + 1)) = s .ends ∙ end-reached image segments t start i a h (g .here) y in
-              let rest : zeros n ≡ from (10 - i) (i + 1) = ap zeros (rest-count i n h en) ∙ sym (from-stopped (10 - i) (i + 1) f) in
-              let q : blockFour (some k) ++ zeros n ≡ from (11 - i) i = one-more i (some k) (zeros n) h (row-read image segments t start i a h (g .here) y k (s .recorded) .0) rest in
+              let w = row-read image segments t start i a h (g .here) there _ (here-says _ s) in
+              let rest : zeros n ≡ from (10 - i) (i + 1) = ap zeros (rest-count i n h en) ∙ sym (from-stopped (10 - i) (i + 1) (w .2)) in
+              let q : blockFour (some k) ++ zeros n ≡ from (11 - i) i = one-more i (some k) (zeros n) h (w .0) rest in
               rest-put b″ _ q
               (pasted-then b (blockFour (some k)) (zeros n) b′ b″ (at + 4 * i) 4 eb (block-long (some k)) (eb″ ∙ ap (λ (j : ℕ). pasted b′ j (zeros n)) em) (omega (arith, g .long)))
 
-          pub fails-put : (b′ : List ℕ) (n : ℕ) → Says image segments (rowAt i) a BlockAt.Nothing → n ≡ 44 - 4 * i → b′ ≡ pasted b (at + 4 * i) (zeros n) → Whole b′
+          pub fails-put : (b′ : List ℕ) (n : ℕ) → none ≡ run image segments (blockAt (rowAt (rowNumber j)) a) → n ≡ 44 - 4 * i → b′ ≡ pasted b (at + 4 * i) (zeros n) → Whole b′
           fails-put b′ n s en eb =
-              let w = row-fails image segments t start i a h (g .here) y (s .recorded) in
+              let w = row-fails image segments t start i a h (g .here) there (here-says _ s) in
               let count : 4 + (n - 4) ≡ n = omega arith in
               let rest : zeros (n - 4) ≡ from (10 - i) (i + 1) = ap zeros (rest-count i (n - 4) h (omega arith)) ∙ sym (from-stopped (10 - i) (i + 1) (w .0)) in
               let q : blockFour none ++ zeros (n - 4) ≡ from (11 - i) i = one-more i none (zeros (n - 4)) h (w .1) rest in

@@ -1,13 +1,15 @@
 -- The rows of a types section with body and all trailing blocks, as records of a fixed count of numbers in a lent list: docs/SPECIFICATION.md, "Full rows".
 use Prim.Native.Nat.{ℕ, _-_, _/_, max}
 use mathlib.Core.List.{List, [], _∷_, _++_, map}
-use mathlib.Core.Bool.{Bool, true, false}
+use mathlib.Core.Bool.{Bool, true, false, cond}
 use mathlib.Core.Option.{Option, some, none}
 use lib.ListN.{length, take, drop}
+use lib.Dec.{eqb}
 use Rattle.refusal.specs.Refusal.{Guarded, answered, refused, refusalNumber}
 use Rattle.runtime.specs.Reads.{run}
 use Rattle.classtrailers.specs.Blocks as blocks
 use Rattle.classtrailers.specs.declared.block.Block.{Block}
+use Rattle.classtrailers.specs.declared.block.BlockBody.{BlockBody}
 use Rattle.classtrailers.specs.declared.block.BlockKind.{BlockKind}
 use Rattle.typedescriptor.specs.Row.{TypeRow}
 use Rattle.typedescriptor.specs.Slots.{slots, Found, rowsFrom}
@@ -15,6 +17,7 @@ use Rattle.typebody.specs.Body.{Body, ofClass, ofStruct, ofEnum, fixed, resilie
 use Rattle.typebody.specs.Items.{Start, trailers}
 use Rattle.listing.specs.Blocks.{kindFrom}
 use Rattle.fullrows.specs.declared.rows.Given.{Given}
+use Rattle.fullrows.specs.declared.rows.Recorded.{Recorded}
 use Rattle.fullrows.specs.declared.calls.FullRows.{FullRows}
 
 -- ---- a record
@@ -31,20 +34,23 @@ bodyNumbers (some (ofClass s (resilient b e) m f v)) = 1 ∷ (s ∷ (1 ∷ (b �
 bodyNumbers (some (ofStruct f v)) = 2 ∷ (f ∷ (v ∷ (0 ∷ (0 ∷ (0 ∷ (0 ∷ (0 ∷ [])))))))
 bodyNumbers (some (ofEnum p w e)) = 3 ∷ (p ∷ (w ∷ (e ∷ (0 ∷ (0 ∷ (0 ∷ (0 ∷ [])))))))
 
--- a block of a kind: 1 and what is recorded, 0 where the kind has fewer numbers; all are 0 where there is none
+-- what is recorded of a block, 0 where a kind has fewer than three numbers: an address; of a table the number of entries and their address, and a
+-- vtable's offset ahead of them; the set and the number of its protocols
+abbrev pub tableNumbers : BlockKind → ℕ → ℕ → ℕ → List ℕ
+tableNumbers k o n a = cond (eqb (blocks.rowNumber k) 4) (o ∷ (n ∷ (a ∷ []))) (n ∷ (a ∷ (0 ∷ [])))
+
+abbrev pub recordedIn : BlockKind → BlockBody → List ℕ
+recordedIn k (BlockBody.At a) = a ∷ (0 ∷ (0 ∷ []))
+recordedIn k (BlockBody.Table o n a) = tableNumbers k o n a
+recordedIn k (BlockBody.Set s n) = s ∷ (n ∷ (0 ∷ []))
+
+abbrev pub recordedNumbers : Block → List ℕ
+recordedNumbers b = recordedIn (b .kind) (b .body)
+
+-- a block of a kind: 1 and what is recorded; all are 0 where there is none
 abbrev pub blockFour : Option Block → List ℕ
 blockFour none = 0 ∷ (0 ∷ (0 ∷ (0 ∷ [])))
-blockFour (some (Block.Generic a)) = 1 ∷ (a ∷ (0 ∷ (0 ∷ [])))
-blockFour (some (Block.ResilientSuperclass a)) = 1 ∷ (a ∷ (0 ∷ (0 ∷ [])))
-blockFour (some (Block.ForeignMetadataInit a)) = 1 ∷ (a ∷ (0 ∷ (0 ∷ [])))
-blockFour (some (Block.SingletonMetadataInit a)) = 1 ∷ (a ∷ (0 ∷ (0 ∷ [])))
-blockFour (some (Block.VTable o n a)) = 1 ∷ (o ∷ (n ∷ (a ∷ [])))
-blockFour (some (Block.OverrideTable n a)) = 1 ∷ (n ∷ (a ∷ (0 ∷ [])))
-blockFour (some (Block.ObjcResilientClassStub a)) = 1 ∷ (a ∷ (0 ∷ (0 ∷ [])))
-blockFour (some (Block.Prespecializations n a)) = 1 ∷ (n ∷ (a ∷ (0 ∷ [])))
-blockFour (some (Block.InvertibleProtocolSet s n)) = 1 ∷ (s ∷ (n ∷ (0 ∷ [])))
-blockFour (some (Block.SingletonMetadataPointer a)) = 1 ∷ (a ∷ (0 ∷ (0 ∷ [])))
-blockFour (some (Block.DefaultOverrideTable n a)) = 1 ∷ (n ∷ (a ∷ (0 ∷ [])))
+blockFour (some b) = 1 ∷ recordedNumbers b
 
 -- the blocks of these kinds, of what follows a body
 abbrev pub kindFours : List ℕ → List ℕ → Option Start → List BlockKind → List ℕ
@@ -112,3 +118,6 @@ numbersOf l = l .numbers
 abbrev pub fullRowsAnswer : FullRows → Guarded Given
 fullRowsAnswer (FullRows.Given g) = answered g
 fullRowsAnswer (FullRows.Refused x) = refused (refusalNumber x)
+
+abbrev pub recordedOf : Recorded → List ℕ
+recordedOf r = r .first ∷ (r .second ∷ (r .third ∷ []))

@@ -6,3 +6,5 @@ mod rows;
 pub use calls::FullRows;
 pub use calls::full_rows;
 pub use rows::Given;
+pub use rows::Recorded;
+pub use rows::numbers_of;

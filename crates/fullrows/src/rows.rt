@@ -6,12 +6,15 @@ ghost use Prim.Native.Nat.{_+_, _≤_, _*_, _/_};
 ghost use lib.ListN.{length, replicate};
 ghost use Rattle.util.specs.Buffer.{pasted, atStart};
 ghost use Rattle.typebody.specs.Body.{bodyOf, classOf};
-ghost use Rattle.fullrows.specs.FullRows.{bodyNumbers, blockFour, blockFours, fullRow, fullRowsIn, numbersOf, givenOf};
+ghost use Rattle.fullrows.specs.FullRows.{bodyNumbers, tableNumbers, recordedNumbers, recordedOf, blockFour, blockFours, fullRow, fullRowsIn, numbersOf, givenOf};
 ghost use Rattle.segment.specs.Mapping.{withMapping};
 ghost use Rattle.classtrailers.specs.Calls.{trailingOf};
 ghost use Rattle.typedescriptor.specs.Row.{rowOf};
 use classtrailers::Block;
 use classtrailers::BlockAt;
+use classtrailers::BlockBody;
+use classtrailers::BlockKind;
+use classtrailers::KindRead;
 use classtrailers::Trailing;
 use segment::Mapping;
 use typebody::ClassBody;
@@ -177,6 +180,9 @@ const KINDS: u32 = 11;
 // The first number of a block that is there.
 const THERE: u64 = 1;
 
+// The number of the kind that has three numbers.
+const VTABLE: u32 = 4;
+
 // The three numbers of what is recorded of a block, 0 where its kind has fewer.
 pub struct Recorded {
     pub first: u64,
@@ -184,59 +190,46 @@ pub struct Recorded {
     pub third: u64,
 }
 
-fn address(va: u64) -> Recorded
-    ensures { λ r. ⌜ (r .first ≡ va) × (r .second ≡ 0) × (r .third ≡ 0) ⌝ }
+// Those of a table: only a vtable has an offset, ahead of the others.
+fn table_numbers(kind: BlockKind, offset: u32, count: u32, entries_va: u64) -> Recorded
+    ensures { λ r. ⌜ recordedOf r ≡ tableNumbers kind offset count «entries_va» ⌝ }
 {
-    Recorded {
-        first: va,
-        second: 0,
-        third: 0,
-    }
-}
-
-fn counted(count: u32, va: u64) -> Recorded
-    ensures { λ r. ⌜ (r .first ≡ count) × (r .second ≡ va) × (r .third ≡ 0) ⌝ }
-{
-    Recorded {
-        first: count as u64,
-        second: va,
-        third: 0,
-    }
-}
-
-fn numbers_of(block: Block) -> Recorded
-    ensures { λ r. ⌜ 1 ∷ (r .first ∷ (r .second ∷ (r .third ∷ []))) ≡ blockFour (some block) ⌝ }
-{
-    match block {
-        Block::Generic(va) => address(va),
-        Block::ResilientSuperclass(va) => address(va),
-        Block::ForeignMetadataInit(va) => address(va),
-        Block::SingletonMetadataInit(va) => address(va),
-        Block::VTable {
-            vtable_offset,
-            vtable_size,
-            entries_va,
-        } => Recorded {
-            first: vtable_offset as u64,
-            second: vtable_size as u64,
+    if classtrailers::number_of(kind) == VTABLE {
+        Recorded {
+            first: offset as u64,
+            second: count as u64,
             third: entries_va,
+        }
+    } else {
+        Recorded {
+            first: count as u64,
+            second: entries_va,
+            third: 0,
+        }
+    }
+}
+
+pub fn numbers_of(block: Block) -> Recorded
+    ensures { λ r. ⌜ recordedOf r ≡ recordedNumbers block ⌝ }
+{
+    let kind = block.kind;
+    let body = block.body;
+    match body {
+        BlockBody::At(va) => Recorded {
+            first: va,
+            second: 0,
+            third: 0,
         },
-        Block::OverrideTable {
-            num_entries,
+        BlockBody::Table {
+            offset,
+            count,
             entries_va,
-        } => counted(num_entries, entries_va),
-        Block::ObjcResilientClassStub(va) => address(va),
-        Block::Prespecializations { count, base_va } => counted(count, base_va),
-        Block::InvertibleProtocolSet { bits, protocols } => Recorded {
+        } => table_numbers(kind, offset, count, entries_va),
+        BlockBody::Set { bits, protocols } => Recorded {
             first: bits as u64,
             second: protocols as u64,
             third: 0,
         },
-        Block::SingletonMetadataPointer(va) => address(va),
-        Block::DefaultOverrideTable {
-            num_entries,
-            entries_va,
-        } => counted(num_entries, entries_va),
     }
 }
 
@@ -265,27 +258,30 @@ fn put_blocks(
     let mut row: u32 = 0;
     while row < KINDS {
         let here = at + 4 * (row as usize);
-        if classtrailers::has_block(trailing, row) {
-            let found = classtrailers::block_near(image, segments, mapping, row, address);
-            match found {
-                BlockAt::Block { block, end } => {
-                    put_block(block, buffer, here);
-                    address = end;
-                    row += 1;
-                }
-                BlockAt::Last(block) => {
-                    put_block(block, buffer, here);
-                    put_zeros(40 - 4 * (row as usize), buffer, here + 4);
-                    return;
-                }
-                BlockAt::Nothing => {
-                    put_zeros(44 - 4 * (row as usize), buffer, here);
-                    return;
+        match classtrailers::kind_there(trailing, row) {
+            KindRead::Kind(kind) => {
+                let found = classtrailers::block_near(image, segments, mapping, kind, address);
+                match found {
+                    BlockAt::Block { block, end } => {
+                        put_block(block, buffer, here);
+                        address = end;
+                        row += 1;
+                    }
+                    BlockAt::Last(block) => {
+                        put_block(block, buffer, here);
+                        put_zeros(40 - 4 * (row as usize), buffer, here + 4);
+                        return;
+                    }
+                    BlockAt::Nothing => {
+                        put_zeros(44 - 4 * (row as usize), buffer, here);
+                        return;
+                    }
                 }
             }
-        } else {
-            put_four(0, 0, 0, 0, buffer, here);
-            row += 1;
+            KindRead::Nothing => {
+                put_four(0, 0, 0, 0, buffer, here);
+                row += 1;
+            }
         }
     }
 }
@@ -309,21 +305,8 @@ fn put_record(
     let body = typebody::decode_body_near(image, segments, mapping, address, flags);
     put_body(body, buffer, at + 6);
     match typebody::trailing(address, flags, body) {
-        TrailingRead::Start(first) => {
-            let trailing = Trailing {
-                flags: first.flags,
-                is_class: first.is_class,
-                extra: first.extra,
-            };
-            put_blocks(
-                image,
-                segments,
-                mapping,
-                trailing,
-                first.start,
-                buffer,
-                at + 14,
-            );
+        TrailingRead::Start { trailing, start } => {
+            put_blocks(image, segments, mapping, trailing, start, buffer, at + 14);
         }
         TrailingRead::Nothing => {
             put_zeros(44, buffer, at + 14);

@@ -14,8 +14,9 @@ use Rattle.segment.specs.Segments.{segmentsOf, fileOffset, decides, inFile}
 use Rattle.util.specs.Cstr.{textAt}
 use Rattle.runtime.specs.Reads.{within, bytesPlace, textOffset, run, extent, Range, path, bind}
 use Rattle.context.specs.Context.{kindOf}
-use Rattle.classtrailers.specs.Blocks.{genericSize, setBits, rowAt, recordAt, endAt, passed, reached, blockIn, block}
+use Rattle.classtrailers.specs.Blocks.{genericSize, setBits, rowAt, below, blockAt, recordAt, endAt, passed, reached, blockIn, block}
 use Rattle.classtrailers.specs.declared.block.Block.{Block}
+use Rattle.classtrailers.specs.declared.block.BlockBody.{BlockBody}
 use Rattle.classtrailers.specs.declared.block.BlockKind.{BlockKind}
 use Rattle.typedescriptor.specs.Row.{rowName, descriptor}
 use Rattle.typedescriptor.specs.Slots.{slotRow}
@@ -79,16 +80,16 @@ overridesReads = prespecializedReads ++ (bytesTo 100 102 ∷ bytesTo 104 108 ∷
 
 -- the four blocks: at an address; so many entries from one on; a set, and how many bits of it are set
 abbrev genericAt : ℕ → Block
-genericAt a = Block.Generic a
+genericAt a = record { kind = BlockKind.Generic; body = BlockBody.At a }
 
 abbrev prespecializationsFrom : ℕ → ℕ → Block
-prespecializationsFrom n a = Block.Prespecializations n a
+prespecializationsFrom n a = record { kind = BlockKind.Prespecializations; body = BlockBody.Table 0 n a }
 
 abbrev invertibleSet : ℕ → ℕ → Block
-invertibleSet s n = Block.InvertibleProtocolSet s n
+invertibleSet s n = record { kind = BlockKind.InvertibleProtocolSet; body = BlockBody.Set s n }
 
 abbrev defaultOverridesFrom : ℕ → ℕ → Block
-defaultOverridesFrom n a = Block.DefaultOverrideTable n a
+defaultOverridesFrom n a = record { kind = BlockKind.DefaultOverrideTable; body = BlockBody.Table 0 n a }
 
 pub record Worked : Type 0 where
   pub generic : reads (Key.block 0 BlockKind.Generic) ≡ genericReads
@@ -118,7 +119,7 @@ pub record Worked : Type 0 where
   pub cut-123 : told (take 123 image) (Key.entry 0 EntryKind.defaultOverrides 1) ≡ none
 
 pub worked : Worked
-unfolding run path bind bytesPlace within textOffset extent segmentsOf fileOffset decides inFile table following goesOn textAt textLength untilNul unsignedIn signedIn littleAt signedAt bytesAt littleEndian twosComplement relativeAddress relativePointer descriptor rowName slotRow mapReads item classBody bodyBytes body slotBody genericSize setBits rowAt recordAt endAt passed reached blockIn block slotBlock slotInit slotPointer vector fieldOffsets slotOffsets entryAt upTo entry entryOfSlot kindOf
+unfolding run path bind bytesPlace within textOffset extent segmentsOf fileOffset decides inFile table following goesOn textAt textLength untilNul unsignedIn signedIn littleAt signedAt bytesAt littleEndian twosComplement relativeAddress relativePointer descriptor rowName slotRow mapReads item classBody bodyBytes body slotBody genericSize setBits rowAt below blockAt recordAt endAt passed reached blockIn block slotBlock slotInit slotPointer vector fieldOffsets slotOffsets entryAt upTo entry entryOfSlot kindOf
 worked =
     record {
       generic = refl;

@@ -16,8 +16,9 @@ use Rattle.runtime.specs.Reads.{within, bytesPlace, textOffset, run, extent, Ra
 use Rattle.context.specs.Context.{kindOf}
 use Rattle.context.specs.Field.{fieldKind}
 use Rattle.context.specs.declared.field.FieldDescriptorKind.{FieldDescriptorKind}
-use Rattle.classtrailers.specs.Blocks.{rowAt, recordAt, endAt, passed, reached, blockIn, block}
+use Rattle.classtrailers.specs.Blocks.{rowAt, below, blockAt, recordAt, endAt, passed, reached, blockIn, block}
 use Rattle.classtrailers.specs.declared.block.Block.{Block}
+use Rattle.classtrailers.specs.declared.block.BlockBody.{BlockBody}
 use Rattle.classtrailers.specs.declared.block.BlockKind.{BlockKind}
 use Rattle.typedescriptor.specs.Row.{rowName, descriptor}
 use Rattle.typedescriptor.specs.Slots.{slotRow}
@@ -98,10 +99,10 @@ bodyReads = rowReads ++ (bytesTo 24 32 ∷ [])
 
 -- the two blocks at an address
 abbrev initializationAt : ℕ → Block
-initializationAt a = Block.SingletonMetadataInit a
+initializationAt a = record { kind = BlockKind.SingletonMetadataInit; body = BlockBody.At a }
 
 abbrev pointerAt : ℕ → Block
-pointerAt a = Block.SingletonMetadataPointer a
+pointerAt a = record { kind = BlockKind.SingletonMetadataPointer; body = BlockBody.At a }
 
 pub record Worked : Type 0 where
   pub row : reads (Key.row 0) ≡ rowReads
@@ -145,7 +146,7 @@ pub record Worked : Type 0 where
   pub cut-115 : told (take 115 image) (Key.fieldRecord 0 1) ≡ none
 
 pub worked : Worked
-unfolding run path bind bytesPlace within textOffset extent segmentsOf fileOffset decides inFile table following goesOn textAt textLength untilNul unsignedIn signedIn littleAt signedAt bytesAt littleEndian twosComplement relativeAddress relativePointer descriptor rowName slotRow mapReads item structBody bodyBytes body slotBody rowAt recordAt endAt passed reached blockIn block slotBlock slotTarget targets singletonInit singletonPointer slotInit slotPointer vector u32s fieldOffsets slotOffsets entryAt upTo entry fieldStep descriptorFrom descriptorAt descriptorRecord headerIn header headerAt contextOfSlot kindOf fieldKind
+unfolding run path bind bytesPlace within textOffset extent segmentsOf fileOffset decides inFile table following goesOn textAt textLength untilNul unsignedIn signedIn littleAt signedAt bytesAt littleEndian twosComplement relativeAddress relativePointer descriptor rowName slotRow mapReads item structBody bodyBytes body slotBody rowAt below blockAt recordAt endAt passed reached blockIn block slotBlock slotTarget targets singletonInit singletonPointer slotInit slotPointer vector u32s fieldOffsets slotOffsets entryAt upTo entry fieldStep descriptorFrom descriptorAt descriptorRecord headerIn header headerAt contextOfSlot kindOf fieldKind
 worked =
     record {
       row = refl;

@@ -7,6 +7,7 @@ use mathlib.Core.Option.{Option, some, none}
 use lib.Dec.{ltb}
 use Rattle.runtime.specs.Reads.{Reads, done, nothing, bind}
 use Rattle.classtrailers.specs.declared.block.Block.{Block}
+use Rattle.classtrailers.specs.declared.block.BlockBody.{BlockBody}
 use Rattle.classtrailers.specs.declared.block.BlockKind.{BlockKind}
 use Rattle.typedescriptor.specs.Row.{TypeRow}
 use Rattle.typedescriptor.specs.Slots.{slotRow}
@@ -66,18 +67,13 @@ pub record Table : Type 0 where
   pub count : ℕ
   pub base : ℕ
 
+abbrev pub tableIn : BlockBody → Option Table
+tableIn (BlockBody.Table o n a) = some (record { count = n; base = a })
+tableIn (BlockBody.At a) = none
+tableIn (BlockBody.Set s n) = none
+
 abbrev pub tableOf : Block → Option Table
-tableOf (Block.VTable o n a) = some (record { count = n; base = a })
-tableOf (Block.OverrideTable n a) = some (record { count = n; base = a })
-tableOf (Block.Prespecializations n a) = some (record { count = n; base = a })
-tableOf (Block.DefaultOverrideTable n a) = some (record { count = n; base = a })
-tableOf (Block.Generic a) = none
-tableOf (Block.ResilientSuperclass a) = none
-tableOf (Block.ForeignMetadataInit a) = none
-tableOf (Block.SingletonMetadataInit a) = none
-tableOf (Block.ObjcResilientClassStub a) = none
-tableOf (Block.InvertibleProtocolSet s n) = none
-tableOf (Block.SingletonMetadataPointer a) = none
+tableOf b = tableIn (b .body)
 
 -- an entry of a slot's table: the block, and the entries up to it
 unfoldable pub entryOfSlot : Sections → ℕ → EntryKind → ℕ → Reads Entry

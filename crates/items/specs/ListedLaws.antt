@@ -7,7 +7,7 @@ use native.Mathlib.Decide.{decLt}
 use native.Mathlib.Omega.{arith}
 use mathlib.Core.Path.{_≡_, refl, sym, ap, _∙_}
 use mathlib.Core.List.{List, [], _∷_, map}
-use mathlib.Core.Bool.{Bool, true, false, cond, _&&_, false≢true}
+use mathlib.Core.Bool.{Bool, true, false, cond}
 use mathlib.Core.Option.{Option, some, none, Option·map}
 use lib.ListN.{length, take, drop, getElem?}
 use lib.Dec.{leb, ltb}
@@ -15,8 +15,8 @@ use borrow.Author.Tests.{lt-ltb, le-ltb}
 use Rattle.runtime.specs.Reads.{Reads, done, nothing, andThen, run, bind}
 use Rattle.runtime.specs.ReadsLaws.{run-bind}
 use Rattle.runtime.specs.PathLaws.{bytes-read}
-use Rattle.classtrailers.specs.Blocks.{Trailing, Row, blockTable, rowAt, readHeader, recordAt, reached, blockIn, rowNumber, block, withBlock, blocksOf, blocks}
-use Rattle.classtrailers.specs.BlocksLaws.{stepped as steppedBlocks, stepped-blocks}
+use Rattle.classtrailers.specs.Blocks.{Trailing, placedBlock, tableBlock, Row, blockTable, rowAt, rowNumber, block, withBlock, blocksOf, blocks}
+use Rattle.classtrailers.specs.BlocksLaws.{stepped as steppedBlocks, stepped-blocks, RecordedAs, block-recorded}
 use Rattle.classtrailers.specs.declared.block.Block.{Block}
 use Rattle.classtrailers.specs.declared.block.BlockKind.{BlockKind}
 use Rattle.typedescriptor.specs.Row.{TypeRow}
@@ -121,60 +121,6 @@ module _ (image segments : List ℕ) (s : Sections) where
   unfolding item
   no-row k i t e = no-row-no-item k i t (λ j u. let q : i ≡ j = cc in rw q at (un-map-none image segments Answer.row (rowOfSlot s i) e))
 
--- the kind of a block
-abbrev pub kindOf : Block → BlockKind
-kindOf (Block.Generic a) = BlockKind.Generic
-kindOf (Block.ResilientSuperclass a) = BlockKind.ResilientSuperclass
-kindOf (Block.ForeignMetadataInit a) = BlockKind.ForeignMetadataInit
-kindOf (Block.SingletonMetadataInit a) = BlockKind.SingletonMetadataInit
-kindOf (Block.VTable o n a) = BlockKind.VTable
-kindOf (Block.OverrideTable n a) = BlockKind.OverrideTable
-kindOf (Block.ObjcResilientClassStub a) = BlockKind.ObjcResilientClassStub
-kindOf (Block.Prespecializations n a) = BlockKind.Prespecializations
-kindOf (Block.InvertibleProtocolSet s n) = BlockKind.InvertibleProtocolSet
-kindOf (Block.SingletonMetadataPointer a) = BlockKind.SingletonMetadataPointer
-kindOf (Block.DefaultOverrideTable n a) = BlockKind.DefaultOverrideTable
-
-recorded-kind : (k : BlockKind) (a : ℕ) (h : List ℕ) → kindOf (rowAt (rowNumber k) .recorded a h) ≡ k
-unfolding rowAt
-recorded-kind BlockKind.Generic a h = refl
-recorded-kind BlockKind.ResilientSuperclass a h = refl
-recorded-kind BlockKind.ForeignMetadataInit a h = refl
-recorded-kind BlockKind.SingletonMetadataInit a h = refl
-recorded-kind BlockKind.VTable a h = refl
-recorded-kind BlockKind.OverrideTable a h = refl
-recorded-kind BlockKind.ObjcResilientClassStub a h = refl
-recorded-kind BlockKind.Prespecializations a h = refl
-recorded-kind BlockKind.InvertibleProtocolSet a h = refl
-recorded-kind BlockKind.SingletonMetadataPointer a h = refl
-recorded-kind BlockKind.DefaultOverrideTable a h = refl
-
-module _ (image segments : List ℕ) where
-  record-is : (r : Row) (a : ℕ) (k : BlockKind) (x : Block) → ((h : List ℕ) → kindOf (r .recorded a h) ≡ k) → run image segments (recordAt r a) ≡ some x → kindOf x ≡ k
-  unfolding recordAt run
-  record-is r a k x is e = header (r .header) e
-    where
-      tested : (b : Bool) (h : List ℕ) → run image segments (cond b nothing (done (r .recorded a h))) ≡ some x → kindOf x ≡ k
-      tested true h f = let z : _≡_ {A = ℕ} 0 1 = cc in absurd (omega arith)
-      tested false h f = let g : r .recorded a h ≡ x = cc in ap kindOf (sym g) ∙ is h
-
-      header : (n : ℕ) → run image segments (readHeader a n (λ h. cond (r .bounded && leb (2 ^ 64) (a + r .size h)) nothing (done (r .recorded a h)))) ≡ some x → kindOf x ≡ k
-      header zero f = tested (r .bounded && leb (2 ^ 64) (a + r .size [])) [] f
-      header (suc n) f =
-          let w = bytes-read image segments a x (suc n) (λ h. cond (r .bounded && leb (2 ^ 64) (a + r .size h)) nothing (done (r .recorded a h))) f in
-          tested (r .bounded && leb (2 ^ 64) (a + r .size (take (suc n) (drop (w .offset) image)))) (take (suc n) (drop (w .offset) image)) (w .goes)
-
-  -- a block of a kind is of that kind
-  pub block-kind : (t : Trailing) (start : ℕ) (k : BlockKind) (x : Block) → run image segments (block t start k) ≡ some x → kindOf x ≡ k
-  unfolding block blockIn run
-  block-kind t start k x e =
-      let w = Hung.both-read image segments (reached t start (rowNumber k)) (λ a. cond (rowAt (rowNumber k) .there t) (recordAt (rowAt (rowNumber k)) a) nothing) x e in
-      there (w .first) (rowAt (rowNumber k) .there t) (w .goes)
-    where
-      there : (a : ℕ) (b : Bool) → run image segments (cond b (recordAt (rowAt (rowNumber k)) a) nothing) ≡ some x → kindOf x ≡ k
-      there a true f = record-is (rowAt (rowNumber k)) a k x (recorded-kind k a) f
-      there a false f = let z : _≡_ {A = ℕ} 0 1 = cc in absurd (omega arith)
-
 -- ---- blocks
 
 -- the keys of a slot's blocks, in the order of the table
@@ -200,7 +146,7 @@ kind-in BlockKind.SingletonMetadataPointer = refl
 kind-in BlockKind.DefaultOverrideTable = refl
 
 abbrev pub blockItem : ℕ → Block → Item
-blockItem i x = record { key = Key.block i (kindOf x); answer = Answer.block x }
+blockItem i x = record { key = Key.block i (x .kind); answer = Answer.block x }
 
 module _ (image segments : List ℕ) (s : Sections) (i : ℕ) (r : TypeRow) (is-row : run image segments (item s (Key.row i)) ≡ some (Answer.row r)) where
   the-row : run image segments (rowOfSlot s i) ≡ some r
@@ -246,8 +192,10 @@ module _ (image segments : List ℕ) (s : Sections) (i : ℕ) (r : TypeRow) (is-
             ≡ withItem (Key.block i k) (run image segments (item s (Key.block i k))) (itemsOf image segments s (blockKeys i ks))
         go further none e = rw (block-listed k, e) further
         go further (some x) e =
-            let q : kindOf x ≡ k = block-kind image segments (trailing (r .flags) b) (trailingStart (r .address) b) k x e in
-            rw (block-listed k, e, q) (ap (λ (l : List Item). record { key = Key.block i k; answer = Answer.block x } ∷ l) further)
+            let q : x .kind ≡ k = ap (λ (y : Block). y .kind) (block-recorded image segments k (trailing (r .flags) b) (trailingStart (r .address) b) x e .is) in
+            rw (block-listed k, e)
+            (ap (λ (j : BlockKind). record { key = Key.block i j; answer = Answer.block x } ∷ map (blockItem i) rest) q
+            ∙ ap (λ (l : List Item). record { key = Key.block i k; answer = Answer.block x } ∷ l) further)
 
     -- a walk that starts behind the body: as many steps as there are kinds, or more, give the blocks of all kinds
     pub blocks-listed : (n : ℕ) → 11 ≤ n
@@ -356,52 +304,18 @@ module _ (image segments : List ℕ) (s : Sections) (i m : ℕ) where
 
 -- ---- what hangs on a block
 
--- kinds of blocks that have entries
-abbrev hasTable : BlockKind → Bool
-hasTable BlockKind.Generic = false
-hasTable BlockKind.ResilientSuperclass = false
-hasTable BlockKind.ForeignMetadataInit = false
-hasTable BlockKind.SingletonMetadataInit = false
-hasTable BlockKind.VTable = true
-hasTable BlockKind.OverrideTable = true
-hasTable BlockKind.ObjcResilientClassStub = false
-hasTable BlockKind.Prespecializations = true
-hasTable BlockKind.InvertibleProtocolSet = false
-hasTable BlockKind.SingletonMetadataPointer = false
-hasTable BlockKind.DefaultOverrideTable = true
-
-entries-have : (e : EntryKind) → hasTable (tableKind e) ≡ true
-entries-have EntryKind.methods = refl
-entries-have EntryKind.overrides = refl
-entries-have EntryKind.defaultOverrides = refl
-entries-have EntryKind.prespecializations = refl
-
 pub record TableIn (x : Block) : Type 0 where
   pub table : Table
   pub is : tableOf x ≡ some table
 
-table-in : (x : Block) → hasTable (kindOf x) ≡ true → TableIn x
-table-in (Block.VTable o n a) h = record { table = record { count = n; base = a }; is = refl }
-table-in (Block.OverrideTable n a) h = record { table = record { count = n; base = a }; is = refl }
-table-in (Block.Prespecializations n a) h = record { table = record { count = n; base = a }; is = refl }
-table-in (Block.DefaultOverrideTable n a) h = record { table = record { count = n; base = a }; is = refl }
-table-in (Block.Generic a) h = absurd (false≢true h)
-table-in (Block.ResilientSuperclass a) h = absurd (false≢true h)
-table-in (Block.ForeignMetadataInit a) h = absurd (false≢true h)
-table-in (Block.SingletonMetadataInit a) h = absurd (false≢true h)
-table-in (Block.ObjcResilientClassStub a) h = absurd (false≢true h)
-table-in (Block.InvertibleProtocolSet s n) h = absurd (false≢true h)
-table-in (Block.SingletonMetadataPointer a) h = absurd (false≢true h)
+table-in : (e : EntryKind) (x : Block) → RecordedAs (tableKind e) x → TableIn x
+unfolding rowAt
+table-in EntryKind.methods x w = record { table = _; is = ap tableOf (w .is) }
+table-in EntryKind.overrides x w = record { table = _; is = ap tableOf (w .is) }
+table-in EntryKind.defaultOverrides x w = record { table = _; is = ap tableOf (w .is) }
+table-in EntryKind.prespecializations x w = record { table = _; is = ap tableOf (w .is) }
 
 module _ (image segments : List ℕ) (s : Sections) (i : ℕ) where
-  -- a slot's block of a kind is of that kind
-  slot-block-kind : (k : BlockKind) (x : Block) → run image segments (blockOfSlot s i k) ≡ some x → kindOf x ≡ k
-  unfolding slotBlock
-  slot-block-kind k x e =
-      let w = Hung.both-read image segments (rowOfSlot s i) _ x e in
-      let v = Hung.both-read image segments (body (w .first .address) (w .first .flags)) _ x (w .goes) in
-      block-kind image segments (trailing (w .first .flags) (v .first)) (trailingStart (w .first .address) (v .first)) k x (v .goes)
-
   module _ (e : EntryKind) where
     -- no entries without their block
     pub no-entry : (k : ℕ) → run image segments (item s (Key.block i (tableKind e))) ≡ none → run image segments (item s (Key.entry i e k)) ≡ none
@@ -415,7 +329,7 @@ module _ (image segments : List ℕ) (s : Sections) (i : ℕ) where
 
       -- the block has them
       pub has-entries : TableIn x
-      has-entries = table-in x (ap hasTable (slot-block-kind (tableKind e) x entries-block) ∙ entries-have e)
+      has-entries = table-in e x (Hung.slot-block-recorded image segments _ _ i (tableKind e) x entries-block)
 
       -- a walk that starts at them: as many steps as there are entries, or more, give a list whose entry `k` is item `k`, for every `k`
       pub entries-listed : (t : Table) → tableOf x ≡ some t → (n k : ℕ) → t .count ≤ n
@@ -434,46 +348,46 @@ module _ (image segments : List ℕ) (s : Sections) (i : ℕ) where
     abbrev steps : Layout → Option Answer
     steps layout = Option·map Answer.entry (getElem? (listedEntries image segments layout n (start base count)) k)
 
-    pub methods-listed : (offset : ℕ) → run image segments (item s (Key.block i BlockKind.VTable)) ≡ some (Answer.block (Block.VTable offset count base))
+    pub methods-listed : (offset : ℕ) → run image segments (item s (Key.block i BlockKind.VTable)) ≡ some (Answer.block (tableBlock BlockKind.VTable offset count base))
         → steps method ≡ run image segments (item s (Key.entry i EntryKind.methods k))
-    methods-listed offset e = entries-listed EntryKind.methods (Block.VTable offset count base) e (record { count = count; base = base }) refl n k h
+    methods-listed offset e = entries-listed EntryKind.methods (tableBlock BlockKind.VTable offset count base) e (record { count = count; base = base }) refl n k h
 
-    pub overrides-listed : run image segments (item s (Key.block i BlockKind.OverrideTable)) ≡ some (Answer.block (Block.OverrideTable count base))
+    pub overrides-listed : run image segments (item s (Key.block i BlockKind.OverrideTable)) ≡ some (Answer.block (tableBlock BlockKind.OverrideTable 0 count base))
         → steps override ≡ run image segments (item s (Key.entry i EntryKind.overrides k))
-    overrides-listed e = entries-listed EntryKind.overrides (Block.OverrideTable count base) e (record { count = count; base = base }) refl n k h
+    overrides-listed e = entries-listed EntryKind.overrides (tableBlock BlockKind.OverrideTable 0 count base) e (record { count = count; base = base }) refl n k h
 
-    pub default-overrides-listed : run image segments (item s (Key.block i BlockKind.DefaultOverrideTable)) ≡ some (Answer.block (Block.DefaultOverrideTable count base))
+    pub default-overrides-listed : run image segments (item s (Key.block i BlockKind.DefaultOverrideTable)) ≡ some (Answer.block (tableBlock BlockKind.DefaultOverrideTable 0 count base))
         → steps defaultOverride ≡ run image segments (item s (Key.entry i EntryKind.defaultOverrides k))
-    default-overrides-listed e = entries-listed EntryKind.defaultOverrides (Block.DefaultOverrideTable count base) e (record { count = count; base = base }) refl n k h
+    default-overrides-listed e = entries-listed EntryKind.defaultOverrides (tableBlock BlockKind.DefaultOverrideTable 0 count base) e (record { count = count; base = base }) refl n k h
 
-    pub prespecializations-listed : run image segments (item s (Key.block i BlockKind.Prespecializations)) ≡ some (Answer.block (Block.Prespecializations count base))
+    pub prespecializations-listed : run image segments (item s (Key.block i BlockKind.Prespecializations)) ≡ some (Answer.block (tableBlock BlockKind.Prespecializations 0 count base))
         → steps prespecialization ≡ run image segments (item s (Key.entry i EntryKind.prespecializations k))
-    prespecializations-listed e = entries-listed EntryKind.prespecializations (Block.Prespecializations count base) e (record { count = count; base = base }) refl n k h
+    prespecializations-listed e = entries-listed EntryKind.prespecializations (tableBlock BlockKind.Prespecializations 0 count base) e (record { count = count; base = base }) refl n k h
 
   -- the records of a singleton, each by its block's address
   pub no-init : run image segments (item s (Key.block i BlockKind.SingletonMetadataInit)) ≡ none → run image segments (item s (Key.initialization i)) ≡ none
   unfolding item
   no-init f = map-none image segments _ (Hung.no-block-no-init image segments _ _ i (un-map-none image segments Answer.block (blockOfSlot s i BlockKind.SingletonMetadataInit) f)) _
 
-  pub init-listed : (v : ℕ) → run image segments (item s (Key.block i BlockKind.SingletonMetadataInit)) ≡ some (Answer.block (Block.SingletonMetadataInit v))
+  pub init-listed : (v : ℕ) → run image segments (item s (Key.block i BlockKind.SingletonMetadataInit)) ≡ some (Answer.block (placedBlock BlockKind.SingletonMetadataInit v))
       → run image segments (item s (Key.initialization i)) ≡ Option·map Answer.initialization (run image segments (singletonInit v))
   unfolding item
   init-listed v f =
       run-map image segments Answer.initialization (initOfSlot s i)
       ∙ ap (Option·map Answer.initialization)
-      (Hung.slot-init image segments (s .types) (s .typesStart) i v (un-map image segments Answer.block (blockOfSlot s i BlockKind.SingletonMetadataInit) (Block.SingletonMetadataInit v) (λ a e. cc) f))
+      (Hung.slot-init image segments (s .types) (s .typesStart) i v (un-map image segments Answer.block (blockOfSlot s i BlockKind.SingletonMetadataInit) (placedBlock BlockKind.SingletonMetadataInit v) (λ a e. cc) f))
 
   pub no-pointer : run image segments (item s (Key.block i BlockKind.SingletonMetadataPointer)) ≡ none → run image segments (item s (Key.pointer i)) ≡ none
   unfolding item
   no-pointer f = map-none image segments _ (Hung.no-block-no-pointer image segments _ _ i (un-map-none image segments Answer.block (blockOfSlot s i BlockKind.SingletonMetadataPointer) f)) _
 
-  pub pointer-listed : (v : ℕ) → run image segments (item s (Key.block i BlockKind.SingletonMetadataPointer)) ≡ some (Answer.block (Block.SingletonMetadataPointer v))
+  pub pointer-listed : (v : ℕ) → run image segments (item s (Key.block i BlockKind.SingletonMetadataPointer)) ≡ some (Answer.block (placedBlock BlockKind.SingletonMetadataPointer v))
       → run image segments (item s (Key.pointer i)) ≡ Option·map Answer.pointer (run image segments (singletonPointer v))
   unfolding item
   pointer-listed v f =
       run-map image segments Answer.pointer (pointerOfSlot s i)
       ∙ ap (Option·map Answer.pointer)
-      (Hung.slot-pointer image segments (s .types) (s .typesStart) i v (un-map image segments Answer.block (blockOfSlot s i BlockKind.SingletonMetadataPointer) (Block.SingletonMetadataPointer v) (λ a e. cc) f))
+      (Hung.slot-pointer image segments (s .types) (s .typesStart) i v (un-map image segments Answer.block (blockOfSlot s i BlockKind.SingletonMetadataPointer) (placedBlock BlockKind.SingletonMetadataPointer v) (λ a e. cc) f))
 
 -- ---- fields
 

@@ -16,8 +16,7 @@ use Rattle.segment.specs.Segments.{segmentsOf, fileOffset, decides, inFile}
 use Rattle.util.specs.Cstr.{textAt}
 use Rattle.runtime.specs.Reads.{within, bytesPlace, textOffset, run, extent, Range, path, bind, All, Clear}
 use Rattle.context.specs.Context.{kindOf}
-use Rattle.classtrailers.specs.Blocks.{rowAt, recordAt, endAt, passed, reached, blockIn, block}
-use Rattle.classtrailers.specs.declared.block.Block.{Block}
+use Rattle.classtrailers.specs.Blocks.{tableBlock, rowAt, below, blockAt, recordAt, endAt, passed, reached, blockIn, block}
 use Rattle.classtrailers.specs.declared.block.BlockKind.{BlockKind}
 use Rattle.typedescriptor.specs.Row.{rowName, descriptor}
 use Rattle.typedescriptor.specs.Slots.{slotRow}
@@ -89,8 +88,8 @@ pub record Worked : Type 0 where
   -- context 1: the row's, and the 8 bytes of contexts 0 and 1
   pub context-1 : reads (Key.context 0 1) ≡ rowReads ++ (bytesTo 88 96 ∷ bytesTo 96 104 ∷ [])
   -- what they say
-  pub says-vtable : told image (Key.block 0 BlockKind.VTable) ≡ some (Answer.block (Block.VTable 0 2 0x1038))
-  pub says-overrides : told image (Key.block 0 BlockKind.OverrideTable) ≡ some (Answer.block (Block.OverrideTable 1 0x104c))
+  pub says-vtable : told image (Key.block 0 BlockKind.VTable) ≡ some (Answer.block (tableBlock BlockKind.VTable 0 2 0x1038))
+  pub says-overrides : told image (Key.block 0 BlockKind.OverrideTable) ≡ some (Answer.block (tableBlock BlockKind.OverrideTable 0 1 0x104c))
   pub says-method : told image (Key.entry 0 EntryKind.methods 1) ≡ some (Answer.entry (record { address = 0x1040; words = 17 ∷ 0 ∷ [] }))
   pub says-context : told image (Key.context 0 1) ≡ some (Answer.context (record { address = 0x1060; flags = 0; parent = 0 }))
   -- the name is the only text, and stands first
@@ -103,7 +102,7 @@ pub record Worked : Type 0 where
   pub cut-75 : told (take 75 image) (Key.block 0 BlockKind.OverrideTable) ≡ none
 
 pub worked : Worked
-unfolding run path bind bytesPlace within textOffset extent segmentsOf fileOffset decides inFile table following goesOn textAt textLength untilNul unsignedIn signedIn littleAt signedAt bytesAt littleEndian twosComplement relativeAddress relativePointer descriptor rowName slotRow mapReads item classBody bodyBytes body slotBody rowAt recordAt endAt passed reached blockIn block slotBlock entryAt upTo entry entryOfSlot headerIn header headerAt contextOfSlot kindOf
+unfolding run path bind bytesPlace within textOffset extent segmentsOf fileOffset decides inFile table following goesOn textAt textLength untilNul unsignedIn signedIn littleAt signedAt bytesAt littleEndian twosComplement relativeAddress relativePointer descriptor rowName slotRow mapReads item classBody bodyBytes body slotBody rowAt below blockAt recordAt endAt passed reached blockIn block slotBlock entryAt upTo entry entryOfSlot headerIn header headerAt contextOfSlot kindOf
 worked =
     record {
       row = refl;

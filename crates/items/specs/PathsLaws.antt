@@ -13,7 +13,7 @@ use Rattle.segment.specs.Segments.{segmentsOf, fileOffset}
 use Rattle.runtime.specs.Reads.{Reads, done, bytes, run, Range, bytesRange, withNul, path, bind}
 use Rattle.runtime.specs.ReadsLaws.{run-bind, path-bind}
 use Rattle.runtime.specs.PathLaws.{bytes-read}
-use Rattle.classtrailers.specs.Blocks.{rowNumber}
+use Rattle.classtrailers.specs.Blocks.{placedBlock, rowNumber}
 use Rattle.classtrailers.specs.PathLaws.{headers, block-path as own-headers}
 use Rattle.classtrailers.specs.declared.block.Block.{Block}
 use Rattle.classtrailers.specs.declared.block.BlockKind.{BlockKind}
@@ -198,29 +198,29 @@ module _ (image segments : List ℕ) where
         (ap (λ (l : List Range). l ++ ranges segments (entryLayout e) (t .base) k) (sym (block-reads (tableKind e) x is-block)))
 
     -- the records of a singleton: their block's path, and the 12 or 4 bytes that they read
-    pub init-path : (v : ℕ) (y : Initialization) → run image segments (item s (Key.block i BlockKind.SingletonMetadataInit)) ≡ some (Answer.block (Block.SingletonMetadataInit v))
+    pub init-path : (v : ℕ) (y : Initialization) → run image segments (item s (Key.block i BlockKind.SingletonMetadataInit)) ≡ some (Answer.block (placedBlock BlockKind.SingletonMetadataInit v))
         → run image segments (item s (Key.initialization i)) ≡ some (Answer.initialization y)
         → path image segments (item s (Key.initialization i)) ≡ path image segments (item s (Key.block i BlockKind.SingletonMetadataInit)) ++ (bytesAt segments v 12 ∷ [])
     unfolding item singletonInit
     init-path v y is-block is-init =
-        let b = the-block BlockKind.SingletonMetadataInit (Block.SingletonMetadataInit v) is-block in
+        let b = the-block BlockKind.SingletonMetadataInit (placedBlock BlockKind.SingletonMetadataInit v) is-block in
         let there : run image segments (initOfSlot s i) ≡ some y = un-map image segments Answer.initialization (initOfSlot s i) y (λ a e. cc) is-init in
         let w = bytes-read image segments v y 12 (targets v) (sym (Hung.slot-init image segments (s .types) (s .typesStart) i v b) ∙ there) in
         path-map image segments Answer.initialization (initOfSlot s i)
         ∙ Hung.init-path image segments (s .types) (s .typesStart) i v b y (offsetIn segments v) there (placed segments v (w .offset) (w .at))
-        ∙ ap (λ (l : List Range). l ++ (bytesAt segments v 12 ∷ [])) (sym (block-reads BlockKind.SingletonMetadataInit (Block.SingletonMetadataInit v) is-block))
+        ∙ ap (λ (l : List Range). l ++ (bytesAt segments v 12 ∷ [])) (sym (block-reads BlockKind.SingletonMetadataInit (placedBlock BlockKind.SingletonMetadataInit v) is-block))
 
-    pub pointer-path : (v y : ℕ) → run image segments (item s (Key.block i BlockKind.SingletonMetadataPointer)) ≡ some (Answer.block (Block.SingletonMetadataPointer v))
+    pub pointer-path : (v y : ℕ) → run image segments (item s (Key.block i BlockKind.SingletonMetadataPointer)) ≡ some (Answer.block (placedBlock BlockKind.SingletonMetadataPointer v))
         → run image segments (item s (Key.pointer i)) ≡ some (Answer.pointer y)
         → path image segments (item s (Key.pointer i)) ≡ path image segments (item s (Key.block i BlockKind.SingletonMetadataPointer)) ++ (bytesAt segments v 4 ∷ [])
     unfolding item singletonPointer
     pointer-path v y is-block is-pointer =
-        let b = the-block BlockKind.SingletonMetadataPointer (Block.SingletonMetadataPointer v) is-block in
+        let b = the-block BlockKind.SingletonMetadataPointer (placedBlock BlockKind.SingletonMetadataPointer v) is-block in
         let there : run image segments (pointerOfSlot s i) ≡ some y = un-map image segments Answer.pointer (pointerOfSlot s i) y (λ a e. cc) is-pointer in
         let w = bytes-read image segments v y 4 (λ h. done (relativeAddress v (signedIn 4 h 0))) (sym (Hung.slot-pointer image segments (s .types) (s .typesStart) i v b) ∙ there) in
         path-map image segments Answer.pointer (pointerOfSlot s i)
         ∙ Hung.pointer-path image segments (s .types) (s .typesStart) i v b y (offsetIn segments v) there (placed segments v (w .offset) (w .at))
-        ∙ ap (λ (l : List Range). l ++ (bytesAt segments v 4 ∷ [])) (sym (block-reads BlockKind.SingletonMetadataPointer (Block.SingletonMetadataPointer v) is-block))
+        ∙ ap (λ (l : List Range). l ++ (bytesAt segments v 4 ∷ [])) (sym (block-reads BlockKind.SingletonMetadataPointer (placedBlock BlockKind.SingletonMetadataPointer v) is-block))
 
   -- ---- fields
 

@@ -13,13 +13,13 @@ use Rattle.runtime.specs.ReadsLaws.{run-bind, path-bind}
 use Rattle.util.specs.LittleEndian.{unsignedIn}
 use Rattle.context.specs.Context.{contextKind, hasName}
 use Rattle.context.specs.declared.descriptor.ContextDescriptorKind.{ContextDescriptorKind}
-use Rattle.classtrailers.specs.Blocks.{Trailing, Row, rowAt, readHeader, recordAt, endAt, passed, reached, blockIn, rowNumber, block}
+use Rattle.classtrailers.specs.Blocks.{Trailing, Row, rowAt, readHeader, below, ended, blockAt, recordAt, somewhere, endAt, passed, reached, blockIn, rowNumber, block}
 use Rattle.classtrailers.specs.declared.block.Block.{Block}
 use Rattle.classtrailers.specs.declared.block.BlockKind.{BlockKind}
 use Rattle.typedescriptor.specs.Slots.{slots, slotAddress}
 use Rattle.typebody.specs.Body.{Body, ofClass, ofStruct, ofEnum, bodyBytes, bodyOfKind, body, slotBody, trailing, trailingStart}
 use Rattle.typebody.specs.Singleton.{initialization, slotTarget, needing, targets, singletonInit, singletonPointer}
-use Rattle.typebody.specs.Items.{slotBlock, slotInit, slotPointer, initOfBlock, pointerOfBlock}
+use Rattle.typebody.specs.Items.{placeOf, slotBlock, slotInit, slotPointer, initOfBlock, pointerOfBlock}
 use Rattle.fieldoffsets.specs.Offsets.{vector, u32s, fieldOffsets, slotOffsets}
 use Rattle.vtable.specs.Entries.{Layout, entrySize, entryOf, entryAddress, entryAt, upTo, entry}
 use Rattle.field.specs.Fields.{descriptorFrom, given, descriptorAt}
@@ -158,21 +158,30 @@ module _ (image segments : List ℕ) (P : Range → Type 0) (onBytes : (o n : �
       go (ContextDescriptorKind.Other n) = on-nothing
 
   -- blocks
+  on-block-at : (r : Row) (a : ℕ) → On (blockAt r a)
+  unfolding blockAt
+  on-block-at r a = on-header a (r .header) (λ h. go (r .bounded) (record { kind = r .kind; body = r .recorded a h }) (below (a + r .size h)))
+    where
+      go : (c : Bool) (b : Block) (e : Option ℕ) → On (ended c b e)
+      go true b none = on-nothing
+      go true b (some e) = on-done _
+      go false b e = on-done _
+
+  on-somewhere : (e : Option ℕ) → On (somewhere e)
+  on-somewhere none = on-nothing
+  on-somewhere (some e) = on-done e
+
   on-reached : (t : Trailing) (start n : ℕ) → On (reached t start n)
   unfolding reached passed endAt
   on-reached t start zero = on-done start
   on-reached t start (suc n) =
-      on-bind (on-reached t start n)
-      (λ a. on-cond (rowAt n .there t)
-      (on-header a (rowAt n .header) (λ h. on-cond (leb (2 ^ 64) (a + rowAt n .size h)) on-nothing (on-done (a + rowAt n .size h)))) (on-done a))
+      on-bind (on-reached t start n) (λ a. on-cond (rowAt n .there t) (on-bind (on-block-at (rowAt n) a) (λ x. on-somewhere (x .end))) (on-done a))
 
   pub on-block : (t : Trailing) (start : ℕ) (k : BlockKind) → On (block t start k)
   unfolding block blockIn recordAt
   on-block t start k =
       let r : Row = rowAt (rowNumber k) in
-      on-bind (on-reached t start (rowNumber k))
-      (λ a. on-cond (r .there t)
-      (on-header a (r .header) (λ h. on-cond (r .bounded && leb (2 ^ 64) (a + r .size h)) on-nothing (on-done (r .recorded a h)))) on-nothing)
+      on-bind (on-reached t start (rowNumber k)) (λ a. on-cond (r .there t) (on-bind (on-block-at r a) (λ x. on-done (x .block))) on-nothing)
 
   -- entries
   on-entry-at : (layout : Layout) (base n : ℕ) → On (entryAt layout base n)
@@ -193,33 +202,14 @@ module _ (image segments : List ℕ) (P : Range → Type 0) (onBytes : (o n : �
   -- singleton records
   pub on-init : (b : Block) → On (initOfBlock b)
   unfolding singletonInit targets
-  on-init (Block.SingletonMetadataInit a) =
-      on-bytes a 12
-      (λ h. on-needing (slotTarget a h 0) (λ c. on-needing (slotTarget a h 4) (λ i. on-needing (slotTarget a h 8) (λ f. on-done (initialization c i f)))))
-  on-init (Block.Generic a) = on-nothing
-  on-init (Block.ResilientSuperclass a) = on-nothing
-  on-init (Block.ForeignMetadataInit a) = on-nothing
-  on-init (Block.VTable o n a) = on-nothing
-  on-init (Block.OverrideTable n a) = on-nothing
-  on-init (Block.ObjcResilientClassStub a) = on-nothing
-  on-init (Block.Prespecializations n a) = on-nothing
-  on-init (Block.InvertibleProtocolSet s n) = on-nothing
-  on-init (Block.SingletonMetadataPointer a) = on-nothing
-  on-init (Block.DefaultOverrideTable n a) = on-nothing
+  on-init b =
+      on-needing (placeOf (b .body))
+      (λ a. on-bytes a 12
+      (λ h. on-needing (slotTarget a h 0) (λ c. on-needing (slotTarget a h 4) (λ i. on-needing (slotTarget a h 8) (λ f. on-done (initialization c i f))))))
 
   pub on-pointer : (b : Block) → On (pointerOfBlock b)
   unfolding singletonPointer
-  on-pointer (Block.SingletonMetadataPointer a) = on-bytes a 4 (λ h. on-done _)
-  on-pointer (Block.Generic a) = on-nothing
-  on-pointer (Block.ResilientSuperclass a) = on-nothing
-  on-pointer (Block.ForeignMetadataInit a) = on-nothing
-  on-pointer (Block.SingletonMetadataInit a) = on-nothing
-  on-pointer (Block.VTable o n a) = on-nothing
-  on-pointer (Block.OverrideTable n a) = on-nothing
-  on-pointer (Block.ObjcResilientClassStub a) = on-nothing
-  on-pointer (Block.Prespecializations n a) = on-nothing
-  on-pointer (Block.InvertibleProtocolSet s n) = on-nothing
-  on-pointer (Block.DefaultOverrideTable n a) = on-nothing
+  on-pointer b = on-needing (placeOf (b .body)) (λ a. on-bytes a 4 (λ h. on-done _))
 
   -- contexts
   on-head : (a : ℕ) → On (header a)

@@ -15,6 +15,7 @@ use Rattle.util.specs.Pointer.{relativePointer}
 use Rattle.segment.specs.Segments.{segmentsOf, fileOffset, decides, inFile}
 use Rattle.util.specs.Cstr.{place, textAt}
 use Rattle.classtrailers.specs.Checked as Blocks
+use Rattle.typebody.specs.Checked as Bodies
 
 abbrev partly : List ℕ
 partly = 0x1000 ∷ 64 ∷ 0 ∷ 32 ∷ []
@@ -33,6 +34,8 @@ pub record Checked : Type 0 where
   pub past-end : (s : List ℕ) → textAt s (suc (length s)) ≡ none
   -- generic sizes, and where the tables of a class lie
   pub blocks : Blocks.CheckedBlocks
+  -- the class at an address, from its body on
+  pub class : Bodies.CheckedClass
 
 pub checked : Checked
 unfolding relativePointer segmentsOf fileOffset decides inFile table following goesOn textAt textLength untilNul
@@ -50,4 +53,5 @@ checked =
       at-end = λ s. simp (le-leb (length s) (length s) (omega arith)) (rw drop-length);
       past-end = λ s. simp (lt-leb (suc (length s)) (length s) (omega arith));
       blocks = Blocks.checked-blocks;
+      class = Bodies.checked-class;
     }

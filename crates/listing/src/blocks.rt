@@ -16,7 +16,6 @@ use classtrailers::Trailing;
 use refusal::Refusal;
 use typebody::TrailingRead;
 use typebody::TypeBody;
-use typedescriptor::Row;
 
 // The number of a walk that is over: how many kinds of blocks there are.
 const OVER: u32 = 11;
@@ -33,20 +32,12 @@ pub enum BlockAnswer {
     Refused(Refusal),
 }
 
-// The walk over the blocks of a row with this body: it is over where nothing follows.
-pub fn block_walk(row: Row, body: TypeBody) -> BlockWalk
-    ensures { λ r. ⌜ walkOf r ≡ walkFrom (trailers (row .address) (row .flags) (bodyOf body)) ⌝ }
+// The walk over the blocks of a descriptor at an address with these flags and this body: it is over where nothing follows.
+pub fn block_walk(address: u64, flags: u32, body: TypeBody) -> BlockWalk
+    ensures { λ r. ⌜ walkOf r ≡ walkFrom (trailers address flags (bodyOf body)) ⌝ }
 {
-    match typebody::trailing(row.address, row.flags, body) {
-        TrailingRead::Start(first) => BlockWalk {
-            trailing: Trailing {
-                flags: first.flags,
-                is_class: first.is_class,
-                extra: first.extra,
-            },
-            row: 0,
-            address: first.start,
-        },
+    match typebody::trailing(address, flags, body) {
+        TrailingRead::Start { trailing, start } => BlockWalk::start(trailing, start),
         TrailingRead::Nothing => BlockWalk {
             trailing: Trailing {
                 flags: 0,
@@ -72,27 +63,23 @@ pub fn next_block(image: &[u8], segments: &[u64], walk: BlockWalk) -> NextBlock
     }
 }
 
-// The block of a kind of a row with this body.
+// The block of a kind of a descriptor at an address with these flags and this body.
 pub fn block_of_kind(
     image: &[u8],
     segments: &[u64],
-    row: Row,
+    address: u64,
+    flags: u32,
     body: TypeBody,
     kind: BlockKind,
 ) -> BlockAnswer
-    ensures { λ r. ⌜ blockAnswer r ≡ guarded (now (segments .entry)) (answered (kindFrom (now (image .entry)) (now (segments .entry)) kind (trailers (row .address) (row .flags) (bodyOf body)))) ⌝ }
+    ensures { λ r. ⌜ blockAnswer r ≡ guarded (now (segments .entry)) (answered (kindFrom (now (image .entry)) (now (segments .entry)) kind (trailers address flags (bodyOf body)))) ⌝ }
 {
     if segments.len() % 4 != 0 {
         return BlockAnswer::Refused(Refusal::RaggedSegments);
     }
-    match typebody::trailing(row.address, row.flags, body) {
-        TrailingRead::Start(first) => {
-            let trailing = Trailing {
-                flags: first.flags,
-                is_class: first.is_class,
-                extra: first.extra,
-            };
-            match classtrailers::block_of_kind(image, segments, trailing, first.start, kind) {
+    match typebody::trailing(address, flags, body) {
+        TrailingRead::Start { trailing, start } => {
+            match classtrailers::block_of_kind(image, segments, trailing, start, kind) {
                 BlockRead::Block(block) => BlockAnswer::Block(block),
                 BlockRead::Nothing => BlockAnswer::Nothing,
             }

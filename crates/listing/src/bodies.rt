@@ -7,7 +7,6 @@ ghost use Rattle.refusal.specs.Guarded.{guarded};
 ghost use Rattle.listing.specs.Bodies.{bodyAnswer, textAnswer};
 use refusal::Refusal;
 use typebody::TypeBody;
-use typedescriptor::Row;
 use util::Text;
 
 pub enum BodyAnswer {
@@ -20,14 +19,14 @@ pub enum TextAnswer {
     Refused(Refusal),
 }
 
-// The body of a row, by its address and its flags.
-pub fn row_body(image: &[u8], segments: &[u64], row: Row) -> BodyAnswer
-    ensures { λ r. ⌜ bodyAnswer r ≡ guarded (now (segments .entry)) (answered (run (now (image .entry)) (now (segments .entry)) (body (row .address) (row .flags)))) ⌝ }
+// The body of the descriptor at an address, which has these flags.
+pub fn row_body(image: &[u8], segments: &[u64], address: u64, flags: u32) -> BodyAnswer
+    ensures { λ r. ⌜ bodyAnswer r ≡ guarded (now (segments .entry)) (answered (run (now (image .entry)) (now (segments .entry)) (body address flags))) ⌝ }
 {
     if segments.len() % 4 != 0 {
         return BodyAnswer::Refused(Refusal::RaggedSegments);
     }
-    BodyAnswer::Body(typebody::decode_body(image, segments, row.address, row.flags))
+    BodyAnswer::Body(typebody::decode_body(image, segments, address, flags))
 }
 
 // The name of a class's superclass; there is none beside another body.

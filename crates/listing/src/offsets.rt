@@ -8,7 +8,6 @@ ghost use Rattle.listing.specs.Offsets.{offsetsAnswer};
 use fieldoffsets::FieldOffsets;
 use refusal::Refusal;
 use typebody::TypeBody;
-use typedescriptor::Row;
 
 pub enum OffsetsAnswer {
     Offsets(FieldOffsets),
@@ -30,17 +29,17 @@ pub fn field_offsets(
     OffsetsAnswer::Offsets(fieldoffsets::field_offsets(image, segments, body, metadata_va))
 }
 
-// The same of a row, by the metadata that its singleton pointer refers to.
-pub fn static_field_offsets(image: &[u8], segments: &[u64], row: Row) -> OffsetsAnswer
-    ensures { λ r. ⌜ offsetsAnswer r ≡ guarded (now (segments .entry)) (answered (staticPlace (now (image .entry)) (now (segments .entry)) (row .address) (row .flags))) ⌝ }
+// The same of the descriptor at an address, which has these flags, by the metadata that its singleton pointer refers to.
+pub fn static_field_offsets(
+    image: &[u8],
+    segments: &[u64],
+    address: u64,
+    flags: u32,
+) -> OffsetsAnswer
+    ensures { λ r. ⌜ offsetsAnswer r ≡ guarded (now (segments .entry)) (answered (staticPlace (now (image .entry)) (now (segments .entry)) address flags)) ⌝ }
 {
     if segments.len() % 4 != 0 {
         return OffsetsAnswer::Refused(Refusal::RaggedSegments);
     }
-    OffsetsAnswer::Offsets(fieldoffsets::static_field_offsets(
-        image,
-        segments,
-        row.address,
-        row.flags,
-    ))
+    OffsetsAnswer::Offsets(fieldoffsets::static_field_offsets(image, segments, address, flags))
 }

@@ -7,6 +7,7 @@
 //   name COUNT PARENT SIZE ANSWER BUFFER     what joined_name answers, and the eight bytes of which SIZE were lent
 // tests/bundles.py writes the answers.
 use classtrailers::Block;
+use classtrailers::BlockBody;
 use classtrailers::BlockKind;
 use classtrailers::BlockWalk;
 use classtrailers::Trailing;
@@ -114,19 +115,9 @@ fn unreadable() {
     io::write_all(1, b" unreadable");
 }
 
-fn row_at(address: u64, flags: u32) -> Row {
-    Row {
-        address,
-        flags,
-        parent: 0,
-        name_place: 0,
-        name_length: 0,
-    }
-}
-
 // The fields of the body.
 fn try_body(image: &[u8], segments: &[u64]) {
-    match listing::row_body(image, segments, row_at(0x1000, 17)) {
+    match listing::row_body(image, segments, 0x1000, 17) {
         BodyAnswer::Body(body) => match body {
             TypeBody::Class(_) => nothing(),
             TypeBody::Struct(fields) => number(fields.num_fields as u64),
@@ -166,8 +157,9 @@ fn try_texts(image: &[u8], segments: &[u64]) {
 
 // The address of a generic block.
 fn block(found: Block) {
-    match found {
-        Block::Generic(va) => number(va),
+    let body = found.body;
+    match body {
+        BlockBody::At(va) => number(va),
         _ => nothing(),
     }
 }
@@ -192,13 +184,7 @@ fn try_blocks(image: &[u8], segments: &[u64]) {
         num_fields: 0,
         field_offset_vector_offset: 0,
     });
-    match listing::block_of_kind(
-        image,
-        segments,
-        row_at(0xfe4, 0x91),
-        body,
-        BlockKind::Generic,
-    ) {
+    match listing::block_of_kind(image, segments, 0xfe4, 0x91, body, BlockKind::Generic) {
         BlockAnswer::Block(found) => block(found),
         BlockAnswer::Nothing => nothing(),
         BlockAnswer::Refused(refusal) => refused(refusal),

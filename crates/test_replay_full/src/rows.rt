@@ -16,6 +16,7 @@ use crate::three;
 use crate::two;
 use crate::word;
 use classtrailers::Block;
+use classtrailers::BlockBody;
 use classtrailers::BlockKind;
 use fieldoffsets::FieldOffset;
 use fieldoffsets::FieldOffsets;
@@ -97,35 +98,26 @@ fn body_lines(image: &[u8], segments: &[u64], body: TypeBody) {
 
 // Blocks.
 
-// The rest of a block's line: its kind and its numbers.
+// The rest of a block's line: its kind and its numbers. A vtable has one more than the other tables.
 fn block_end(block: Block) {
-    match block {
-        Block::Generic(address) => two(0, address),
-        Block::ResilientSuperclass(address) => two(1, address),
-        Block::ForeignMetadataInit(address) => two(2, address),
-        Block::SingletonMetadataInit(address) => two(3, address),
-        Block::VTable {
-            vtable_offset,
-            vtable_size,
+    let its_kind = block.kind;
+    let kind = classtrailers::number_of(its_kind) as u64;
+    let body = block.body;
+    match body {
+        BlockBody::At(address) => two(kind, address),
+        BlockBody::Table {
+            offset,
+            count,
             entries_va,
         } => {
-            number_field(4);
-            three(vtable_offset as u64, vtable_size as u64, entries_va);
+            if kind == 4 {
+                number_field(kind);
+                three(offset as u64, count as u64, entries_va);
+            } else {
+                three(kind, count as u64, entries_va);
+            }
         }
-        Block::OverrideTable {
-            num_entries,
-            entries_va,
-        } => three(5, num_entries as u64, entries_va),
-        Block::ObjcResilientClassStub(address) => two(6, address),
-        Block::Prespecializations { count, base_va } => three(7, count as u64, base_va),
-        Block::InvertibleProtocolSet { bits, protocols } => {
-            three(8, bits as u64, protocols as u64);
-        }
-        Block::SingletonMetadataPointer(address) => two(9, address),
-        Block::DefaultOverrideTable {
-            num_entries,
-            entries_va,
-        } => three(0xa, num_entries as u64, entries_va),
+        BlockBody::Set { bits, protocols } => three(kind, bits as u64, protocols as u64),
     }
 }
 
@@ -161,45 +153,36 @@ fn pointer_line(image: &[u8], segments: &[u64], address: u64) {
 
 // What lies at a block: its record or its entries.
 fn detail_lines(image: &[u8], segments: &[u64], block: Block) {
-    match block {
-        Block::Generic(_) => {}
-        Block::ResilientSuperclass(_) => {}
-        Block::ForeignMetadataInit(_) => {}
-        Block::SingletonMetadataInit(address) => init_line(image, segments, address),
-        Block::VTable {
-            vtable_offset: _,
-            vtable_size,
+    let its_kind = block.kind;
+    let kind = classtrailers::number_of(its_kind);
+    let body = block.body;
+    match body {
+        BlockBody::At(address) => match kind {
+            3 => init_line(image, segments, address),
+            9 => pointer_line(image, segments, address),
+            _ => {}
+        },
+        BlockBody::Table {
+            offset: _,
+            count,
             entries_va,
         } => {
-            entries(image, segments, Kind::Method, entries_va, vtable_size);
+            entries(image, segments, entry_kind(kind), entries_va, count);
         }
-        Block::OverrideTable {
-            num_entries,
-            entries_va,
-        } => {
-            entries(image, segments, Kind::Override, entries_va, num_entries);
-        }
-        Block::ObjcResilientClassStub(_) => {}
-        Block::Prespecializations { count, base_va } => {
-            entries(image, segments, Kind::Prespecialization, base_va, count);
-        }
-        Block::InvertibleProtocolSet {
+        BlockBody::Set {
             bits: _,
             protocols: _,
         } => {}
-        Block::SingletonMetadataPointer(address) => pointer_line(image, segments, address),
-        Block::DefaultOverrideTable {
-            num_entries,
-            entries_va,
-        } => {
-            entries(
-                image,
-                segments,
-                Kind::DefaultOverride,
-                entries_va,
-                num_entries,
-            );
-        }
+    }
+}
+
+// What the entries of a table are, by the number of its kind.
+fn entry_kind(kind: u32) -> Kind {
+    match kind {
+        4 => Kind::Method,
+        5 => Kind::Override,
+        7 => Kind::Prespecialization,
+        _ => Kind::DefaultOverride,
     }
 }
 
@@ -211,7 +194,7 @@ fn block_line(image: &[u8], segments: &[u64], block: Block) {
 
 // There are at most 11 blocks, and then the end.
 fn block_lines(image: &[u8], segments: &[u64], row: Row, body: TypeBody) {
-    let mut walk = listing::block_walk(row, body);
+    let mut walk = listing::block_walk(row.address, row.flags, body);
     let mut given: u32 = 0;
     while given < 12 {
         let step = listing::next_block(image, segments, walk);
@@ -234,7 +217,7 @@ fn block_lines(image: &[u8], segments: &[u64], row: Row, body: TypeBody) {
 }
 
 fn kind_line(image: &[u8], segments: &[u64], row: Row, body: TypeBody, kind: BlockKind) {
-    match listing::block_of_kind(image, segments, row, body, kind) {
+    match listing::block_of_kind(image, segments, row.address, row.flags, body, kind) {
         BlockAnswer::Block(block) => {
             word(b"kind");
             block_end(block);
@@ -315,7 +298,7 @@ fn row_line(slot: usize, row: Row) {
 
 fn row_lines(image: &[u8], segments: &[u64], slot: usize, row: Row) {
     row_line(slot, row);
-    match listing::row_body(image, segments, row) {
+    match listing::row_body(image, segments, row.address, row.flags) {
         BodyAnswer::Body(body) => {
             body_lines(image, segments, body);
             block_lines(image, segments, row, body);

@@ -4,13 +4,15 @@ use mathlib.Core.List.{List}
 use mathlib.Core.Bool.{cond}
 use mathlib.Core.Option.{Option, some, none}
 use lib.Dec.{leb}
-use Rattle.runtime.specs.Reads.{Reads, nothing, bind}
+use Rattle.runtime.specs.Reads.{Reads, bind}
 use Rattle.classtrailers.specs.Blocks.{Trailing, block}
+use Rattle.classtrailers.specs.Calls.{trailingOf}
 use Rattle.classtrailers.specs.declared.block.Block.{Block}
+use Rattle.classtrailers.specs.declared.block.BlockBody.{BlockBody}
 use Rattle.classtrailers.specs.declared.block.BlockKind.{BlockKind}
 use Rattle.typedescriptor.specs.Slots.{slotRow}
 use Rattle.typebody.specs.Body.{Body, body, trailing, trailingStart}
-use Rattle.typebody.specs.Singleton.{Initialization, singletonInit, singletonPointer}
+use Rattle.typebody.specs.Singleton.{Initialization, needing, singletonInit, singletonPointer}
 use Rattle.typebody.specs.declared.trailers.TrailingRead.{TrailingRead}
 
 -- a slot's block of a kind: the row, the body, the headers of earlier blocks, and its own
@@ -19,32 +21,18 @@ slotBlock types start i k =
     bind (slotRow types start i)
     (λ r. bind (body (r .address) (r .flags)) (λ b. block (trailing (r .flags) b) (trailingStart (r .address) b) k))
 
--- the record that a block tells of
+-- where a block lies of which no more is recorded
+abbrev pub placeOf : BlockBody → Option ℕ
+placeOf (BlockBody.At a) = some a
+placeOf (BlockBody.Table o n a) = none
+placeOf (BlockBody.Set s n) = none
+
+-- the record that lies there
 abbrev pub initOfBlock : Block → Reads Initialization
-initOfBlock (Block.SingletonMetadataInit a) = singletonInit a
-initOfBlock (Block.Generic a) = nothing
-initOfBlock (Block.ResilientSuperclass a) = nothing
-initOfBlock (Block.ForeignMetadataInit a) = nothing
-initOfBlock (Block.VTable o n a) = nothing
-initOfBlock (Block.OverrideTable n a) = nothing
-initOfBlock (Block.ObjcResilientClassStub a) = nothing
-initOfBlock (Block.Prespecializations n a) = nothing
-initOfBlock (Block.InvertibleProtocolSet s n) = nothing
-initOfBlock (Block.SingletonMetadataPointer a) = nothing
-initOfBlock (Block.DefaultOverrideTable n a) = nothing
+initOfBlock b = needing (placeOf (b .body)) singletonInit
 
 abbrev pub pointerOfBlock : Block → Reads ℕ
-pointerOfBlock (Block.SingletonMetadataPointer a) = singletonPointer a
-pointerOfBlock (Block.Generic a) = nothing
-pointerOfBlock (Block.ResilientSuperclass a) = nothing
-pointerOfBlock (Block.ForeignMetadataInit a) = nothing
-pointerOfBlock (Block.SingletonMetadataInit a) = nothing
-pointerOfBlock (Block.VTable o n a) = nothing
-pointerOfBlock (Block.OverrideTable n a) = nothing
-pointerOfBlock (Block.ObjcResilientClassStub a) = nothing
-pointerOfBlock (Block.Prespecializations n a) = nothing
-pointerOfBlock (Block.InvertibleProtocolSet s n) = nothing
-pointerOfBlock (Block.DefaultOverrideTable n a) = nothing
+pointerOfBlock b = needing (placeOf (b .body)) singletonPointer
 
 -- a slot's singleton records: the block's path, and their bytes
 unfoldable pub slotInit : List ℕ → ℕ → ℕ → Reads Initialization
@@ -68,6 +56,5 @@ trailers a flags none = none
 trailers a flags (some b) = startBelow (record { trailing = trailing flags b; start = trailingStart a b })
 
 abbrev pub trailersOf : TrailingRead → Option Start
-trailersOf (TrailingRead.Start t) =
-    some (record { trailing = record { flags = t .flags; isClass = t .«is_class»; extra = t .extra }; start = t .start })
+trailersOf (TrailingRead.Start t s) = some (record { trailing = trailingOf t; start = s })
 trailersOf TrailingRead.Nothing = none

@@ -1,8 +1,9 @@
 pub mod Body
 pub mod BodyLaws
-pub mod Singleton
-pub mod SingletonLaws
+pub mod Checked
+pub mod Examples
 pub mod Items
 pub mod ItemsLaws
 pub mod PathLaws
-pub mod Examples
+pub mod Singleton
+pub mod SingletonLaws

@@ -12,7 +12,8 @@ use Rattle.util.specs.LittleEndian.{signedIn}
 use Rattle.util.specs.Pointer.{relativeAddress}
 use Rattle.context.specs.Context.{contextKind}
 use Rattle.context.specs.declared.descriptor.ContextDescriptorKind.{ContextDescriptorKind}
-use Rattle.classtrailers.specs.Blocks.{block}
+use Rattle.classtrailers.specs.Blocks.{placedBlock, block}
+use Rattle.classtrailers.specs.BlocksLaws.{RecordedAs, block-recorded}
 use Rattle.classtrailers.specs.declared.block.Block.{Block}
 use Rattle.classtrailers.specs.declared.block.BlockKind.{BlockKind}
 use Rattle.runtime.specs.Reads.{Reads, done, bytes, run, Range, bytesRange, withNul, andThen, path, bind}
@@ -184,62 +185,15 @@ module _ (image segments types : List ℕ) (start i : ℕ) (row : TypeRow) (er :
           ∙ rw (er, slot-body-reads, append-assoc)
           (ap (λ (l : List Range). path image segments (slotRow types start i) ++ l) (path-bind image segments _ (body (row .address) (row .flags)) ∙ rw its-body))
 
+-- a slot's block of a kind is of that kind
+pub slot-block-recorded : (image segments types : List ℕ) (start i : ℕ) (k : BlockKind) (x : Block) → run image segments (slotBlock types start i k) ≡ some x → RecordedAs k x
+unfolding slotBlock
+slot-block-recorded image segments types start i k x e =
+    let w = both-read image segments (slotRow types start i) _ x e in
+    let v = both-read image segments (body (w .first .address) (w .first .flags)) _ x (w .goes) in
+    block-recorded image segments k (trailing (w .first .flags) (v .first)) (trailingStart (w .first .address) (v .first)) x (v .goes)
+
 -- ---- the records of a singleton, by their block
-
--- a block that is there, with its address
-pub record BlockRead (image segments : List ℕ) (p : Reads Block) (k : ℕ → Block) : Type 0 where
-  pub address : ℕ
-  pub there : run image segments p ≡ some (k address)
-
--- a slot with a record has its block
-module _ (image segments types : List ℕ) (start i : ℕ) where
-  pub init-block : (x : Initialization) → run image segments (slotInit types start i) ≡ some x
-      → BlockRead image segments (slotBlock types start i BlockKind.SingletonMetadataInit) Block.SingletonMetadataInit
-  unfolding slotInit run
-  init-block x e =
-      let w = both-read image segments (slotBlock types start i BlockKind.SingletonMetadataInit) initOfBlock x e in
-      go (w .first) (w .there) (w .goes)
-    where
-      never : _≡_ {A = Option Initialization} none (some x) → ⊥
-      never f = let z : _≡_ {A = ℕ} 0 1 = cc in omega arith
-
-      go : (b : Block) → run image segments (slotBlock types start i BlockKind.SingletonMetadataInit) ≡ some b → run image segments (initOfBlock b) ≡ some x
-          → BlockRead image segments (slotBlock types start i BlockKind.SingletonMetadataInit) Block.SingletonMetadataInit
-      go (Block.SingletonMetadataInit a) t g = record { address = a; there = t }
-      go (Block.Generic a) t g = absurd (never g)
-      go (Block.ResilientSuperclass a) t g = absurd (never g)
-      go (Block.ForeignMetadataInit a) t g = absurd (never g)
-      go (Block.VTable o n a) t g = absurd (never g)
-      go (Block.OverrideTable n a) t g = absurd (never g)
-      go (Block.ObjcResilientClassStub a) t g = absurd (never g)
-      go (Block.Prespecializations n a) t g = absurd (never g)
-      go (Block.InvertibleProtocolSet s n) t g = absurd (never g)
-      go (Block.SingletonMetadataPointer a) t g = absurd (never g)
-      go (Block.DefaultOverrideTable n a) t g = absurd (never g)
-
-  pub pointer-block : (x : ℕ) → run image segments (slotPointer types start i) ≡ some x
-      → BlockRead image segments (slotBlock types start i BlockKind.SingletonMetadataPointer) Block.SingletonMetadataPointer
-  unfolding slotPointer run
-  pointer-block x e =
-      let w = both-read image segments (slotBlock types start i BlockKind.SingletonMetadataPointer) pointerOfBlock x e in
-      go (w .first) (w .there) (w .goes)
-    where
-      never : _≡_ {A = Option ℕ} none (some x) → ⊥
-      never f = let z : _≡_ {A = ℕ} 0 1 = cc in omega arith
-
-      go : (b : Block) → run image segments (slotBlock types start i BlockKind.SingletonMetadataPointer) ≡ some b → run image segments (pointerOfBlock b) ≡ some x
-          → BlockRead image segments (slotBlock types start i BlockKind.SingletonMetadataPointer) Block.SingletonMetadataPointer
-      go (Block.SingletonMetadataPointer a) t g = record { address = a; there = t }
-      go (Block.Generic a) t g = absurd (never g)
-      go (Block.ResilientSuperclass a) t g = absurd (never g)
-      go (Block.ForeignMetadataInit a) t g = absurd (never g)
-      go (Block.SingletonMetadataInit a) t g = absurd (never g)
-      go (Block.VTable o n a) t g = absurd (never g)
-      go (Block.OverrideTable n a) t g = absurd (never g)
-      go (Block.ObjcResilientClassStub a) t g = absurd (never g)
-      go (Block.Prespecializations n a) t g = absurd (never g)
-      go (Block.InvertibleProtocolSet s n) t g = absurd (never g)
-      go (Block.DefaultOverrideTable n a) t g = absurd (never g)
 
 module _ (image segments types : List ℕ) (start i v : ℕ) where
   targets-path : (h : List ℕ) → path image segments (targets v h) ≡ []
@@ -260,7 +214,7 @@ module _ (image segments types : List ℕ) (start i v : ℕ) where
       first none = refl
       first (some c) = second c (slotTarget v h 4)
 
-  module _ (e : run image segments (slotBlock types start i BlockKind.SingletonMetadataInit) ≡ some (Block.SingletonMetadataInit v)) where
+  module _ (e : run image segments (slotBlock types start i BlockKind.SingletonMetadataInit) ≡ some (placedBlock BlockKind.SingletonMetadataInit v)) where
     pub slot-init : run image segments (slotInit types start i) ≡ run image segments (singletonInit v)
     unfolding slotInit
     slot-init = run-bind image segments initOfBlock (slotBlock types start i BlockKind.SingletonMetadataInit) ∙ rw e
@@ -278,7 +232,7 @@ module _ (image segments types : List ℕ) (start i v : ℕ) where
         (ap (λ (l : List Range). path image segments (slotBlock types start i BlockKind.SingletonMetadataInit) ++ l)
         (path-bytes image segments v 12 (targets v) q at (rw g at (w .inside)) ∙ rw targets-path))
 
-  module _ (e : run image segments (slotBlock types start i BlockKind.SingletonMetadataPointer) ≡ some (Block.SingletonMetadataPointer v)) where
+  module _ (e : run image segments (slotBlock types start i BlockKind.SingletonMetadataPointer) ≡ some (placedBlock BlockKind.SingletonMetadataPointer v)) where
     pub slot-pointer : run image segments (slotPointer types start i) ≡ run image segments (singletonPointer v)
     unfolding slotPointer
     slot-pointer = run-bind image segments pointerOfBlock (slotBlock types start i BlockKind.SingletonMetadataPointer) ∙ rw e

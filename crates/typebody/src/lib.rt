@@ -17,5 +17,4 @@ pub use singleton::SingletonMetadataPointer;
 pub use singleton::singleton_metadata_init;
 pub use singleton::singleton_metadata_pointer;
 pub use trailers::TrailingRead;
-pub use trailers::TrailingStart;
 pub use trailers::trailing;

@@ -4,18 +4,11 @@ ghost use Rattle.typebody.specs.Body.{extraFlags, sizesOf, bodyOf};
 ghost use Rattle.typebody.specs.Items.{startBelow, trailers, trailersOf};
 use crate::body::ClassSizes;
 use crate::body::TypeBody;
+use classtrailers::Trailing;
 
 // What a walk over the blocks of a descriptor starts from: what tells which blocks there are, and the address of the first of them.
-// The extra class flags are 0 where there are none.
-pub struct TrailingStart {
-    pub flags: u32,
-    pub is_class: bool,
-    pub extra: u32,
-    pub start: u64,
-}
-
 pub enum TrailingRead {
-    Start(TrailingStart),
+    Start { trailing: Trailing, start: u64 },
     Nothing,
 }
 
@@ -41,12 +34,14 @@ fn trailing_after(address: u64, flags: u32, is_class: bool, extra: u32, length: 
     if address > u64::MAX - length {
         return TrailingRead::Nothing;
     }
-    TrailingRead::Start(TrailingStart {
-        flags,
-        is_class,
-        extra,
+    TrailingRead::Start {
+        trailing: Trailing {
+            flags,
+            is_class,
+            extra,
+        },
         start: address + length,
-    })
+    }
 }
 
 // What follows the body of a descriptor at an address. Nothing follows where there is no body, or where it would start at or above 2^64.

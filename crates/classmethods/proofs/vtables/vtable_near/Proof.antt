@@ -14,8 +14,8 @@ decode-body-near-requires c κs = search needs
 trailing-requires : tie.Need-trailing-requires
 trailing-requires c κs = search needs
 
-enum-known-first : tie.Need-enum-known-first
-enum-known-first c = search needs
+enum-known-trailing : tie.Need-enum-known-trailing
+enum-known-trailing c = search needs
 
 block-of-kind-near-requires : tie.Need-block-of-kind-near-requires
 block-of-kind-near-requires c κs = search needs
@@ -33,10 +33,10 @@ enum-told-2 : tie.Need-enum-told-2
 enum-told-2 c = search needs
 
 returns : tie.Need-returns
-returns c = table-of _ _ _ _ _ (c .before .before .before .before .before .before .before .before .before .decode-body-near .ensures) _ (told trailersOf (c .before .before .before .before .before .before .before .before .trailing .ensures) (c .before .before .before .before .before .before .first .given .1)) _ _ (told blockReadOf (c .before .before .before .before .block-of-kind-near .ensures) (c .before .before .found .given .1)) (c .table-in .ensures)
+returns c = table-of _ _ _ _ _ (c .before .before .before .before .before .before .before .before .before .decode-body-near .ensures) _ (told trailersOf (c .before .before .before .before .before .before .before .before .trailing .ensures) (c .before .before .before .before .before .before .trailing2 .given .1)) _ _ (told blockReadOf (c .before .before .before .before .block-of-kind-near .ensures) (c .before .before .found .given .1)) (c .table-in .ensures)
 
 returns-2 : tie.Need-returns-2
-returns-2 c = no-table _ _ _ _ _ (c .before .before .before .before .before .before .before .decode-body-near .ensures) _ (told trailersOf (c .before .before .before .before .before .before .trailing .ensures) (c .before .before .before .before .first .given .1)) (told blockReadOf (c .before .before .block-of-kind-near .ensures) (c .enum-told .given .1))
+returns-2 c = no-table _ _ _ _ _ (c .before .before .before .before .before .before .before .decode-body-near .ensures) _ (told trailersOf (c .before .before .before .before .before .before .trailing .ensures) (c .before .before .before .before .trailing2 .given .1)) (told blockReadOf (c .before .before .block-of-kind-near .ensures) (c .enum-told .given .1))
 
 returns-3 : tie.Need-returns-3
 returns-3 c = nothing-follows _ _ _ _ _ (c .before .before .before .decode-body-near .ensures) (told trailersOf (c .before .before .trailing .ensures) (c .enum-told2 .given .1))
@@ -47,7 +47,7 @@ vtable-near-spec =
     (tie.spec
     decode-body-near-requires
     trailing-requires
-    enum-known-first
+    enum-known-trailing
     block-of-kind-near-requires
     enum-known-found
     table-in-requires

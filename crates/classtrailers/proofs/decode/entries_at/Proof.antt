@@ -5,7 +5,6 @@ use mathlib.Core.Path.{refl, _∙_}
 use Rattle.util.specs.AnswersLaws.{told}
 use Rattle.classtrailers.specs.Calls.{endOf}
 use Rattle.classtrailers.specs.CallsLaws.{no-header, end-overflows, block-says, below-some, entries-fit}
-use Rattle.classtrailers.specs.Blocks.{listed}
 use borrow.Author.Needs.{needs}
 use Rattle.classtrailers.proofs.decode.entries_at.Statement.{statement}
 use Rattle.classtrailers.proofs.decode.entries_at.Tie as tie
@@ -14,7 +13,7 @@ read-bytes-near-requires : tie.Need-read-bytes-near-requires
 read-bytes-near-requires c κs = search needs
 
 returns : tie.Need-returns
-returns c = λ k t b. no-header _ _ _ 3 _ (c .before .read-bytes-near .ensures) (listed k t _ b) refl (omega arith)
+returns c = no-header _ _ _ 3 _ (c .before .read-bytes-near .ensures) _ refl (omega arith)
 
 u32-at-requires : tie.Need-u32-at-requires
 u32-at-requires c κs = search needs
@@ -34,17 +33,17 @@ end-of-requires c κs = search needs
 enum-known-end : tie.Need-enum-known-end
 enum-known-end c = search needs
 
-add-t16 : tie.Need-add-t16
-add-t16 c = omega (arith, below-some _ _ (told endOf (c .before .before .before .end-of .ensures) (c .before .end .given .1)))
+add-t17 : tie.Need-add-t17
+add-t17 c = omega (arith, below-some _ _ (told endOf (c .before .before .before .end-of .ensures) (c .before .end .given .1)))
 
 enum-told : tie.Need-enum-told
 enum-told c = search needs
 
 returns-2 : tie.Need-returns-2
-returns-2 c = λ k t b. block-says _ _ _ 3 _ (c .before .before .before .before .before .before .read-bytes-near .ensures) (listed k t _ b) refl (omega arith) refl _ _ (rw (c .before .before .before .before .u32-at .ensures)) (told endOf (c .before .before .before .end-of .ensures) (c .before .end .given .1) ∙ rw (c .before .before .before .before .u32-at .ensures))
+returns-2 c = block-says _ _ _ 3 _ (c .before .before .before .before .before .before .read-bytes-near .ensures) _ refl (omega arith) refl _ _ (rw (c .before .before .before .before .u32-at .ensures)) (told endOf (c .before .before .before .end-of .ensures) (c .before .end .given .1) ∙ rw (c .before .before .before .before .u32-at .ensures))
 
 returns-3 : tie.Need-returns-3
-returns-3 c = λ k t b. end-overflows _ _ _ 3 _ (c .before .before .before .before .before .read-bytes-near .ensures) (listed k t _ b) refl (omega arith) refl (told endOf (c .before .before .end-of .ensures) (c .enum-told .given .1) ∙ rw (c .before .before .before .u32-at .ensures))
+returns-3 c = end-overflows _ _ _ 3 _ (c .before .before .before .before .before .read-bytes-near .ensures) _ refl (omega arith) refl (told endOf (c .before .before .end-of .ensures) (c .enum-told .given .1) ∙ rw (c .before .before .before .u32-at .ensures))
 
 pub entries-at-spec : {M : Type 1} → statement M
 entries-at-spec =
@@ -58,7 +57,7 @@ entries-at-spec =
     add-end-of
     end-of-requires
     enum-known-end
-    add-t16
+    add-t17
     enum-told
     returns-2
     returns-3)

@@ -1,8 +1,8 @@
 -- `classtrailers::decode::unread` meets its contract.
 -- Assumes nothing.
-use mathlib.Core.Path.{refl}
 use Rattle.util.specs.AnswersLaws.{told}
 use Rattle.classtrailers.specs.Calls.{endOf}
+use Rattle.classtrailers.specs.CallsLaws.{ends-as}
 use borrow.Author.Needs.{needs}
 use Rattle.classtrailers.proofs.decode.unread.Statement.{statement}
 use Rattle.classtrailers.proofs.decode.unread.Tie as tie
@@ -17,10 +17,10 @@ enum-told : tie.Need-enum-told
 enum-told c = search needs
 
 returns : tie.Need-returns
-returns c = record { recorded = refl; ends = told endOf (c .before .before .before .end-of .ensures) (c .before .end .given .1) }
+returns c = ends-as _ _ _ (told endOf (c .before .before .before .end-of .ensures) (c .before .end .given .1))
 
 returns-2 : tie.Need-returns-2
-returns-2 c = record { recorded = refl; ends = told endOf (c .before .before .end-of .ensures) (c .enum-told .given .1) }
+returns-2 c = ends-as _ _ _ (told endOf (c .before .before .end-of .ensures) (c .enum-told .given .1))
 
 pub unread-spec : {M : Type 1} → statement M
 unread-spec = tie.close (tie.spec end-of-requires enum-known-end enum-told returns returns-2)

@@ -38,8 +38,8 @@ enum-known-end c = search needs
 u32-at-requires-2 : tie.Need-u32-at-requires-2
 u32-at-requires-2 c κs = search needs
 
-add-t16 : tie.Need-add-t16
-add-t16 c = omega (arith, below-some _ _ (told endOf (c .before .before .before .before .end-of .ensures) (c .before .before .end .given .1)))
+add-t17 : tie.Need-add-t17
+add-t17 c = omega (arith, below-some _ _ (told endOf (c .before .before .before .before .end-of .ensures) (c .before .before .end .given .1)))
 
 enum-told : tie.Need-enum-told
 enum-told c = search needs
@@ -65,7 +65,7 @@ vtable-at-spec =
     end-of-requires
     enum-known-end
     u32-at-requires-2
-    add-t16
+    add-t17
     enum-told
     returns-2
     returns-3)

@@ -1,20 +1,26 @@
 -- `classtrailers::walk::step_at` meets its contract.
 -- Assumes nothing.
-use Rattle.util.specs.AnswersLaws.{case}
-use Rattle.classtrailers.specs.Calls.{Says}
-use Rattle.classtrailers.specs.CallsLaws.{step-on, step-last, step-none}
+use mathlib.Core.Path.{_∙_}
+use Rattle.util.specs.AnswersLaws.{told}
+use Rattle.segment.specs.MappingLaws.{empty-mapped}
+use Rattle.runtime.specs.CallsLaws.{run-mapped}
+use Rattle.classtrailers.specs.Calls.{blockAtOf}
+use Rattle.classtrailers.specs.CallsLaws.{step-kind}
 use borrow.Author.Needs.{needs}
 use Rattle.classtrailers.proofs.walk.step_at.Statement.{statement}
 use Rattle.classtrailers.proofs.walk.step_at.Tie as tie
 
-block-at-requires : tie.Need-block-at-requires
-block-at-requires c κs = search needs
+empty-requires : tie.Need-empty-requires
+empty-requires c κs = search needs
+
+block-near-requires : tie.Need-block-near-requires
+block-near-requires c κs = search needs
 
 enum-known-block : tie.Need-enum-known-block
 enum-known-block c = search needs
 
-add-t11 : tie.Need-add-t11
-add-t11 c = search needs
+add-t13 : tie.Need-add-t13
+add-t13 c = search needs
 
 enum-known-block-2 : tie.Need-enum-known-block-2
 enum-known-block-2 c = search needs
@@ -23,21 +29,22 @@ enum-told : tie.Need-enum-told
 enum-told c = search needs
 
 returns : tie.Need-returns
-returns c = step-on _ _ _ _ _ _ _ (case (Says _ _ _ _) (c .before .before .before .block-at .ensures) (c .before .block .given .1))
+returns c = step-kind _ _ _ _ _ (c .before .before .before .before .before .before .before .args .kind) _ (c .before .before .before .before .before .before .before .pre .1) (told blockAtOf (c .before .before .before .block-near .ensures) (c .before .block .given .1) ∙ run-mapped _ _ _ (empty-mapped _ _ (c .before .before .before .before .empty .ensures)) _)
 
 returns-2 : tie.Need-returns-2
-returns-2 c = step-last _ _ _ _ _ _ (case (Says _ _ _ _) (c .before .before .before .block-at .ensures) (c .before .block2 .given .1))
+returns-2 c = step-kind _ _ _ _ _ (c .before .before .before .before .before .before .before .args .kind) _ (c .before .before .before .before .before .before .before .pre .1) (told blockAtOf (c .before .before .before .block-near .ensures) (c .before .block2 .given .1) ∙ run-mapped _ _ _ (empty-mapped _ _ (c .before .before .before .before .empty .ensures)) _)
 
 returns-3 : tie.Need-returns-3
-returns-3 c = step-none _ _ _ _ _ (case (Says _ _ _ _) (c .before .before .block-at .ensures) (c .enum-told .given .1))
+returns-3 c = step-kind _ _ _ _ _ (c .before .before .before .before .before .before .args .kind) _ (c .before .before .before .before .before .before .pre .1) (told blockAtOf (c .before .before .block-near .ensures) (c .enum-told .given .1) ∙ run-mapped _ _ _ (empty-mapped _ _ (c .before .before .before .empty .ensures)) _)
 
 pub step-at-spec : {M : Type 1} → statement M
 step-at-spec =
     tie.close
     (tie.spec
-    block-at-requires
+    empty-requires
+    block-near-requires
     enum-known-block
-    add-t11
+    add-t13
     enum-known-block-2
     enum-told
     returns

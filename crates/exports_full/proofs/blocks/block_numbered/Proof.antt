@@ -2,7 +2,7 @@
 -- Assumes nothing.
 use Rattle.util.specs.AnswersLaws.{told}
 use Rattle.listing.specs.Bodies.{bodyAnswer}
-use Rattle.exports_full.specs.Blocks.{kindReadOf}
+use Rattle.classtrailers.specs.Calls.{kindReadOf}
 use Rattle.exports_full.specs.BlocksLaws.{kind-block, no-kind-no-block, no-body-no-block}
 use borrow.Author.Needs.{needs}
 use Rattle.exports_full.proofs.blocks.block_numbered.Statement.{statement}

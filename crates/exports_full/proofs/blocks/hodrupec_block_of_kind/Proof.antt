@@ -1,11 +1,9 @@
 -- `exports_full::blocks::hodrupec_block_of_kind` meets its contract.
 -- Assumes nothing.
-use Prim.Native.Nat.{ℕ}
-use mathlib.Core.Path.{ap}
-use mathlib.Core.List.{List, _∷_}
 use Rattle.util.specs.AnswersLaws.{told}
 use Rattle.listing.specs.Blocks.{blockAnswer}
 use Rattle.exports_full.specs.Blocks.{kindBlockNumbers}
+use Rattle.exports_full.specs.BlocksLaws.{block-known}
 use Rattle.exports.specs.NumbersLaws.{tells, tells-as, refuses}
 use borrow.Author.Needs.{needs}
 use Rattle.exports_full.proofs.blocks.hodrupec_block_of_kind.Statement.{statement}
@@ -17,8 +15,14 @@ block-numbered-requires c κs = search needs
 enum-known-block : tie.Need-enum-known-block
 enum-known-block c = search needs
 
-block-numbers-requires : tie.Need-block-numbers-requires
-block-numbers-requires c κs = search needs
+number-of-requires : tie.Need-number-of-requires
+number-of-requires c κs = search needs
+
+numbers-of-requires : tie.Need-numbers-of-requires
+numbers-of-requires c κs = search needs
+
+cast-t14 : tie.Need-cast-t14
+cast-t14 c = search needs
 
 enum-told : tie.Need-enum-told
 enum-told c = search needs
@@ -30,7 +34,7 @@ number-requires : tie.Need-number-requires
 number-requires c κs = search needs
 
 returns : tie.Need-returns
-returns c = tells-as kindBlockNumbers _ _ _ _ (told blockAnswer (c .before .before .before .before .before .block-numbered .ensures) (c .before .before .before .block .given .1)) (ap (λ (l : List ℕ). 1 ∷ l) (c .before .block-numbers .ensures))
+returns c = tells-as kindBlockNumbers _ _ _ _ (told blockAnswer (c .before .before .before .before .before .before .block-numbered .ensures) (c .before .before .before .before .block .given .1)) (block-known (c .before .before .before .before .block .given .0 .0) _ _ (c .before .before .number-of .ensures) (c .before .numbers-of .ensures))
 
 returns-2 : tie.Need-returns-2
 returns-2 c = tells kindBlockNumbers _ _ _ (told blockAnswer (c .before .before .before .block-numbered .ensures) (c .before .enum-told .given .1))
@@ -44,7 +48,9 @@ hodrupec-block-of-kind-spec =
     (tie.spec
     block-numbered-requires
     enum-known-block
-    block-numbers-requires
+    number-of-requires
+    numbers-of-requires
+    cast-t14
     enum-told
     enum-known-refusal
     number-requires

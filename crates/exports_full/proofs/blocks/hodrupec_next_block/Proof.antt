@@ -15,11 +15,17 @@ next-block-requires c κs = search needs
 enum-known-block : tie.Need-enum-known-block
 enum-known-block c = search needs
 
-block-numbers-requires : tie.Need-block-numbers-requires
-block-numbers-requires c κs = search needs
+number-of-requires : tie.Need-number-of-requires
+number-of-requires c κs = search needs
 
-cast-t18 : tie.Need-cast-t18
-cast-t18 c = search needs
+numbers-of-requires : tie.Need-numbers-of-requires
+numbers-of-requires c κs = search needs
+
+cast-t20 : tie.Need-cast-t20
+cast-t20 c = search needs
+
+cast-t21 : tie.Need-cast-t21
+cast-t21 c = search needs
 
 enum-told : tie.Need-enum-told
 enum-told c = search needs
@@ -31,7 +37,7 @@ number-requires : tie.Need-number-requires
 number-requires c κs = search needs
 
 returns : tie.Need-returns
-returns c = tells-as blockStepNumbers _ _ _ _ (told nextBlockAnswer (c .before .before .before .before .before .before .next-block .ensures) (c .before .before .before .before .block .given .1)) (step-known (c .before .before .before .before .block .given .0 .0) _ _ (c .before .before .block-numbers .ensures))
+returns c = tells-as blockStepNumbers _ _ _ _ (told nextBlockAnswer (c .before .before .before .before .before .before .before .next-block .ensures) (c .before .before .before .before .before .block .given .1)) (step-known (c .before .before .before .before .before .block .given .0 .0) _ _ (c .before .before .before .number-of .ensures) (c .before .before .numbers-of .ensures) _)
 
 returns-2 : tie.Need-returns-2
 returns-2 c = tells blockStepNumbers _ _ _ (told nextBlockAnswer (c .before .before .before .next-block .ensures) (c .before .enum-told .given .1))
@@ -45,8 +51,10 @@ hodrupec-next-block-spec =
     (tie.spec
     next-block-requires
     enum-known-block
-    block-numbers-requires
-    cast-t18
+    number-of-requires
+    numbers-of-requires
+    cast-t20
+    cast-t21
     enum-told
     enum-known-refusal
     number-requires

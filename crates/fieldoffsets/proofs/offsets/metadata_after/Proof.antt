@@ -1,4 +1,4 @@
--- `typedescriptor::offsets::metadata_after` meets its contract.
+-- `fieldoffsets::offsets::metadata_after` meets its contract.
 -- Assumes nothing.
 use mathlib.Core.Path.{ap}
 use Rattle.util.specs.AnswersLaws.{told}
@@ -13,8 +13,8 @@ use Rattle.fieldoffsets.proofs.offsets.metadata_after.Tie as tie
 trailing-requires : tie.Need-trailing-requires
 trailing-requires c κs = search needs
 
-enum-known-first : tie.Need-enum-known-first
-enum-known-first c = search needs
+enum-known-trailing : tie.Need-enum-known-trailing
+enum-known-trailing c = search needs
 
 enum-told : tie.Need-enum-told
 enum-told c = search needs
@@ -36,12 +36,12 @@ enum-told-2 c = search needs
 
 returns-2 : tie.Need-returns-2
 returns-2 c =
-    by-block _ _ _ _ (told trailersOf (c .before .before .before .before .before .before .before .before .trailing .ensures) (c .before .before .before .before .before .before .first .given .1)) _ _
+    by-block _ _ _ _ (told trailersOf (c .before .before .before .before .before .before .before .before .trailing .ensures) (c .before .before .before .before .before .before .trailing2 .given .1)) _ _
     (told blockReadOf (c .before .before .before .before .block-of-kind .ensures) (c .before .before .found .given .1)) (c .pointer-of .ensures)
 
 returns-3 : tie.Need-returns-3
 returns-3 c =
-    no-block _ _ _ _ (told trailersOf (c .before .before .before .before .before .before .trailing .ensures) (c .before .before .before .before .first .given .1))
+    no-block _ _ _ _ (told trailersOf (c .before .before .before .before .before .before .trailing .ensures) (c .before .before .before .before .trailing2 .given .1))
     (told blockReadOf (c .before .before .block-of-kind .ensures) (c .enum-told2 .given .1))
 
 pub metadata-after-spec : {M : Type 1} → statement M
@@ -49,7 +49,7 @@ metadata-after-spec =
     tie.close
     (tie.spec
     trailing-requires
-    enum-known-first
+    enum-known-trailing
     enum-told
     returns
     block-of-kind-requires

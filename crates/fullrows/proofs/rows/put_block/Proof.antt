@@ -1,5 +1,8 @@
 -- `fullrows::rows::put_block` meets its contract.
 -- Assumes nothing.
+use Prim.Native.Nat.{ℕ}
+use mathlib.Core.Path.{ap}
+use mathlib.Core.List.{List, _∷_}
 use Rattle.tables.specs.PastedLaws.{pasted-as}
 use borrow.Author.Needs.{needs}
 use Rattle.fullrows.proofs.rows.put_block.Statement.{statement}
@@ -17,7 +20,7 @@ same-length c = search needs
 returns : tie.Need-returns
 returns c =
     let a = c .before .before .before .before .before .before .args in
-    pasted-as (a .buffer .now) _ _ _ (a .at) (c .before .before .put-four .ensures) (c .before .before .before .before .numbers-of .ensures)
+    pasted-as (a .buffer .now) _ _ _ (a .at) (c .before .before .put-four .ensures) (ap (λ (l : List ℕ). 1 ∷ l) (c .before .before .before .before .numbers-of .ensures))
 
 pub put-block-spec : {M : Type 1} → statement M
 put-block-spec = tie.close (tie.spec numbers-of-requires put-four-requires same-length returns)

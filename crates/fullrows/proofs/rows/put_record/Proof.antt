@@ -26,8 +26,8 @@ put-body-requires c κs = search needs
 trailing-requires : tie.Need-trailing-requires
 trailing-requires c κs = search needs
 
-enum-known-first : tie.Need-enum-known-first
-enum-known-first c = search needs
+enum-known-trailing : tie.Need-enum-known-trailing
+enum-known-trailing c = search needs
 
 add-put-blocks : tie.Need-add-put-blocks
 add-put-blocks c = search needs
@@ -51,7 +51,7 @@ returns : tie.Need-returns
 returns c =
     let a = c .before .before .before .before .before .before .before .before .before .before .before .before .before .before .before .before .before .before .before .before .args in
     parts-put _ _ (a .slot) (rowOf (a .image .now) (a .row)) _ (a .buffer .now) _ _ _ _ (a .at) (c .before .before .before .before .before .before .before .before .before .before .before .before .before .before .before .before .before .before .before .before .pre) (c .before .before .before .before .before .before .before .before .before .before .before .before .before .before .before .put-row .ensures) (c .before .before .before .before .before .before .before .before .before .before .before .before .decode-body-near .ensures) (c .before .before .before .before .before .before .before .before .before .before .put-body .ensures)
-    (ap (blockFours _ _) (told trailersOf (c .before .before .before .before .before .before .before .trailing .ensures) (c .before .before .before .before .before .first .given .1))) (c .before .before .put-blocks .ensures)
+    (ap (blockFours _ _) (told trailersOf (c .before .before .before .before .before .before .before .trailing .ensures) (c .before .before .before .before .before .trailing2 .given .1))) (c .before .before .put-blocks .ensures)
 
 same-length-2 : tie.Need-same-length-2
 same-length-2 c = search needs
@@ -71,7 +71,7 @@ put-record-spec =
     add-put-body
     put-body-requires
     trailing-requires
-    enum-known-first
+    enum-known-trailing
     add-put-blocks
     put-blocks-requires
     enum-told

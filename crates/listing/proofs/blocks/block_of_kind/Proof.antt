@@ -17,8 +17,8 @@ returns c = ragged _ _ (c .if1 .taken)
 trailing-requires : tie.Need-trailing-requires
 trailing-requires c κs = search needs
 
-enum-known-first : tie.Need-enum-known-first
-enum-known-first c = search needs
+enum-known-trailing : tie.Need-enum-known-trailing
+enum-known-trailing c = search needs
 
 block-of-kind-requires : tie.Need-block-of-kind-requires
 block-of-kind-requires c κs = search needs
@@ -33,10 +33,10 @@ enum-told-2 : tie.Need-enum-told-2
 enum-told-2 c = search needs
 
 returns-2 : tie.Need-returns-2
-returns-2 c = whole-as _ _ _ (ap answered (told blockReadOf (c .before .before .before .block-of-kind .ensures) (c .before .block .given .1) ∙ ap (kindFrom _ _ _) (told trailersOf (c .before .before .before .before .before .before .before .trailing .ensures) (c .before .before .before .before .before .first .given .1)))) (c .before .before .before .before .before .before .before .before .if1 .left)
+returns-2 c = whole-as _ _ _ (ap answered (told blockReadOf (c .before .before .before .block-of-kind .ensures) (c .before .block .given .1) ∙ ap (kindFrom _ _ _) (told trailersOf (c .before .before .before .before .before .before .before .trailing .ensures) (c .before .before .before .before .before .trailing2 .given .1)))) (c .before .before .before .before .before .before .before .before .if1 .left)
 
 returns-3 : tie.Need-returns-3
-returns-3 c = whole-as _ _ _ (ap answered (told blockReadOf (c .before .before .block-of-kind .ensures) (c .enum-told .given .1) ∙ ap (kindFrom _ _ _) (told trailersOf (c .before .before .before .before .before .before .trailing .ensures) (c .before .before .before .before .first .given .1)))) (c .before .before .before .before .before .before .before .if1 .left)
+returns-3 c = whole-as _ _ _ (ap answered (told blockReadOf (c .before .before .block-of-kind .ensures) (c .enum-told .given .1) ∙ ap (kindFrom _ _ _) (told trailersOf (c .before .before .before .before .before .before .trailing .ensures) (c .before .before .before .before .trailing2 .given .1)))) (c .before .before .before .before .before .before .before .if1 .left)
 
 returns-4 : tie.Need-returns-4
 returns-4 c = whole-as _ _ _ (ap answered (ap (kindFrom _ _ _) (told trailersOf (c .before .before .trailing .ensures) (c .enum-told2 .given .1)))) (c .before .before .before .if1 .left)
@@ -47,7 +47,7 @@ block-of-kind-spec =
     (tie.spec
     returns
     trailing-requires
-    enum-known-first
+    enum-known-trailing
     block-of-kind-requires
     enum-known-block
     enum-told

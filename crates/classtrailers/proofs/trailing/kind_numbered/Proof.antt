@@ -1,12 +1,11 @@
--- `exports_full::blocks::kind_numbered` meets its contract.
+-- `classtrailers::trailing::kind_numbered` meets its contract.
 -- Assumes nothing.
 use native.Mathlib.Omega.{arith}
 use mathlib.Core.Path.{refl}
-use Rattle.classtrailers.specs.CallsLaws.{past}
-use Rattle.exports_full.specs.Blocks.{kindNumbered}
-use Rattle.exports_full.specs.BlocksLaws.{kind-as, no-kind}
-use Rattle.exports_full.proofs.blocks.kind_numbered.Statement.{statement}
-use Rattle.exports_full.proofs.blocks.kind_numbered.Tie as tie
+use Rattle.classtrailers.specs.CallsLaws.{past, kind-as, no-kind}
+use Rattle.classtrailers.specs.Blocks.{kindNumbered}
+use Rattle.classtrailers.proofs.trailing.kind_numbered.Statement.{statement}
+use Rattle.classtrailers.proofs.trailing.kind_numbered.Tie as tie
 
 returns : tie.Need-returns
 unfolding kindNumbered
