@@ -7,7 +7,7 @@ use darwinscope::swift::{
     TypeContextDescriptorFlags, TypeReferenceKind,
 };
 
-#[link(name = "exports_util", kind = "static")]
+#[link(name = "c_numbers", kind = "static")]
 unsafe extern "C" {
     fn hodrupec_context_flags(word: u32, out: &mut [u64; 8]) -> u64;
     fn hodrupec_type_flags(word: u16, out: &mut [u64; 7]) -> u64;

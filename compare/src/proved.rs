@@ -1,6 +1,6 @@
-//! The proved side: the functions of crates/exports, each behind a safe function. A slice passes as a pointer and a length.
+//! The proved side: the functions of crates/c_rows, each behind a safe function. A slice passes as a pointer and a length.
 
-#[link(name = "exports", kind = "static")]
+#[link(name = "c_rows", kind = "static")]
 unsafe extern "C" {
     fn hodrupec_file_offset(
         segments: *const u64,

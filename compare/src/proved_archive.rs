@@ -1,4 +1,4 @@
-//! The proved side of the archive level, the functions of crates/exports_archive: field descriptors, field records alone and with their names, the
+//! The proved side of the archive level, the functions of crates/c_fields: field descriptors, field records alone and with their names, the
 //! names of each, field offsets, and what is certain by an image's first bytes.
 
 use crate::input::Input;
@@ -6,7 +6,7 @@ use crate::proved::{Answer, UNWRITTEN, refusal};
 use crate::proved_full::{Image, calls};
 
 calls! {
-    "exports_archive":
+    "c_fields":
     next_field_record = hodrupec_next_field_record(base_va: u64, count: u32, size: u32, next: u32) -> 6;
     field_offsets = hodrupec_field_offsets(address: u64, flags: u32, metadata_va: u64) -> 3;
     static_field_offsets = hodrupec_static_field_offsets(address: u64, flags: u32) -> 3;

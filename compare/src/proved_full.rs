@@ -1,4 +1,4 @@
-//! The proved side of the full level, the functions of crates/exports_full: bodies, trailing blocks, entries, singleton records. Each call
+//! The proved side of the full level, the functions of crates/c_blocks: bodies, trailing blocks, entries, singleton records. Each call
 //! gives its array of numbers.
 
 use crate::input::Input;
@@ -57,7 +57,7 @@ macro_rules! calls {
 pub(crate) use calls;
 
 calls! {
-    "exports_full":
+    "c_blocks":
     text_at = hodrupec_text_at(vmaddr: u64) -> 3;
     body = hodrupec_body(address: u64, flags: u32) -> 8;
     first_block = hodrupec_first_block(address: u64, flags: u32) -> 4;

@@ -1,5 +1,5 @@
-//! The proved side of rows with body and all blocks and of the methods of all classes, the functions of crates/exports_fullrows and of
-//! crates/exports_classmethods, which write into a lent buffer of numbers.
+//! The proved side of rows with body and all blocks and of the methods of all classes, the functions of crates/c_full_rows and of
+//! crates/c_class_methods, which write into a lent buffer of numbers.
 
 use crate::input::Input;
 use crate::proved::{Answer, UNWRITTEN, refusal};
@@ -31,7 +31,7 @@ pub struct Given {
     pub all: u64,
 }
 
-#[link(name = "exports_fullrows", kind = "static")]
+#[link(name = "c_full_rows", kind = "static")]
 unsafe extern "C" {
     fn hodrupec_full_rows(
         image: *const u8,
@@ -48,7 +48,7 @@ unsafe extern "C" {
     ) -> u64;
 }
 
-#[link(name = "exports_classmethods", kind = "static")]
+#[link(name = "c_class_methods", kind = "static")]
 unsafe extern "C" {
     fn hodrupec_class_methods(
         image: *const u8,

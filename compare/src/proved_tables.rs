@@ -1,4 +1,4 @@
-//! The proved side of whole tables, functions of crates/exports_full, exports_archive and exports_tables: entries and field records into a
+//! The proved side of whole tables, functions of crates/c_blocks, c_fields and c_tables: entries and field records into a
 //! lent buffer of numbers.
 
 use crate::proved::{Answer, UNWRITTEN, refusal};
@@ -6,7 +6,7 @@ use crate::proved_full::Image;
 
 macro_rules! tables {
     ($($name:ident = $export:ident($($arg:ident: $type:ty),*);)*) => {
-        #[link(name = "exports_tables", kind = "static")]
+        #[link(name = "c_tables", kind = "static")]
         unsafe extern "C" {
             $(fn $export(
                 image: *const u8,

@@ -7,7 +7,7 @@ use darwinscope::util::{
     read_uleb128,
 };
 
-#[link(name = "exports_util", kind = "static")]
+#[link(name = "c_numbers", kind = "static")]
 unsafe extern "C" {
     fn hodrupec_uleb128(bytes: *const u8, len: usize, out: &mut [u64; 3]) -> u64;
     fn hodrupec_sleb128(bytes: *const u8, len: usize, out: &mut [u64; 3]) -> u64;

@@ -10,7 +10,7 @@ use Rattle.runtime.specs.Reads.{run}
 use Rattle.typedescriptor.specs.Slots.{slotRow}
 use Rattle.parent.specs.Context.{header, name}
 use Rattle.parent.specs.Chain.{contextsMost}
-use Rattle.qualifiedname.specs.Name.{nameAnswer}
+use Rattle.qualified_name.specs.Name.{nameAnswer}
 use Rattle.certainty.specs.Certain.{ifThere, certain}
 
 -- a context's header; at or above 2^64 - 4 there is none, whatever the bytes

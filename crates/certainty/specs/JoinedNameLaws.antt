@@ -13,8 +13,8 @@ use Rattle.typedescriptor.specs.Slots.{slotRow}
 use Rattle.parent.specs.Context.{Header, headerIn, header, name, contextName, withName}
 use Rattle.parent.specs.Chain.{contextsMost, headerAt, chain}
 use Rattle.parent.specs.ChainLaws.{chained, chain-by, next-by}
-use Rattle.qualifiedname.specs.Name.{qualifiedName, tooDeep, nameAnswer}
-use Rattle.printing.specs.Lines.{nameBytes, nameText, rowLine}
+use Rattle.qualified_name.specs.Name.{qualifiedName, tooDeep, nameAnswer}
+use Rattle.type_lines.specs.Lines.{nameBytes, nameText, rowLine}
 use Rattle.certainty.specs.Certain.{ifThere, certain}
 use Rattle.certainty.specs.CertainLaws.{certain-run, certain-first}
 use Rattle.certainty.specs.JoinedName.{headerCertain, chainCertain, nameCertain, joinedName}

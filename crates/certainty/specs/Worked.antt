@@ -18,7 +18,7 @@ use Rattle.typedescriptor.specs.Row.{rowName, descriptor}
 use Rattle.typedescriptor.specs.Slots.{slotRow}
 use Rattle.parent.specs.Context.{headerIn, header, slotName, nameAt, name, contextName, withName, contextRead}
 use Rattle.parent.specs.Chain.{headerAt, chain}
-use Rattle.qualifiedname.specs.Name.{hops, qualifiedName, tooDeep, nameAnswer}
+use Rattle.qualified_name.specs.Name.{hops, qualifiedName, tooDeep, nameAnswer}
 use Rattle.items.specs.Keys.{Sections}
 use Rattle.items.specs.Clue as Clue
 use Rattle.items.specs.Oak as Oak

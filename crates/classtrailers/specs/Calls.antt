@@ -8,14 +8,14 @@ use Rattle.classtrailers.specs.declared.decode.BlockAt.{BlockAt}
 use Rattle.classtrailers.specs.declared.decode.End.{End}
 use Rattle.classtrailers.specs.declared.trailing.KindRead.{KindRead}
 use Rattle.classtrailers.specs.declared.trailing.Trailing as plain
-use Rattle.classtrailers.specs.declared.walk.BlockWalk.{BlockWalk}
-use Rattle.classtrailers.specs.declared.walk.BlockStep.{BlockStep}
-use Rattle.classtrailers.specs.declared.walk.BlockRead.{BlockRead}
+use Rattle.classtrailers.specs.declared.iter.BlockIter.{BlockIter}
+use Rattle.classtrailers.specs.declared.iter.BlockStep.{BlockStep}
+use Rattle.classtrailers.specs.declared.iter.BlockRead.{BlockRead}
 
 abbrev pub trailingOf : plain.Trailing → Trailing
 trailingOf t = record { flags = t .flags; isClass = t .«is_class»; extra = t .extra }
 
-abbrev pub walkOf : BlockWalk → Walk
+abbrev pub walkOf : BlockIter → Walk
 walkOf w = record { trailing = trailingOf (w .trailing); row = w .row; address = w .address }
 
 abbrev pub blockStepOf : BlockStep → Option Step

@@ -1,21 +1,21 @@
 // The blocks that trail a class, a struct or an enum descriptor, carried over from darwinscope's src/swift/classtrailers.rs.
 mod block;
 mod decode;
+mod iter;
 mod trailing;
-mod walk;
 
 pub use block::Block;
 pub use block::BlockBody;
 pub use block::BlockKind;
 pub use decode::BlockAt;
 pub use decode::block_near;
+pub use iter::BlockIter;
+pub use iter::BlockRead;
+pub use iter::BlockStep;
+pub use iter::block_of_kind;
+pub use iter::block_of_kind_near;
 pub use trailing::KindRead;
 pub use trailing::Trailing;
 pub use trailing::kind_numbered;
 pub use trailing::kind_there;
 pub use trailing::number_of;
-pub use walk::BlockRead;
-pub use walk::BlockStep;
-pub use walk::BlockWalk;
-pub use walk::block_of_kind;
-pub use walk::block_of_kind_near;

@@ -19,7 +19,7 @@ use Rattle.typedescriptor.specs.Row.{rowName, descriptor}
 use Rattle.typedescriptor.specs.Slots.{Found, slotRow, rowsFrom, rows}
 use Rattle.parent.specs.Context.{headerIn, header, slotName, nameAt, name, contextName, withName, contextRead}
 use Rattle.parent.specs.Chain.{headerAt, chain}
-use Rattle.qualifiedname.specs.Name.{hops, qualifiedName, tooDeep, nameAnswer}
+use Rattle.qualified_name.specs.Name.{hops, qualifiedName, tooDeep, nameAnswer}
 use Rattle.items.specs.Oak.{image}
 use Rattle.items.specs.Texts.{NameKey, descriptorName, slotNameAddress, nameOf, ClearOf}
 use Rattle.items.specs.ClearLaws.{Outside, nowhere, there}
@@ -28,9 +28,9 @@ use Rattle.bundle.specs.Bundle.{part, bodyFits, sectionIn}
 use Rattle.bundle.specs.Open.{isAt, takeAt, answer, openBundle}
 use Rattle.bundle.specs.declared.open.Layout.{Layout}
 use Rattle.bundle_parts.specs.Parts.{bytesOf, numbers, segmentNumbers}
-use Rattle.printing.specs.Digits.{digit, hex, decimal}
-use Rattle.printing.specs.Lines.{kindWord, nameText, rowLine, endLine, lines}
-use Rattle.printer.specs.Printed.{printed}
+use Rattle.type_lines.specs.Digits.{digit, hex, decimal}
+use Rattle.type_lines.specs.Lines.{kindWord, nameText, rowLine, endLine, lines}
+use Rattle.bundle_lines.specs.Printed.{printed}
 use Rattle.cut_lines.specs.CutLines.{sectionsOf, CutBundle}
 use Rattle.cut_lines.specs.CutLinesLaws.{cut-printed}
 

@@ -11,13 +11,13 @@ use Rattle.runtime.specs.Reads.{Range, path, every, endsBy}
 use Rattle.typedescriptor.specs.Row.{TypeRow}
 use Rattle.parent.specs.Context.{header, name, Context}
 use Rattle.parent.specs.Chain.{contextsMost, headerAt, chain}
-use Rattle.qualifiedname.specs.Name.{hops, tooDeep}
+use Rattle.qualified_name.specs.Name.{hops, tooDeep}
 use Rattle.items.specs.Keys.{Sections}
 use Rattle.bundle.specs.Open.{openBundle}
 use Rattle.bundle_parts.specs.Parts.{bytesOf, segmentNumbers}
 use Rattle.bundle.specs.declared.open.Layout.{Layout}
-use Rattle.printing.specs.Digits.{hex}
-use Rattle.printing.specs.Lines.{nameBytes, space, newline, kindWord, textOr}
+use Rattle.type_lines.specs.Digits.{hex}
+use Rattle.type_lines.specs.Lines.{nameBytes, space, newline, kindWord, textOr}
 
 -- a line before its name: what it says is the row's alone
 unfoldable pub lineHead : TypeRow → List ℕ

@@ -22,7 +22,7 @@ use Rattle.parent.specs.Context.{Header, header, name, Context, withName, conte
 use Rattle.parent.specs.Chain.{contextsMost, headerAt, chain}
 use Rattle.parent.specs.ChainLaws.{chain-by, next-by}
 use Rattle.parent.specs.PathLaws.{header-address}
-use Rattle.qualifiedname.specs.Name.{hops, qualifiedName, isThere, tooDeep, nameAnswer}
+use Rattle.qualified_name.specs.Name.{hops, qualifiedName, isThere, tooDeep, nameAnswer}
 use Rattle.items.specs.Keys.{Sections}
 use Rattle.items.specs.Items.{rowOfSlot, contextOfSlot}
 use Rattle.items.specs.Texts.{NameKey, contextNameAt, ClearOf}
@@ -30,8 +30,8 @@ use Rattle.items.specs.ProgramLaws.{every-append, on-context}
 use Rattle.items.specs.PremiseLaws.{ClearBy}
 use Rattle.items.specs.TextsLaws.{cut-context, context-clear}
 use Rattle.items.specs.CutLaws.{kept-run, keep, rowEndsBy, keptRows, cut-rows}
-use Rattle.printing.specs.Lines.{nameBytes, newline, refusedText, textOr, nameText, rowLine, endLine, lines}
-use Rattle.printer.specs.Printed.{printed}
+use Rattle.type_lines.specs.Lines.{nameBytes, newline, refusedText, textOr, nameText, rowLine, endLine, lines}
+use Rattle.bundle_lines.specs.Printed.{printed}
 use Rattle.bundle_parts.specs.Parts.{bytesOf, segmentNumbers}
 use Rattle.bundle.specs.declared.open.Layout.{Layout}
 use Rattle.cut_lines.specs.CutLines.{lineHead, keptContexts, keptTooDeep, keptName, keptAnswer, keptLine, namesPath, joinedPath, sectionsOf, CutBundle}

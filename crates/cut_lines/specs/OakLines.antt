@@ -17,10 +17,10 @@ use Rattle.typedescriptor.specs.Row.{rowName, descriptor}
 use Rattle.typedescriptor.specs.Slots.{slotRow, rowsFrom, rows}
 use Rattle.parent.specs.Context.{headerIn, header, slotName, nameAt, name, contextName, withName, contextRead}
 use Rattle.parent.specs.Chain.{headerAt, chain}
-use Rattle.qualifiedname.specs.Name.{hops, qualifiedName, tooDeep, nameAnswer}
+use Rattle.qualified_name.specs.Name.{hops, qualifiedName, tooDeep, nameAnswer}
 use Rattle.items.specs.Oak.{image, segments, sections}
-use Rattle.printing.specs.Digits.{digit, hex, decimal}
-use Rattle.printing.specs.Lines.{kindWord, nameText, rowLine, endLine, lines}
+use Rattle.type_lines.specs.Digits.{digit, hex, decimal}
+use Rattle.type_lines.specs.Lines.{kindWord, nameText, rowLine, endLine, lines}
 use Rattle.cut_lines.specs.CutLines.{joinedPath}
 
 abbrev listed : List ℕ → List (List ℕ)

@@ -6,7 +6,7 @@ use mathlib.Core.Bool.{cond}
 use mathlib.Core.Option.{Option, some, none, Option·map}
 use lib.Dec.{leb}
 use Rattle.runtime.specs.Reads.{Reads, bind}
-use Rattle.vtable.specs.declared.cursor.EntryCursor.{EntryCursor}
+use Rattle.vtable.specs.declared.iter.EntryIter.{EntryIter}
 use Rattle.vtable.specs.Entries.{Word, number, pointer, Layout, Entry, entry, Step, entryStep}
 use Rattle.field.specs.declared.iter.FieldDescriptor.{FieldDescriptor}
 use Rattle.field.specs.declared.record.FieldRecord.{FieldRecord}
@@ -39,10 +39,10 @@ descriptorRecord fields vmaddr j k =
     bind (descriptorAt fields vmaddr j) (λ d. fieldRecord (recordsBase (d .address)) (d .«field_record_size») (d .«num_fields») k)
 
 -- a walk over records is a walk over entries, with the record size
-abbrev pub entriesOf : FieldRecordIter → EntryCursor
+abbrev pub entriesOf : FieldRecordIter → EntryIter
 entriesOf c = record { «base_va» = c .«base_va»; count = c .count; next = c .cursor }
 
-abbrev pub recordsFrom : ℕ → EntryCursor → FieldRecordIter
+abbrev pub recordsFrom : ℕ → EntryIter → FieldRecordIter
 recordsFrom size c = record { «base_va» = c .«base_va»; count = c .count; «entry_size» = size; cursor = c .next }
 
 pub record RecordStep : Type 0 where

@@ -11,7 +11,7 @@ use Rattle.segment.specs.Mapping.{withMapping, Mapped}
 use Rattle.segment.specs.declared.segment.Mapping.{Mapping}
 use Rattle.runtime.specs.Reads.{run}
 use Rattle.runtime.specs.ReadsLaws.{run-bind}
-use Rattle.vtable.specs.declared.cursor.EntryCursor.{EntryCursor}
+use Rattle.vtable.specs.declared.iter.EntryIter.{EntryIter}
 use Rattle.vtable.specs.Entries.{Entry, entryAt, start, moved, Step, entryStep}
 use Rattle.vtable.specs.EntriesLaws.{step-end, step-gives, step-mapped}
 use Rattle.vtable.specs.ListLaws.{walkAt, Readable, stepped-entry, stepAfter as entriesAfter, listed as entriesListed, listed-all as entries-all}
@@ -64,29 +64,29 @@ module _ (image segments : List ℕ) where
 
   -- both are those of the entries
   module _ (size : ℕ) where
-    abbrev after : ℕ → EntryCursor → Option Step
+    abbrev after : ℕ → EntryIter → Option Step
     after = entriesAfter image segments (recordLayout size)
 
-    abbrev entries : ℕ → EntryCursor → List Entry
+    abbrev entries : ℕ → EntryIter → List Entry
     entries = entriesListed image segments (recordLayout size)
 
-    after-entries : (n : ℕ) (c : EntryCursor) → stepAfter n (recordsFrom size c) ≡ Option·map (sized size) (after n c)
+    after-entries : (n : ℕ) (c : EntryIter) → stepAfter n (recordsFrom size c) ≡ Option·map (sized size) (after n c)
     unfolding stepAfter entriesAfter
     after-entries zero c = refl
     after-entries (suc n) c = go (entryStep image segments (recordLayout size) c) (after-entries n)
       where
-        go : (x : Option Step) → ((e : EntryCursor) → stepAfter n (recordsFrom size e) ≡ Option·map (sized size) (after n e))
+        go : (x : Option Step) → ((e : EntryIter) → stepAfter n (recordsFrom size e) ≡ Option·map (sized size) (after n e))
             → (elim (Option·map (sized size) x) as (λ _. Option RecordStep) [ none ↦ none | some s ↦ stepAfter n (s .next) ])
             ≡ Option·map (sized size) (elim x as (λ _. Option Step) [ none ↦ none | some s ↦ after n (s .next) ])
         go none ih = refl
         go (some s) ih = ih (s .next)
 
-    listed-entries : (n : ℕ) (c : EntryCursor) → listed n (recordsFrom size c) ≡ entries n c
+    listed-entries : (n : ℕ) (c : EntryIter) → listed n (recordsFrom size c) ≡ entries n c
     unfolding listed entriesListed
     listed-entries zero c = refl
     listed-entries (suc n) c = go (entryStep image segments (recordLayout size) c) (listed-entries n)
       where
-        go : (x : Option Step) → ((e : EntryCursor) → listed n (recordsFrom size e) ≡ entries n e)
+        go : (x : Option Step) → ((e : EntryIter) → listed n (recordsFrom size e) ≡ entries n e)
             → _≡_ {A = List Entry}
             (elim (Option·map (sized size) x) [ none ↦ [] | some s ↦ elim (s .found) [ none ↦ [] | some e ↦ e ∷ listed n (s .next) ] ])
             (elim x [ none ↦ [] | some s ↦ elim (s .found) [ none ↦ [] | some e ↦ e ∷ entries n (s .next) ] ])

@@ -20,9 +20,9 @@ use Rattle.classtrailers.specs.declared.block.BlockBody.{BlockBody}
 use Rattle.classtrailers.specs.declared.block.BlockKind.{BlockKind}
 use Rattle.typedescriptor.specs.Row.{rowName, descriptor}
 use Rattle.typedescriptor.specs.Slots.{slotRow}
-use Rattle.typebody.specs.Body.{ofClass, fixed, classBody, bodyBytes, body, slotBody}
-use Rattle.typebody.specs.Items.{slotBlock, slotInit, slotPointer}
-use Rattle.fieldoffsets.specs.Offsets.{vector, fieldOffsets, slotOffsets}
+use Rattle.type_body.specs.Body.{ofClass, fixed, classBody, bodyBytes, body, slotBody}
+use Rattle.type_body.specs.Items.{slotBlock, slotInit, slotPointer}
+use Rattle.field_offsets.specs.Offsets.{vector, fieldOffsets, slotOffsets}
 use Rattle.vtable.specs.Entries.{entryAt, upTo, entry}
 use Rattle.items.specs.Keys.{Sections, EntryKind, Key, Answer}
 use Rattle.items.specs.Items.{mapReads, entryOfSlot, item}

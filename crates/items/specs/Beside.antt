@@ -7,7 +7,7 @@ use Rattle.util.specs.Cstr.{partOf}
 use Rattle.runtime.specs.Reads.{andThen, textPlace, run}
 use Rattle.runtime.specs.FieldName.{NamePlace, inImage, inStrings, sectionText, fieldName, namePart}
 use Rattle.typedescriptor.specs.Row.{TypeRow}
-use Rattle.typebody.specs.Body.{superclassName}
+use Rattle.type_body.specs.Body.{superclassName}
 use Rattle.field.specs.Fields.{descriptorAt}
 use Rattle.field.specs.Records.{descriptorRecord}
 use Rattle.parent.specs.Context.{Name, contextName}

@@ -20,7 +20,7 @@ use Rattle.runtime.specs.FieldName.{inImage}
 use Rattle.context.specs.Context.{kindOf}
 use Rattle.typedescriptor.specs.Row.{rowName, descriptor}
 use Rattle.typedescriptor.specs.Slots.{slotRow}
-use Rattle.typebody.specs.Body.{ofClass, fixed, classBody, bodyBytes, body, slotBody}
+use Rattle.type_body.specs.Body.{ofClass, fixed, classBody, bodyBytes, body, slotBody}
 use Rattle.field.specs.Fields.{fieldStep, descriptorFrom, descriptorAt}
 use Rattle.parent.specs.Context.{headerIn, header}
 use Rattle.parent.specs.Chain.{contextsMost, headerAt}

@@ -22,10 +22,10 @@ use Rattle.classtrailers.specs.declared.block.BlockBody.{BlockBody}
 use Rattle.classtrailers.specs.declared.block.BlockKind.{BlockKind}
 use Rattle.typedescriptor.specs.Row.{rowName, descriptor}
 use Rattle.typedescriptor.specs.Slots.{slotRow}
-use Rattle.typebody.specs.Body.{ofStruct, structBody, bodyBytes, body, slotBody}
-use Rattle.typebody.specs.Singleton.{slotTarget, targets, singletonInit, singletonPointer}
-use Rattle.typebody.specs.Items.{slotBlock, slotInit, slotPointer}
-use Rattle.fieldoffsets.specs.Offsets.{vector, u32s, fieldOffsets, slotOffsets}
+use Rattle.type_body.specs.Body.{ofStruct, structBody, bodyBytes, body, slotBody}
+use Rattle.type_body.specs.Singleton.{slotTarget, targets, singletonInit, singletonPointer}
+use Rattle.type_body.specs.Items.{slotBlock, slotInit, slotPointer}
+use Rattle.field_offsets.specs.Offsets.{vector, u32s, fieldOffsets, slotOffsets}
 use Rattle.vtable.specs.Entries.{entryAt, upTo, entry}
 use Rattle.field.specs.Fields.{fieldStep, descriptorFrom, descriptorAt}
 use Rattle.field.specs.Records.{descriptorRecord}

@@ -20,7 +20,7 @@ use Rattle.context.specs.Context.{kindOf}
 use Rattle.context.specs.Field.{fieldKind}
 use Rattle.typedescriptor.specs.Row.{rowName, descriptor}
 use Rattle.typedescriptor.specs.Slots.{slotRow}
-use Rattle.typebody.specs.Body.{structBody, bodyBytes, body, slotBody}
+use Rattle.type_body.specs.Body.{structBody, bodyBytes, body, slotBody}
 use Rattle.vtable.specs.Entries.{entryAt, upTo, entry}
 use Rattle.field.specs.Fields.{fieldStep, descriptorFrom, descriptorAt}
 use Rattle.field.specs.Records.{descriptorRecord}

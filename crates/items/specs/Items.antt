@@ -11,10 +11,10 @@ use Rattle.classtrailers.specs.declared.block.BlockBody.{BlockBody}
 use Rattle.classtrailers.specs.declared.block.BlockKind.{BlockKind}
 use Rattle.typedescriptor.specs.Row.{TypeRow}
 use Rattle.typedescriptor.specs.Slots.{slotRow}
-use Rattle.typebody.specs.Body.{Body, slotBody}
-use Rattle.typebody.specs.Singleton.{Initialization, needing}
-use Rattle.typebody.specs.Items.{slotBlock, slotInit, slotPointer}
-use Rattle.fieldoffsets.specs.Offsets.{slotOffsets}
+use Rattle.type_body.specs.Body.{Body, slotBody}
+use Rattle.type_body.specs.Singleton.{Initialization, needing}
+use Rattle.type_body.specs.Items.{slotBlock, slotInit, slotPointer}
+use Rattle.field_offsets.specs.Offsets.{slotOffsets}
 use Rattle.vtable.specs.Entries.{Layout, method, override, defaultOverride, prespecialization, Entry, entry}
 use Rattle.field.specs.Fields.{descriptorAt}
 use Rattle.field.specs.Records.{descriptorRecord}
@@ -26,7 +26,7 @@ use Rattle.items.specs.Keys.{Sections, EntryKind, Key, Answer}
 unfoldable pub mapReads : {A B : Type 0} → (A → B) → Reads A → Reads B
 mapReads f p = bind p (λ a. done (f a))
 
--- ---- a slot's row (crate `typedescriptor`), body, blocks and singleton records (crate `typebody`), and offsets (crate `fieldoffsets`)
+-- ---- a slot's row (crate `typedescriptor`), body, blocks and singleton records (crate `type_body`), and offsets (crate `field_offsets`)
 
 abbrev pub rowOfSlot : Sections → ℕ → Reads TypeRow
 rowOfSlot s i = slotRow (s .types) (s .typesStart) i

@@ -5,8 +5,8 @@ use mathlib.Core.Option.{Option, some, none}
 use Rattle.classtrailers.specs.declared.block.Block.{Block}
 use Rattle.classtrailers.specs.declared.block.BlockKind.{BlockKind}
 use Rattle.typedescriptor.specs.Row.{TypeRow}
-use Rattle.typebody.specs.Body.{Body}
-use Rattle.typebody.specs.Singleton.{Initialization}
+use Rattle.type_body.specs.Body.{Body}
+use Rattle.type_body.specs.Singleton.{Initialization}
 use Rattle.vtable.specs.Entries.{Entry}
 use Rattle.field.specs.declared.iter.FieldDescriptor.{FieldDescriptor}
 use Rattle.parent.specs.Context.{Header}

@@ -23,14 +23,14 @@ use Rattle.typedescriptor.specs.Row.{TypeRow}
 use Rattle.typedescriptor.specs.Slots.{slots, Found, found, rowsFrom, rows}
 use Rattle.typedescriptor.specs.RowLaws.{past-slots}
 use Rattle.typedescriptor.specs.SlotsLaws.{stepped as steppedRows, stepped-rows}
-use Rattle.typebody.specs.Body.{Body, body, trailing, trailingStart}
-use Rattle.typebody.specs.Singleton.{needing, singletonInit, singletonPointer}
-use Rattle.typebody.specs.Items.{slotBlock, slotPointer, pointerOfBlock}
+use Rattle.type_body.specs.Body.{Body, body, trailing, trailingStart}
+use Rattle.type_body.specs.Singleton.{needing, singletonInit, singletonPointer}
+use Rattle.type_body.specs.Items.{slotBlock, slotPointer, pointerOfBlock}
 use Rattle.typedescriptor.specs.PathLaws as Slot
-use Rattle.typebody.specs.PathLaws as Hung
-use Rattle.fieldoffsets.specs.Offsets.{fieldOffsets, Offsets, offsetsPlace, staticPlace, metadataAt, blocksStart}
-use Rattle.fieldoffsets.specs.OffsetsLaws as Vector
-use Rattle.fieldoffsets.specs.OffsetsLaws.{offsetList}
+use Rattle.type_body.specs.PathLaws as Hung
+use Rattle.field_offsets.specs.Offsets.{fieldOffsets, Offsets, offsetsPlace, staticPlace, metadataAt, blocksStart}
+use Rattle.field_offsets.specs.OffsetsLaws as Vector
+use Rattle.field_offsets.specs.OffsetsLaws.{offsetList}
 use Rattle.vtable.specs.Entries.{Layout, method, override, defaultOverride, prespecialization, Entry, entry, start}
 use Rattle.vtable.specs.ListLaws.{listed as listedEntries, listed-all}
 use Rattle.field.specs.declared.iter.FieldDescriptor.{FieldDescriptor}

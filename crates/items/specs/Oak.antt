@@ -20,8 +20,8 @@ use Rattle.classtrailers.specs.Blocks.{tableBlock, rowAt, below, blockAt, recor
 use Rattle.classtrailers.specs.declared.block.BlockKind.{BlockKind}
 use Rattle.typedescriptor.specs.Row.{rowName, descriptor}
 use Rattle.typedescriptor.specs.Slots.{slotRow}
-use Rattle.typebody.specs.Body.{classBody, bodyBytes, body, slotBody}
-use Rattle.typebody.specs.Items.{slotBlock}
+use Rattle.type_body.specs.Body.{classBody, bodyBytes, body, slotBody}
+use Rattle.type_body.specs.Items.{slotBlock}
 use Rattle.vtable.specs.Entries.{entryAt, upTo, entry}
 use Rattle.parent.specs.Context.{headerIn, header}
 use Rattle.parent.specs.Chain.{headerAt}

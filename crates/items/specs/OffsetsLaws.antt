@@ -10,9 +10,9 @@ use lib.Dec.{leb}
 use Rattle.segment.specs.Segments.{segmentsOf, fileOffset}
 use Rattle.runtime.specs.Reads.{Reads, done, bytes, andThen, within, bytesPlace, run, Range, also, path, bind, All, every, Clear, endsBy}
 use Rattle.runtime.specs.ReadsLaws.{run-bind, path-bind, cut}
-use Rattle.typebody.specs.Body.{Body}
-use Rattle.typebody.specs.Singleton.{needing}
-use Rattle.fieldoffsets.specs.Offsets.{Vector, vector, u32s, fieldOffsets, slotOffsets, Offsets, offsets, offsetsPlace}
+use Rattle.type_body.specs.Body.{Body}
+use Rattle.type_body.specs.Singleton.{needing}
+use Rattle.field_offsets.specs.Offsets.{Vector, vector, u32s, fieldOffsets, slotOffsets, Offsets, offsets, offsetsPlace}
 use Rattle.items.specs.Keys.{Sections, Key, Answer}
 use Rattle.items.specs.Items.{item, bodyOfSlot, offsetsOfSlot}
 use Rattle.items.specs.ProgramLaws.{path-map}

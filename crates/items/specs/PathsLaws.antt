@@ -19,12 +19,12 @@ use Rattle.classtrailers.specs.declared.block.Block.{Block}
 use Rattle.classtrailers.specs.declared.block.BlockKind.{BlockKind}
 use Rattle.typedescriptor.specs.Row.{TypeRow, rowName, descriptor}
 use Rattle.typedescriptor.specs.Slots.{slotAddress}
-use Rattle.typebody.specs.Body.{Body, ofStruct, bodySize, trailing, trailingStart}
-use Rattle.typebody.specs.Singleton.{Initialization, needing, targets, singletonInit, singletonPointer}
+use Rattle.type_body.specs.Body.{Body, ofStruct, bodySize, trailing, trailingStart}
+use Rattle.type_body.specs.Singleton.{Initialization, needing, targets, singletonInit, singletonPointer}
 use Rattle.typedescriptor.specs.PathLaws as Slot
-use Rattle.typebody.specs.PathLaws as Hung
-use Rattle.fieldoffsets.specs.Offsets.{u32s, fieldOffsets}
-use Rattle.fieldoffsets.specs.OffsetsLaws as Vector
+use Rattle.type_body.specs.PathLaws as Hung
+use Rattle.field_offsets.specs.Offsets.{u32s, fieldOffsets}
+use Rattle.field_offsets.specs.OffsetsLaws as Vector
 use Rattle.vtable.specs.Entries.{Entry, entry}
 use Rattle.vtable.specs.PathLaws.{offsetIn, ranges, entry-path as own-entries}
 use Rattle.field.specs.declared.iter.FieldDescriptor.{FieldDescriptor}

@@ -17,10 +17,10 @@ use Rattle.classtrailers.specs.Blocks.{Trailing, Row, rowAt, readHeader, below,
 use Rattle.classtrailers.specs.declared.block.Block.{Block}
 use Rattle.classtrailers.specs.declared.block.BlockKind.{BlockKind}
 use Rattle.typedescriptor.specs.Slots.{slots, slotAddress}
-use Rattle.typebody.specs.Body.{Body, ofClass, ofStruct, ofEnum, bodyBytes, bodyOfKind, body, slotBody, trailing, trailingStart}
-use Rattle.typebody.specs.Singleton.{initialization, slotTarget, needing, targets, singletonInit, singletonPointer}
-use Rattle.typebody.specs.Items.{placeOf, slotBlock, slotInit, slotPointer, initOfBlock, pointerOfBlock}
-use Rattle.fieldoffsets.specs.Offsets.{vector, u32s, fieldOffsets, slotOffsets}
+use Rattle.type_body.specs.Body.{Body, ofClass, ofStruct, ofEnum, bodyBytes, bodyOfKind, body, slotBody, trailing, trailingStart}
+use Rattle.type_body.specs.Singleton.{initialization, slotTarget, needing, targets, singletonInit, singletonPointer}
+use Rattle.type_body.specs.Items.{placeOf, slotBlock, slotInit, slotPointer, initOfBlock, pointerOfBlock}
+use Rattle.field_offsets.specs.Offsets.{vector, u32s, fieldOffsets, slotOffsets}
 use Rattle.vtable.specs.Entries.{Layout, entrySize, entryOf, entryAddress, entryAt, upTo, entry}
 use Rattle.field.specs.Fields.{descriptorFrom, given, descriptorAt}
 use Rattle.field.specs.Records.{recordLayout, recordsBase, descriptorRecord}

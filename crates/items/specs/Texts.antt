@@ -13,7 +13,7 @@ use Rattle.runtime.specs.Reads.{Reads, done, nothing, bytes, text, bind, textOf
 use Rattle.context.specs.Context.{contextKind, hasName}
 use Rattle.typedescriptor.specs.Row.{nameAddress}
 use Rattle.typedescriptor.specs.Slots.{slots, slotAddress}
-use Rattle.typebody.specs.Body.{Body, ofClass, ofStruct, ofEnum}
+use Rattle.type_body.specs.Body.{Body, ofClass, ofStruct, ofEnum}
 use Rattle.vtable.specs.Entries.{Entry}
 use Rattle.field.specs.Fields.{descriptorAt}
 use Rattle.field.specs.Records.{descriptorRecord}

@@ -16,7 +16,7 @@ use Rattle.runtime.specs.ReadsLaws.{run-bind, path-bind, cut}
 use Rattle.runtime.specs.PathLaws.{bytes-clear, path-text-zero}
 use Rattle.runtime.specs.CallsLaws.{run-text, run-no-text}
 use Rattle.runtime.specs.FieldName.{NamePlace, inImage, inStrings, sectionText, orElse, fieldName}
-use Rattle.typebody.specs.Body.{Body, ofClass, ofStruct, ofEnum, superclassName}
+use Rattle.type_body.specs.Body.{Body, ofClass, ofStruct, ofEnum, superclassName}
 use Rattle.field.specs.declared.record.FieldRecord.{FieldRecord}
 use Rattle.field.specs.Fields.{descriptorAt}
 use Rattle.field.specs.Records.{descriptorRecord, ofRecord}

@@ -6,20 +6,20 @@ ghost use lib.ListN.{length};
 ghost use Rattle.refusal.specs.Refusal.{answered};
 ghost use Rattle.util.specs.Cstr.{place, partOf};
 ghost use Rattle.bundle.specs.Open.{bundleMost};
-ghost use Rattle.printing.specs.Lines.{lineText};
-ghost use Rattle.printer.specs.Printed.{pendingOf, printStep, printed, linesMost, taken};
+ghost use Rattle.type_lines.specs.Lines.{lineText};
+ghost use Rattle.bundle_lines.specs.Printed.{pendingOf, printStep, printed, linesMost, taken};
 ghost use Rattle.list.specs.Input.{Came};
 use bundle::BUNDLE_BYTES;
+use bundle_lines::BundleLineIter;
+use bundle_lines::LINES;
+use bundle_lines::PrintStep;
 use bundle_parts::SEGMENT_NUMBERS;
 use bundle_rules::Broken;
 use bundle_rules::Rule;
 use libc::STDERR_FILENO;
 use libc::STDIN_FILENO;
 use libc::STDOUT_FILENO;
-use printer::LINES;
-use printer::PrintStep;
-use printer::Printer;
-use printing::LINE_BYTES;
+use type_lines::LINE_BYTES;
 use util::ReadU32;
 
 // One byte more than any bundle has, so that a longer input shows.
@@ -32,7 +32,7 @@ pub struct Written {
 }
 
 // Writes the line that the step from `pending` gives: the only place that writes to standard output but for --help and --version.
-fn write_line(bytes: &[u8], segments: &[u64], pending: Printer, text: &[u8]) -> bool
+fn write_line(bytes: &[u8], segments: &[u64], pending: BundleLineIter, text: &[u8]) -> bool
     requires { ⌜ lineText (answered (printStep (now bytes) (now segments) (pendingOf pending))) ≡ some (now text) ⌝ }
 {
     io::write_all(STDOUT_FILENO, text)
@@ -46,7 +46,7 @@ fn line_part(line: &[u8; LINE_BYTES], length: usize) -> &[u8]
 }
 
 // Steps to the end. Lines are written as long as they can be.
-fn print_lines(bytes: &[u8], segments: &[u64], first: Printer) -> Written
+fn print_lines(bytes: &[u8], segments: &[u64], first: BundleLineIter) -> Written
     requires { ⌜ length (now segments) % 4 ≡ 0 ⌝ }
     ensures { λ r. ⌜ r .lines ≡ length (taken linesMost (now (bytes .entry)) (now (segments .entry)) (pendingOf first) .lines) ⌝ }
 {
@@ -79,7 +79,7 @@ fn print_listing(bytes: &[u8]) -> Written
     ensures { λ r. ⌜ r .lines ≡ length (printed (now (bytes .entry))) ⌝ }
 {
     let mut numbers = [0u64; SEGMENT_NUMBERS];
-    let first = printer::start(bytes);
+    let first = bundle_lines::start(bytes);
     let count = first.segments(bytes, &mut numbers);
     print_lines(bytes, &numbers[..count], first)
 }

@@ -8,34 +8,34 @@
 // tests/bundles.py writes the answers.
 use classtrailers::Block;
 use classtrailers::BlockBody;
+use classtrailers::BlockIter;
 use classtrailers::BlockKind;
-use classtrailers::BlockWalk;
 use classtrailers::Trailing;
-use listing::BlockAnswer;
-use listing::BodyAnswer;
-use listing::InitAnswer;
-use listing::NextBlock;
-use listing::NextContext;
-use listing::NextEntry;
-use listing::NextRow;
-use listing::PointerAnswer;
-use listing::TextAnswer;
 use parent::ParentChain;
-use printing::LINE_BYTES;
-use printing::Lister;
-use printing::NextLine;
-use qualifiedname::QualifiedName;
+use qualified_name::QualifiedName;
 use refusal::Refusal;
-use typebody::ClassBody;
-use typebody::ClassSizes;
-use typebody::SingletonMetadataInit;
-use typebody::SingletonMetadataPointer;
-use typebody::StructBody;
-use typebody::TypeBody;
+use steps::BlockAnswer;
+use steps::BodyAnswer;
+use steps::InitAnswer;
+use steps::NextBlock;
+use steps::NextContext;
+use steps::NextEntry;
+use steps::NextRow;
+use steps::PointerAnswer;
+use steps::TextAnswer;
+use type_body::ClassBody;
+use type_body::ClassSizes;
+use type_body::SingletonMetadataInit;
+use type_body::SingletonMetadataPointer;
+use type_body::StructBody;
+use type_body::TypeBody;
+use type_lines::LINE_BYTES;
+use type_lines::LineIter;
+use type_lines::NextLine;
 use typedescriptor::Row;
 use typedescriptor::TypeIter;
 use util::Text;
-use vtable::EntryCursor;
+use vtable::EntryIter;
 use vtable::EntryKind;
 use vtable::EntryStep;
 use vtable::TableEntry;
@@ -51,7 +51,7 @@ fn refused(refusal: Refusal) {
 }
 
 fn try_row(image: &[u8], segments: &[u64]) {
-    match listing::next_row(
+    match steps::next_row(
         image,
         segments,
         b"\x00\xf0\xff\xff",
@@ -67,7 +67,7 @@ fn try_row(image: &[u8], segments: &[u64]) {
 }
 
 fn try_context(image: &[u8], segments: &[u64]) {
-    match listing::next_context(image, segments, ParentChain::starting_at(0x1000)) {
+    match steps::next_context(image, segments, ParentChain::starting_at(0x1000)) {
         NextContext::Context { context, next } => number(context.address),
         NextContext::End => {
             io::write_all(1, b" end");
@@ -78,12 +78,12 @@ fn try_context(image: &[u8], segments: &[u64]) {
 
 fn try_line(image: &[u8], segments: &[u64]) {
     let mut line = [0u8; LINE_BYTES];
-    match printing::next_line(
+    match type_lines::next_line(
         image,
         segments,
         b"\x00\xf0\xff\xff",
         0x2000,
-        Lister::new(),
+        LineIter::new(),
         &mut line,
     ) {
         NextLine::Line { length, next } => number(length as u64),
@@ -117,7 +117,7 @@ fn unreadable() {
 
 // The fields of the body.
 fn try_body(image: &[u8], segments: &[u64]) {
-    match listing::row_body(image, segments, 0x1000, 17) {
+    match steps::row_body(image, segments, 0x1000, 17) {
         BodyAnswer::Body(body) => match body {
             TypeBody::Class(_) => nothing(),
             TypeBody::Struct(fields) => number(fields.num_fields as u64),
@@ -151,8 +151,8 @@ fn try_texts(image: &[u8], segments: &[u64]) {
         num_fields: 0,
         field_offset_vector_offset: 0,
     });
-    answer_text(listing::superclass_name(image, segments, class));
-    answer_text(listing::text_at(image, segments, 0x101c));
+    answer_text(steps::superclass_name(image, segments, class));
+    answer_text(steps::text_at(image, segments, 0x101c));
 }
 
 // The address of a generic block.
@@ -166,7 +166,7 @@ fn block(found: Block) {
 
 // The descriptor's bytes as the generic block of a walk, and as that of a struct 28 bytes before them.
 fn try_blocks(image: &[u8], segments: &[u64]) {
-    let walk = BlockWalk {
+    let walk = BlockIter {
         trailing: Trailing {
             flags: 0x91,
             is_class: false,
@@ -175,7 +175,7 @@ fn try_blocks(image: &[u8], segments: &[u64]) {
         row: 0,
         address: 0x1000,
     };
-    match listing::next_block(image, segments, walk) {
+    match steps::next_block(image, segments, walk) {
         NextBlock::Block { block: found, next } => block(found),
         NextBlock::End => end(),
         NextBlock::Refused(refusal) => refused(refusal),
@@ -184,7 +184,7 @@ fn try_blocks(image: &[u8], segments: &[u64]) {
         num_fields: 0,
         field_offset_vector_offset: 0,
     });
-    match listing::block_of_kind(image, segments, 0xfe4, 0x91, body, BlockKind::Generic) {
+    match steps::block_of_kind(image, segments, 0xfe4, 0x91, body, BlockKind::Generic) {
         BlockAnswer::Block(found) => block(found),
         BlockAnswer::Nothing => nothing(),
         BlockAnswer::Refused(refusal) => refused(refusal),
@@ -212,16 +212,16 @@ fn entry_word(kind: EntryKind, answer: NextEntry) {
     }
 }
 
-fn try_table(image: &[u8], segments: &[u64], cursor: EntryCursor, kind: EntryKind) {
-    entry_word(kind, listing::next_entry(image, segments, cursor, kind));
+fn try_table(image: &[u8], segments: &[u64], cursor: EntryIter, kind: EntryKind) {
+    entry_word(kind, steps::next_entry(image, segments, cursor, kind));
 }
 
 // The descriptor's bytes as the first entry of each kind of table.
 fn try_tables(image: &[u8], segments: &[u64]) {
-    let cursor = EntryCursor::new(0x1000, 1);
+    let cursor = EntryIter::new(0x1000, 1);
     entry_word(
         EntryKind::Method,
-        listing::next_method(image, segments, cursor),
+        steps::next_method(image, segments, cursor),
     );
     try_table(image, segments, cursor, EntryKind::Override);
     try_table(image, segments, cursor, EntryKind::DefaultOverride);
@@ -230,7 +230,7 @@ fn try_tables(image: &[u8], segments: &[u64]) {
 
 // The descriptor's bytes as the records of a singleton: the completion function, and the metadata.
 fn try_singletons(image: &[u8], segments: &[u64]) {
-    match listing::singleton_init(image, segments, 0x1000) {
+    match steps::singleton_init(image, segments, 0x1000) {
         InitAnswer::Init(init) => match init {
             SingletonMetadataInit::At {
                 initialization_cache_va,
@@ -241,7 +241,7 @@ fn try_singletons(image: &[u8], segments: &[u64]) {
         },
         InitAnswer::Refused(refusal) => refused(refusal),
     }
-    match listing::singleton_pointer(image, segments, 0x1000) {
+    match steps::singleton_pointer(image, segments, 0x1000) {
         PointerAnswer::Pointer(pointer) => match pointer {
             SingletonMetadataPointer::At(metadata_va) => number(metadata_va),
             SingletonMetadataPointer::Nothing => nothing(),
@@ -279,7 +279,7 @@ fn try_buffer(image: &[u8], segments: &[u64], parent: u64, size: usize, buffer: 
         name_place: 28,
         name_length: 4,
     };
-    let joined = listing::joined_name(image, segments, row, &mut buffer[..size]);
+    let joined = steps::joined_name(image, segments, row, &mut buffer[..size]);
     answer(joined);
     io::write_all(1, b" ");
     io::write_all(1, buffer);

@@ -16,14 +16,14 @@
 //   text OFFSET PLACE LENGTH                                the text at the image's offset ADDRESS % (length + 2)
 // with `nothing` where there is none. `target/compare/compare sample OUT crates/test_replay` (after compare/build) makes both
 // files, stdin and stdout, anew from the Rust; OUT gets them as one.
-use listing::NextContext;
-use listing::NextRow;
 use parent::ParentChain;
 use parent::ParentContext;
-use qualifiedname::QualifiedName;
+use qualified_name::QualifiedName;
 use refusal::Refusal;
 use runtime::FieldName;
 use segment::FileOffset;
+use steps::NextContext;
+use steps::NextRow;
 use test_lines::Count;
 use typedescriptor::Row;
 use typedescriptor::TypeIter;
@@ -95,14 +95,14 @@ fn shorter(image: &[u8], segments: &[u64], row: Row, n: usize, buffer: &mut [u8]
         return;
     }
     let end = n - 1;
-    match listing::joined_name(image, segments, row, &mut buffer[..end]) {
+    match steps::joined_name(image, segments, row, &mut buffer[..end]) {
         QualifiedName::Length(_) => bad_line(),
         QualifiedName::Refused(refusal) => refused(refusal),
     }
 }
 
 fn name_lines(image: &[u8], segments: &[u64], row: Row, buffer: &mut [u8]) {
-    match listing::joined_name(image, segments, row, buffer) {
+    match steps::joined_name(image, segments, row, buffer) {
         QualifiedName::Length(n) => {
             name_line(util::part(buffer, 0, n));
             shorter(image, segments, row, n, buffer);
@@ -142,7 +142,7 @@ fn context_lines(image: &[u8], segments: &[u64], parent: u64) {
     let mut walk = ParentChain::starting_at(parent);
     let mut depth: u64 = 0;
     while depth < 257 {
-        let step = listing::next_context(image, segments, walk);
+        let step = steps::next_context(image, segments, walk);
         match step {
             NextContext::Context { context, next } => {
                 shown(depth, context);
@@ -189,7 +189,7 @@ fn all_rows(image: &[u8], segments: &[u64], types: &[u8], vmaddr: u64) {
     let mut walk = TypeIter::new();
     let mut rows: u64 = 0;
     while rows < 4096 {
-        let step = listing::next_row(image, segments, types, vmaddr, walk);
+        let step = steps::next_row(image, segments, types, vmaddr, walk);
         match step {
             NextRow::Row { slot, row, next } => {
                 row_lines(image, segments, slot, row);

@@ -9,8 +9,8 @@ use crate::refused;
 use crate::three;
 use crate::two;
 use crate::word;
-use listing::NextEntry;
-use vtable::EntryCursor;
+use steps::NextEntry;
+use vtable::EntryIter;
 pub use vtable::EntryKind as Kind;
 use vtable::EntryStep;
 use vtable::TableEntry;
@@ -40,8 +40,8 @@ fn words(kind: Kind, entry: TableEntry) {
     }
 }
 
-fn entry_line(image: &[u8], segments: &[u64], kind: Kind, cursor: EntryCursor) {
-    match listing::next_entry(image, segments, cursor, kind) {
+fn entry_line(image: &[u8], segments: &[u64], kind: Kind, cursor: EntryIter) {
+    match steps::next_entry(image, segments, cursor, kind) {
         NextEntry::Step(step) => match step {
             EntryStep::Entry { entry, next: _ } => words(kind, entry),
             EntryStep::Unreadable { next: _ } => word(b"unreadable\n"),
@@ -64,7 +64,7 @@ pub fn entries(image: &[u8], segments: &[u64], kind: Kind, base_va: u64, count: 
     let most = at_most_shown(count);
     let mut next: u32 = 0;
     while next < most {
-        let cursor = EntryCursor {
+        let cursor = EntryIter {
             base_va,
             count,
             next,

@@ -18,20 +18,20 @@ use crate::word;
 use classtrailers::Block;
 use classtrailers::BlockBody;
 use classtrailers::BlockKind;
-use fieldoffsets::FieldOffset;
-use fieldoffsets::FieldOffsets;
-use listing::BlockAnswer;
-use listing::BodyAnswer;
-use listing::InitAnswer;
-use listing::NextBlock;
-use listing::NextRow;
-use listing::PointerAnswer;
-use listing::TextAnswer;
-use typebody::ClassBody;
-use typebody::ClassSizes;
-use typebody::SingletonMetadataInit;
-use typebody::SingletonMetadataPointer;
-use typebody::TypeBody;
+use field_offsets::FieldOffset;
+use field_offsets::FieldOffsets;
+use steps::BlockAnswer;
+use steps::BodyAnswer;
+use steps::InitAnswer;
+use steps::NextBlock;
+use steps::NextRow;
+use steps::PointerAnswer;
+use steps::TextAnswer;
+use type_body::ClassBody;
+use type_body::ClassSizes;
+use type_body::SingletonMetadataInit;
+use type_body::SingletonMetadataPointer;
+use type_body::TypeBody;
 use typedescriptor::Row;
 use typedescriptor::TypeIter;
 
@@ -65,7 +65,7 @@ fn class_line(class: ClassBody) {
 }
 
 fn superclass_line(image: &[u8], segments: &[u64], body: TypeBody) {
-    match listing::superclass_name(image, segments, body) {
+    match steps::superclass_name(image, segments, body) {
         TextAnswer::Text(text) => text_line(b"superclass", text),
         TextAnswer::Refused(refusal) => refused(refusal),
     }
@@ -123,7 +123,7 @@ fn block_end(block: Block) {
 
 fn init_line(image: &[u8], segments: &[u64], address: u64) {
     word(b"init");
-    match listing::singleton_init(image, segments, address) {
+    match steps::singleton_init(image, segments, address) {
         InitAnswer::Init(init) => match init {
             SingletonMetadataInit::At {
                 initialization_cache_va,
@@ -142,7 +142,7 @@ fn init_line(image: &[u8], segments: &[u64], address: u64) {
 
 fn pointer_line(image: &[u8], segments: &[u64], address: u64) {
     word(b"pointer");
-    match listing::singleton_pointer(image, segments, address) {
+    match steps::singleton_pointer(image, segments, address) {
         PointerAnswer::Pointer(pointer) => match pointer {
             SingletonMetadataPointer::At(metadata_va) => one(metadata_va),
             SingletonMetadataPointer::Nothing => nothing(),
@@ -194,10 +194,10 @@ fn block_line(image: &[u8], segments: &[u64], block: Block) {
 
 // There are at most 11 blocks, and then the end.
 fn block_lines(image: &[u8], segments: &[u64], row: Row, body: TypeBody) {
-    let mut walk = listing::block_walk(row.address, row.flags, body);
+    let mut walk = steps::block_walk(row.address, row.flags, body);
     let mut given: u32 = 0;
     while given < 12 {
-        let step = listing::next_block(image, segments, walk);
+        let step = steps::next_block(image, segments, walk);
         match step {
             NextBlock::Block { block, next } => {
                 block_line(image, segments, block);
@@ -217,7 +217,7 @@ fn block_lines(image: &[u8], segments: &[u64], row: Row, body: TypeBody) {
 }
 
 fn kind_line(image: &[u8], segments: &[u64], row: Row, body: TypeBody, kind: BlockKind) {
-    match listing::block_of_kind(image, segments, row.address, row.flags, body, kind) {
+    match steps::block_of_kind(image, segments, row.address, row.flags, body, kind) {
         BlockAnswer::Block(block) => {
             word(b"kind");
             block_end(block);
@@ -256,7 +256,7 @@ fn kind_lines(image: &[u8], segments: &[u64], row: Row, body: TypeBody) {
 // Field offsets.
 
 fn offset_field(image: &[u8], offsets: FieldOffsets, number: u32) {
-    match fieldoffsets::field_offset(image, offsets, number) {
+    match field_offsets::field_offset(image, offsets, number) {
         FieldOffset::At(offset) => number_field(offset as u64),
         FieldOffset::Nothing => nothing(),
     }
@@ -275,7 +275,7 @@ fn offset_fields(image: &[u8], offsets: FieldOffsets, count: u32) {
 
 fn offsets_line(image: &[u8], segments: &[u64], row: Row) {
     word(b"offsets");
-    let offsets = fieldoffsets::static_field_offsets(image, segments, row.address, row.flags);
+    let offsets = field_offsets::static_field_offsets(image, segments, row.address, row.flags);
     match offsets {
         FieldOffsets::At { place: _, count } => {
             number_field(count as u64);
@@ -298,7 +298,7 @@ fn row_line(slot: usize, row: Row) {
 
 fn row_lines(image: &[u8], segments: &[u64], slot: usize, row: Row) {
     row_line(slot, row);
-    match listing::row_body(image, segments, row.address, row.flags) {
+    match steps::row_body(image, segments, row.address, row.flags) {
         BodyAnswer::Body(body) => {
             body_lines(image, segments, body);
             block_lines(image, segments, row, body);
@@ -322,7 +322,7 @@ pub fn all_rows(image: &[u8], segments: &[u64], types: &[u8], vmaddr: u64) -> u6
     let mut walk = TypeIter::new();
     let mut rows: u64 = 0;
     while rows < 4096 {
-        let step = listing::next_row(image, segments, types, vmaddr, walk);
+        let step = steps::next_row(image, segments, types, vmaddr, walk);
         match step {
             NextRow::Row { slot, row, next } => {
                 row_lines(image, segments, slot, row);

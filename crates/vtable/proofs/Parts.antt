@@ -17,18 +17,18 @@ use denote.Ref.{RefT}
 use denote.Slice.{sliceVal, ShrSlice, shr-slice-copy}
 use denote.Steps.{nothing}
 use denote.Struct.Laws as LL
-use Rattle.vtable.specs.declared.cursor.EntryCursor.{EntryCursor}
-use Rattle.vtable.proofs.cursor.EntryCursor as E
-use Rattle.vtable.proofs.cursor.EntryCursor.Laws as E′
+use Rattle.vtable.specs.declared.iter.EntryIter.{EntryIter}
+use Rattle.vtable.proofs.iter.EntryIter as E
+use Rattle.vtable.proofs.iter.EntryIter.Laws as E′
 
 -- the machine values of the parts
 abbrev pub sliceOf : RefT (List ℕ) → Val
 sliceOf s = sliceVal (s .ptr) (length (s .now))
 
-abbrev pub partsAt : EntryCursor → RefT (List ℕ) → RefT (List ℕ) → List Val × (List Val × (List Val × Unit {0}))
+abbrev pub partsAt : EntryIter → RefT (List ℕ) → RefT (List ℕ) → List Val × (List Val × (List Val × Unit {0}))
 partsAt c s t = (E′.lowered c ∷ [], (sliceOf s ∷ [], (sliceOf t ∷ [], tt)))
 
-module _ {M : Type 1} (𝓤 : URA M) (H : Heap 𝓤) (A : Atoms 𝓤) (W : Given 𝓤 H A) (κ κ′ : Lft) (c : EntryCursor) (s t : RefT (List ℕ)) where
+module _ {M : Type 1} (𝓤 : URA M) (H : Heap 𝓤) (A : Atoms 𝓤) (W : Given 𝓤 H A) (κ κ′ : Lft) (c : EntryIter) (s t : RefT (List ℕ)) where
   abbrev pub Parts : Fml
   Parts = owns (E.the-row ∷ ShrSlice (named 0) κ u8 ∷ ShrSlice (named 1) κ′ u64 ∷ []) (c, (s, (t, tt))) (partsAt c s t)
 

@@ -14,8 +14,8 @@ use Rattle.runtime.specs.Reads.{Reads, done, nothing, bytes, bind, run}
 use Rattle.runtime.specs.Bytes.{bytesRead}
 use Rattle.vtable.specs.declared.entry.EntryKind.{EntryKind}
 use Rattle.vtable.specs.declared.entry.TableEntry.{TableEntry}
-use Rattle.vtable.specs.declared.cursor.EntryCursor.{EntryCursor}
-use Rattle.vtable.specs.declared.cursor.EntryStep.{EntryStep}
+use Rattle.vtable.specs.declared.iter.EntryIter.{EntryIter}
+use Rattle.vtable.specs.declared.iter.EntryStep.{EntryStep}
 use Rattle.vtable.specs.declared.walk.MethodWalk.{MethodWalk}
 
 -- a word of four bytes: a number, or the offset of a relative pointer that may be null
@@ -94,18 +94,18 @@ unfoldable pub entry : Layout → ℕ → ℕ → ℕ → Reads Entry
 entry layout base count k = cond (ltb k count) (upTo layout base k) nothing
 
 -- a walk: the table's start, the number of its entries, and the next one's. A walk starts at entry 0
-abbrev pub start : ℕ → ℕ → EntryCursor
+abbrev pub start : ℕ → ℕ → EntryIter
 start base count = record { «base_va» = base; count = count; next = 0 }
 
-abbrev pub moved : EntryCursor → EntryCursor
+abbrev pub moved : EntryIter → EntryIter
 moved c = record { «base_va» = c .«base_va»; count = c .count; next = c .next + 1 }
 
 -- a single step, like the Rust's `next`: the entry, or that it is unreadable; the walk moves on past it in both cases
 pub record Step : Type 0 where
   pub found : Option Entry
-  pub next : EntryCursor
+  pub next : EntryIter
 
-unfoldable pub entryStep : List ℕ → List ℕ → Layout → EntryCursor → Option Step
+unfoldable pub entryStep : List ℕ → List ℕ → Layout → EntryIter → Option Step
 entryStep image segments layout c =
     cond (ltb (c .next) (c .count)) (some (record { found = run image segments (entryAt layout (c .«base_va») (c .next)); next = moved c })) none
 
@@ -121,7 +121,7 @@ abbrev pub tableEntry : Entry → TableEntry
 tableEntry e = record { address = e .address; first = getD (e .words) 0 0; second = getD (e .words) 1 0; third = getD (e .words) 2 0 }
 
 -- the answer of a step
-abbrev pub foundAnswer : Option Entry → EntryCursor → EntryStep
+abbrev pub foundAnswer : Option Entry → EntryIter → EntryStep
 foundAnswer none c = EntryStep.Unreadable c
 foundAnswer (some e) c = EntryStep.Entry (tableEntry e) c
 
@@ -130,5 +130,5 @@ stepAnswer none = EntryStep.End
 stepAnswer (some s) = foundAnswer (s .found) (s .next)
 
 -- the walk that holds the image and the segments
-abbrev pub walkFrom : EntryCursor → RefT (List ℕ) → RefT (List ℕ) → MethodWalk
+abbrev pub walkFrom : EntryIter → RefT (List ℕ) → RefT (List ℕ) → MethodWalk
 walkFrom c image segments = record { cursor = c; image = image; segments = segments }

@@ -19,8 +19,8 @@ use Rattle.runtime.specs.Bytes.{bytesFrom, bytesRead}
 use Rattle.runtime.specs.CallsLaws.{bytes-within, run-bytes, run-no-bytes, run-mapped, read-mapped}
 use Rattle.vtable.specs.declared.entry.EntryKind.{EntryKind}
 use Rattle.vtable.specs.declared.entry.TableEntry.{TableEntry}
-use Rattle.vtable.specs.declared.cursor.EntryCursor.{EntryCursor}
-use Rattle.vtable.specs.declared.cursor.EntryStep.{EntryStep}
+use Rattle.vtable.specs.declared.iter.EntryIter.{EntryIter}
+use Rattle.vtable.specs.declared.iter.EntryStep.{EntryStep}
 use Rattle.vtable.specs.Entries.{Word, pointer, Layout, wordsOf, layoutOf, entrySize, wordAt, wordsFrom, Entry, entryOf, entryAddress, entryAt, moved, entryStep, entryBytes, tableEntry, stepAnswer}
 
 -- two numbers of 32 bits have a product of 64
@@ -132,7 +132,7 @@ module _ (image segments : List ℕ) (layout : Layout) (base k : ℕ) (some-word
 
 -- ---- a step
 
-module _ (image segments : List ℕ) (layout : Layout) (c : EntryCursor) where
+module _ (image segments : List ℕ) (layout : Layout) (c : EntryIter) where
   pub step-end : c .count ≤ c .next → none ≡ entryStep image segments layout c
   unfolding entryStep
   step-end h = simp (le-ltb (c .next) (c .count) h)
@@ -143,7 +143,7 @@ module _ (image segments : List ℕ) (layout : Layout) (c : EntryCursor) where
   step-gives x e l = simp (lt-ltb (c .next) (c .count) l) (rw (← e))
 
   -- the same of a cursor that was moved
-  pub step-moves : (x : Option Entry) (n : EntryCursor) → x ≡ run image segments (entryAt layout (c .«base_va») (c .next)) → n ≡ moved c → c .next < c .count
+  pub step-moves : (x : Option Entry) (n : EntryIter) → x ≡ run image segments (entryAt layout (c .«base_va») (c .next)) → n ≡ moved c → c .next < c .count
       → some (record { found = x; next = n }) ≡ entryStep image segments layout c
   step-moves x n e f l = rw f (step-gives x e l)
 
@@ -173,7 +173,7 @@ words-in EntryKind.Prespecialization a h = refl
 pub told-words : (kind k : EntryKind) (a : ℕ) (h xs : List ℕ) → kind ≡ k → Says (wordsOf k) a 0 h xs → tableEntry (record { address = a; words = xs }) ≡ tableEntry (entryOf (layoutOf kind) a h)
 told-words kind k a h xs e s = ap tableEntry (entry-of (layoutOf k) a h xs s ∙ ap (λ (j : EntryKind). entryOf (layoutOf j) a h) (sym e))
 
-module _ (image segments : List ℕ) (kind : EntryKind) (c : EntryCursor) where
+module _ (image segments : List ℕ) (kind : EntryKind) (c : EntryIter) where
   abbrev answer : EntryStep
   answer = stepAnswer (entryStep image segments (layoutOf kind) c)
 
@@ -190,7 +190,7 @@ module _ (image segments : List ℕ) (kind : EntryKind) (c : EntryCursor) where
     pub kind-below : (length h ≡ 0 → ⊥) → (a : ℕ) → a ≡ (c .«base_va» + size * c .next) % 2 ^ 64 → a + (entrySize (layoutOf kind) - 4) < 2 ^ 64
     kind-below n a ea = slots-below image segments (layoutOf kind) (c .«base_va») (c .next) (some-words kind) h bytes-sized n a (at-sized a ea)
 
-    module _ (n : EntryCursor) (en : n ≡ moved c) (l : c .next < c .count) where
+    module _ (n : EntryIter) (en : n ≡ moved c) (l : c .next < c .count) where
       pub kind-unreadable : length h ≡ 0 → EntryStep.Unreadable n ≡ answer
       kind-unreadable z = ap stepAnswer (step-moves image segments (layoutOf kind) c none n (no-entry image segments (layoutOf kind) (c .«base_va») (c .next) (some-words kind) h bytes-sized z) en l)
 

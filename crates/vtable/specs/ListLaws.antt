@@ -14,23 +14,23 @@ use lib.Dec.{ltb}
 use borrow.Author.Tests.{lt-ltb, le-ltb}
 use Rattle.runtime.specs.Reads.{nothing, andThen, run}
 use Rattle.runtime.specs.ReadsLaws.{run-bind}
-use Rattle.vtable.specs.declared.cursor.EntryCursor.{EntryCursor}
+use Rattle.vtable.specs.declared.iter.EntryIter.{EntryIter}
 use Rattle.vtable.specs.Entries.{Layout, Entry, entryAt, upTo, entry, start, Step, entryStep}
 use Rattle.vtable.specs.EntriesLaws.{step-end, step-gives}
 
 -- a walk over the same table at entry `k`
-abbrev pub walkAt : ℕ → ℕ → ℕ → EntryCursor
+abbrev pub walkAt : ℕ → ℕ → ℕ → EntryIter
 walkAt base count k = record { «base_va» = base; count = count; next = k }
 
 module _ (image segments : List ℕ) (layout : Layout) where
   -- ---- by number
 
   -- what the step after `n` steps gives; a step moves on past an unreadable entry
-  unfoldable pub stepAfter : ℕ → EntryCursor → Option Step
+  unfoldable pub stepAfter : ℕ → EntryIter → Option Step
   stepAfter zero c = entryStep image segments layout c
   stepAfter (suc n) c = elim (entryStep image segments layout c) [ none ↦ none | some s ↦ stepAfter n (s .next) ]
 
-  after-by : (n : ℕ) (c : EntryCursor) (x : Option Step) → entryStep image segments layout c ≡ x
+  after-by : (n : ℕ) (c : EntryIter) (x : Option Step) → entryStep image segments layout c ≡ x
       → stepAfter (suc n) c ≡ (elim x as (λ _. Option Step) [ none ↦ none | some s ↦ stepAfter n (s .next) ])
   unfolding stepAfter
   after-by n c x e = rw (stepAfter, e)
@@ -80,7 +80,7 @@ module _ (image segments : List ℕ) (layout : Layout) where
   -- ---- as a list
 
   -- the entries that at most `n` steps give, up to the first unreadable one
-  unfoldable pub listed : ℕ → EntryCursor → List Entry
+  unfoldable pub listed : ℕ → EntryIter → List Entry
   listed zero c = []
   listed (suc n) c =
       elim (entryStep image segments layout c) [

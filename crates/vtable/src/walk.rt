@@ -2,17 +2,17 @@
 // slices and numbers; each function here makes such a value or takes it apart.
 ghost use mathlib.Core.Path.{_≡_};
 ghost use Rattle.vtable.specs.Entries.{method, entryStep, stepAnswer, walkFrom};
-use crate::cursor::EntryCursor;
-use crate::cursor::EntryStep;
+use crate::iter::EntryIter;
+use crate::iter::EntryStep;
 
 pub struct MethodWalk<'a, 'b> {
-    pub cursor: EntryCursor,
+    pub cursor: EntryIter,
     pub image: &'a [u8],
     pub segments: &'b [u64],
 }
 
 pub fn method_walk<'a, 'b>(
-    cursor: EntryCursor,
+    cursor: EntryIter,
     image: &'a [u8],
     segments: &'b [u64],
 ) -> MethodWalk<'a, 'b>
@@ -33,7 +33,7 @@ pub fn walk_step<'a, 'b>(w: MethodWalk<'a, 'b>) -> EntryStep
 }
 
 // The same of slices and numbers, with the value in between: whoever calls this needs no proof by hand.
-pub fn method_step(cursor: EntryCursor, image: &[u8], segments: &[u64]) -> EntryStep
+pub fn method_step(cursor: EntryIter, image: &[u8], segments: &[u64]) -> EntryStep
     ensures { λ r. ⌜ r ≡ stepAnswer (entryStep (now (image .entry)) (now (segments .entry)) method cursor) ⌝ }
 {
     walk_step(method_walk(cursor, image, segments))

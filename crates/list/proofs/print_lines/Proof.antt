@@ -5,9 +5,9 @@ use native.Mathlib.Omega.{arith}
 use mathlib.Core.Path.{sym}
 use Rattle.util.specs.AnswersLaws.{told}
 use Rattle.refusal.specs.GuardedLaws.{answered-is, never-refused}
-use Rattle.printer.specs.Printed.{linesMost, pendingOf, printAnswer}
-use Rattle.printer.specs.PrintedLaws.{step-part}
-use Rattle.printer.specs.PrintsLaws.{Going, going-start, going-on, going-end, going-full}
+use Rattle.bundle_lines.specs.Printed.{linesMost, pendingOf, printAnswer}
+use Rattle.bundle_lines.specs.PrintedLaws.{step-part}
+use Rattle.bundle_lines.specs.PrintsLaws.{Going, going-start, going-on, going-end, going-full}
 use borrow.Author.Needs.{needs}
 use Rattle.list.proofs.print_lines.Statement.{statement}
 use Rattle.list.proofs.print_lines.Tie as tie

@@ -3,7 +3,7 @@
 use Prim.Native.Nat.{_-_, _≤_, _<_}
 use native.Mathlib.Omega.{arith}
 use Rattle.util.specs.AnswersLaws.{told}
-use Rattle.listing.specs.Calls.{rowAnswer}
+use Rattle.steps.specs.Calls.{rowAnswer}
 use Rattle.test_replay_full.specs.ShownLaws.{Showing, Whole, start-showing, shown-whole, none-shown, row-shown, rows-ended, rows-all}
 use borrow.Author.Needs.{needs}
 use Rattle.test_replay_full.proofs.rows.all_rows.Statement.{statement}

@@ -37,14 +37,14 @@ use denote.Triple.Walked.{says, Stays, stay-none, stay-none-slice, walkOf, goes-
 use denote.Exit.{yes}
 use denote.Triple.Clauses.{ensured, lasts}
 use Rattle.vtable.specs.Entries.{method, entryStep, stepAnswer, walkFrom}
-use Rattle.vtable.specs.declared.cursor.EntryCursor.{EntryCursor}
-use Rattle.vtable.specs.declared.cursor.EntryStep.{EntryStep}
+use Rattle.vtable.specs.declared.iter.EntryIter.{EntryIter}
+use Rattle.vtable.specs.declared.iter.EntryStep.{EntryStep}
 use Rattle.vtable.specs.declared.walk.MethodWalk.{MethodWalk}
 use Rattle.vtable.proofs.Parts.{sliceOf, partsAt, Parts, twice}
-use Rattle.vtable.proofs.cursor.EntryCursor as E
-use Rattle.vtable.proofs.cursor.EntryCursor.Laws as E′
-use Rattle.vtable.proofs.cursor.EntryStep as S
-use Rattle.vtable.proofs.cursor.EntryStep.Laws as S′
+use Rattle.vtable.proofs.iter.EntryIter as E
+use Rattle.vtable.proofs.iter.EntryIter.Laws as E′
+use Rattle.vtable.proofs.iter.EntryStep as S
+use Rattle.vtable.proofs.iter.EntryStep.Laws as S′
 use Rattle.vtable.proofs.walk.MethodWalk as T
 use Rattle.vtable.proofs.walk.MethodWalk.Laws as T′
 use Rattle.vtable.proofs.walk.method_walk as new
@@ -75,7 +75,7 @@ module _ {M : Type 1} (𝓤 : URA M) (H : Heap 𝓤) (A : Atoms 𝓤) (mem : Mem
   abbrev Next : Contract 𝓤
   Next = tripleOf 𝓤 H A next.signature (next.spec 𝓤 H A mem run)
 
-module _ {M : Type 1} (𝓤 : URA M) (H : Heap 𝓤) (A : Atoms 𝓤) (W : Given 𝓤 H A) (mem : Memory → SProp 𝓤) (run : Routine → Fun 𝓤) (κ κ′ : Lft) (q q′ : Share) (c : EntryCursor) (s t : RefT (List ℕ)) where
+module _ {M : Type 1} (𝓤 : URA M) (H : Heap 𝓤) (A : Atoms 𝓤) (W : Given 𝓤 H A) (mem : Memory → SProp 𝓤) (run : Routine → Fun 𝓤) (κ κ′ : Lft) (q q′ : Share) (c : EntryIter) (s t : RefT (List ℕ)) where
   abbrev κs : Lfts 2
   κs = (κ, (κ′, tt))
 

@@ -32,11 +32,11 @@ use denote.Triple.Spec.{Meets, tripleOf}
 use denote.Triple.Table.{entered}
 use denote.Triple.Walked.{says, Stays, stay-none, stay-none-slice, walkOf, goes-none, goes-none-slice, Walks, ends-at, walked, walk-meets}
 use denote.Exit.{yes}
-use Rattle.vtable.specs.declared.cursor.EntryCursor.{EntryCursor}
+use Rattle.vtable.specs.declared.iter.EntryIter.{EntryIter}
 use Rattle.vtable.specs.declared.walk.MethodWalk.{MethodWalk}
 use Rattle.vtable.proofs.Parts.{sliceOf, partsAt, Parts, twice}
-use Rattle.vtable.proofs.cursor.EntryCursor as E
-use Rattle.vtable.proofs.cursor.EntryCursor.Laws as E′
+use Rattle.vtable.proofs.iter.EntryIter as E
+use Rattle.vtable.proofs.iter.EntryIter.Laws as E′
 use Rattle.vtable.proofs.walk.MethodWalk as T
 use Rattle.vtable.proofs.walk.MethodWalk.Laws as T′
 use Rattle.vtable.proofs.walk.method_walk.Key.{name as #method-walk}
@@ -47,7 +47,7 @@ use Rattle.vtable.proofs.walk.method_walk.Code as code
 abbrev stayed : Stays (this.ended .signature .params) (this.ended .kept)
 stayed = (stay-none (λ _. E.the-row) yes, (stay-none-slice (0 ∷ []) tt (plain (λ _. u8)) yes, (stay-none-slice (1 ∷ []) tt (plain (λ _. u64)) yes, tt)))
 
-module _ {M : Type 1} (𝓤 : URA M) (H : Heap 𝓤) (A : Atoms 𝓤) (W : Given 𝓤 H A) (mem : Memory → SProp 𝓤) (run : Routine → Fun 𝓤) (κ κ′ : Lft) (q q′ : Share) (c : EntryCursor) (s t : RefT (List ℕ)) where
+module _ {M : Type 1} (𝓤 : URA M) (H : Heap 𝓤) (A : Atoms 𝓤) (W : Given 𝓤 H A) (mem : Memory → SProp 𝓤) (run : Routine → Fun 𝓤) (κ κ′ : Lft) (q q′ : Share) (c : EntryIter) (s t : RefT (List ℕ)) where
   abbrev κs : Lfts 2
   κs = (κ, (κ′, tt))
 

@@ -43,17 +43,17 @@ use denote.Exit.{yes}
 use denote.Triple.Clauses.{ensured, lasts}
 use Rattle.vtable.specs.Entries.{method, entryStep, stepAnswer}
 use Rattle.vtable.specs.declared.walk.MethodWalk.{MethodWalk}
-use Rattle.vtable.specs.declared.cursor.EntryStep.{EntryStep}
+use Rattle.vtable.specs.declared.iter.EntryStep.{EntryStep}
 use Rattle.vtable.proofs.walk.MethodWalk as T
 use Rattle.vtable.proofs.walk.MethodWalk.Laws as T′
-use Rattle.vtable.proofs.cursor.EntryCursor as E
-use Rattle.vtable.proofs.cursor.EntryCursor.Laws as E′
-use Rattle.vtable.proofs.cursor.EntryStep as S
-use Rattle.vtable.proofs.cursor.EntryStep.Laws as S′
-use Rattle.vtable.proofs.cursor.EntryCursor.next_method as step
-use Rattle.vtable.proofs.cursor.EntryCursor.next_method.Symbol as step-def
-use Rattle.vtable.proofs.cursor.EntryCursor.next_method.Symbol.{name as #next-method}
-use Rattle.vtable.proofs.cursor.EntryCursor.next_method.Met as step-thm
+use Rattle.vtable.proofs.iter.EntryIter as E
+use Rattle.vtable.proofs.iter.EntryIter.Laws as E′
+use Rattle.vtable.proofs.iter.EntryStep as S
+use Rattle.vtable.proofs.iter.EntryStep.Laws as S′
+use Rattle.vtable.proofs.iter.EntryIter.next_method as step
+use Rattle.vtable.proofs.iter.EntryIter.next_method.Symbol as step-def
+use Rattle.vtable.proofs.iter.EntryIter.next_method.Symbol.{name as #next-method}
+use Rattle.vtable.proofs.iter.EntryIter.next_method.Met as step-thm
 use Rattle.vtable.proofs.walk.walk_step.Key.{name as #walk-step}
 use Rattle.vtable.proofs.walk.walk_step as this
 use Rattle.vtable.proofs.walk.walk_step.Statement as stated
@@ -162,4 +162,4 @@ walk-step-spec 𝓤 H 𝓜 𝓖 𝓡 =
     entered 𝓤 H (tripleOf 𝓤 H (𝓖 .A) this.signature (this.spec 𝓤 H (𝓖 .A) (𝓜 .mem) (𝓡 .run)))
     (tables 𝓤 H 𝓜 𝓡 code.env .C) (tables 𝓤 H 𝓜 𝓡 code.env .Λ) #walk-step code.function (code.unfolded 𝓤 H 𝓜 𝓡)
     (meets 𝓤 H (𝓖 .A) (givenOf 𝓤 H 𝓜 𝓖) (𝓜 .mem) (𝓡 .run) (tablesOf 𝓤 H 𝓜 (tables 𝓤 H 𝓜 𝓡 code.env))
-    (cited 𝓤 H (Next 𝓤 H (𝓖 .A) (𝓜 .mem) (𝓡 .run)) 𝓜 𝓡 code.env #next-method step-def.routine code.calls-vtable·cursor·EntryCursor·next-method (step-thm.met 𝓤 H 𝓜 𝓖 𝓡)))
+    (cited 𝓤 H (Next 𝓤 H (𝓖 .A) (𝓜 .mem) (𝓡 .run)) 𝓜 𝓡 code.env #next-method step-def.routine code.calls-vtable·cursor·EntryIter·next-method (step-thm.met 𝓤 H 𝓜 𝓖 𝓡)))

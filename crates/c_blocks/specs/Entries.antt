@@ -1,0 +1,20 @@
+-- docs/SPECIFICATION.md, "Calls for C".
+-- A step over the entries of a table as numbers: 1, the next entry's number, the entry's address and its words; for an unreadable entry 2, the next
+-- entry's number, and as many times 0; at the end only 0. Of entries of `n` words there are 3 + `n` numbers.
+use Prim.Native.Nat.{ℕ, _+_}
+use mathlib.Core.List.{List, [], _∷_}
+use lib.ListN.{take}
+use Rattle.vtable.specs.declared.iter.EntryStep.{EntryStep}
+use Rattle.c_blocks.specs.declared.entries.StepNumbers.{StepNumbers}
+
+abbrev pub stepNumbers : EntryStep → List ℕ
+stepNumbers (EntryStep.Entry e c) = 1 ∷ (c .next ∷ (e .address ∷ (e .first ∷ (e .second ∷ (e .third ∷ [])))))
+stepNumbers (EntryStep.Unreadable c) = 2 ∷ (c .next ∷ (0 ∷ (0 ∷ (0 ∷ (0 ∷ [])))))
+stepNumbers EntryStep.End = 0 ∷ (0 ∷ (0 ∷ (0 ∷ (0 ∷ (0 ∷ [])))))
+
+abbrev pub entryStepNumbers : ℕ → EntryStep → List ℕ
+entryStepNumbers n s = take (3 + n) (stepNumbers s)
+
+-- the six numbers in the code's struct
+abbrev pub numbersIn : StepNumbers → List ℕ
+numbersIn n = n .told ∷ (n .next ∷ (n .address ∷ (n .first ∷ (n .second ∷ (n .third ∷ [])))))

@@ -1,0 +1,35 @@
+// The same with both names of each record.
+ghost use Rattle.named_records.specs.NamedRecords.{guardedNamed};
+ghost use Rattle.c_tables.specs.Tables.{TellsTable};
+ghost use Rattle.c_fields.specs.Fields.{recordsAt};
+use field::FieldRecordIter;
+
+// Ten for each field record: the four of `hodrupec_field_records`; of the type's name the three of `hodrupec_text_at`; and of the field's the three of
+// `hodrupec_field_name`, with a string section whose first byte is at `strings_va`. How many records were written, and why no more: 0 the table's end,
+// 1 the buffer is full, 2 a record that cannot be read.
+#[no_mangle]
+pub extern "C" fn hodrupec_named_records(
+    image: &[u8],
+    segments: &[u64],
+    strings: &[u8],
+    strings_va: u64,
+    base_va: u64,
+    count: u32,
+    size: u32,
+    next: u32,
+    buffer: &mut [u64],
+    out: &mut [u64; 2],
+) -> u64
+    ensures { λ r. ⌜ TellsTable (guardedNamed (now (image .entry)) (now (segments .entry)) (now (strings .entry)) «strings_va» (recordsAt «base_va» count size next) (now (buffer .entry))) (now (out .entry)) (now (buffer .entry)) r (now (out .exit)) (now (buffer .exit)) ⌝ }
+{
+    let walk = FieldRecordIter {
+        base_va,
+        count,
+        entry_size: size,
+        cursor: next,
+    };
+    c_tables::tell_counts(
+        named_records::named_records(image, segments, strings, strings_va, walk, buffer),
+        out,
+    )
+}

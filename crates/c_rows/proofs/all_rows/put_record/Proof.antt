@@ -1,0 +1,123 @@
+-- `c_rows::all_rows::put_record` meets its contract: the name is written behind the room for its head, and then the head.
+-- Assumes nothing.
+use native.Mathlib.Omega.{arith}
+use Prim.Native.Nat.{_+_, _-_}
+use lib.ListN.{length}
+use mathlib.Core.Path.{sym, _∙_}
+use denote.Ref.{now}
+use Rattle.util.specs.AnswersLaws.{told}
+use Rattle.util.specs.BufferLaws.{past-end, past-into}
+use Rattle.typedescriptor.specs.Row.{rowOf}
+use Rattle.qualified_name.specs.Name.{lengthOf}
+use Rattle.qualified_name.specs.NameLaws.{name-length}
+use Rattle.c_rows.specs.AllRowsLaws.{head-long, row-long, written-bytes, refused-bytes, kept-part, part-long, record-put, head-alone}
+use borrow.Author.Needs.{needs}
+use Rattle.c_rows.proofs.all_rows.put_record.Statement.{statement}
+use Rattle.c_rows.proofs.all_rows.put_record.Tie as tie
+
+returns : tie.Need-returns
+returns c = (past-end _ _ _ (omega arith), past-into _ _ _ (omega arith))
+
+sub-if2 : tie.Need-sub-if2
+sub-if2 c = search needs
+
+returns-2 : tie.Need-returns-2
+returns-2 c =
+    let a = c .before .before .before .before .before .args in
+    let l = row-long (now (a .image)) (now (a .segments)) (a .slot) (rowOf (now (a .image)) (a .row)) in
+    (past-end _ _ _ (omega (arith, l)), past-into _ _ _ (omega (arith, l)))
+
+add-qualified-name : tie.Need-add-qualified-name
+add-qualified-name c = search needs
+
+sub-qualified-name : tie.Need-sub-qualified-name
+sub-qualified-name c = search needs
+
+part-qualified-name-start : tie.Need-part-qualified-name-start
+part-qualified-name-start c = search needs
+
+part-qualified-name-end : tie.Need-part-qualified-name-end
+part-qualified-name-end c = search needs
+
+qualified-name-requires : tie.Need-qualified-name-requires
+qualified-name-requires c κs = search needs
+
+enum-known-length : tie.Need-enum-known-length
+enum-known-length c = search needs
+
+put-head-requires : tie.Need-put-head-requires
+put-head-requires c κs = search needs
+
+add-result : tie.Need-add-result
+add-result c =
+    let a = c .before .before .before .before .before .before .before .before .before .before .before .before .before .before .before .before .args in
+    let f = told lengthOf (c .before .before .before .before .before .before .before .before .before .qualified-name .ensures .0) (c .before .before .before .before .before .length .given .1) in
+    let k = name-length _ _ _ _ _ f in
+    let w = record-put (now (a .buffer)) _ _ _ _ _ (a .at) _ _ _ (c .before .before .before .before .before .before .before .before .before .qualified-name .ensures .1) (k .0) (k .1 .0) (head-long _ _ _ _) (c .before .before .put-head .ensures) (omega (arith, k .1 .1, part-long (a .at + 32) (now (a .buffer)))) (written-bytes _ _ (a .slot) _ _ _ f) in
+    omega (arith, w .0)
+
+enum-known-refusal : tie.Need-enum-known-refusal
+enum-known-refusal c = search needs
+
+number-requires : tie.Need-number-requires
+number-requires c κs = search needs
+
+same-length : tie.Need-same-length
+same-length c = search needs
+
+returns-3 : tie.Need-returns-3
+returns-3 c =
+    let a = c .before .before .before .before .before .before .before .before .before .before .before .before .before .before .args in
+    let f = told lengthOf (c .before .before .before .before .before .before .before .qualified-name .ensures .0) (c .before .before .before .refusal .given .1) in
+    let l = refused-bytes _ _ (a .slot) _ _ _ f .1 (λ z. c .if3 .taken (c .before .number .ensures ∙ z)) in
+    let p = part-long (a .at + 32) (now (a .buffer)) in
+    (past-end _ _ _ (omega (arith, l, p)), kept-part (a .at + 32) (length (now (a .buffer)) - (a .at + 32)) (now (a .buffer)) _ _ _ _ _ _ (c .before .before .before .before .before .before .before .qualified-name .ensures .1) f ∙ past-into _ _ _ (omega (arith, l, p)))
+
+put-head-requires-2 : tie.Need-put-head-requires-2
+put-head-requires-2 c κs = search needs
+
+same-length-2 : tie.Need-same-length-2
+same-length-2 c = search needs
+
+returns-4 : tie.Need-returns-4
+returns-4 c =
+    let a = c .before .before .before .before .before .before .before .before .before .before .before .before .before .before .before .before .args in
+    let f = told lengthOf (c .before .before .before .before .before .before .before .before .before .qualified-name .ensures .0) (c .before .before .before .before .before .length .given .1) in
+    let k = name-length _ _ _ _ _ f in
+    let w = record-put (now (a .buffer)) _ _ _ _ _ (a .at) _ _ _ (c .before .before .before .before .before .before .before .before .before .qualified-name .ensures .1) (k .0) (k .1 .0) (head-long _ _ _ _) (c .before .before .put-head .ensures) (omega (arith, k .1 .1, part-long (a .at + 32) (now (a .buffer)))) (written-bytes _ _ (a .slot) _ _ _ f) in
+    w .1
+
+same-length-3 : tie.Need-same-length-3
+same-length-3 c = search needs
+
+returns-5 : tie.Need-returns-5
+returns-5 c =
+    let a = c .before .before .before .before .before .before .before .before .before .before .before .before .before .before .before .before .before .before .args in
+    let f = told lengthOf (c .before .before .before .before .before .before .before .before .before .before .before .qualified-name .ensures .0) (c .before .before .before .before .before .before .before .refusal .given .1) in
+    let k = kept-part (a .at + 32) (length (now (a .buffer)) - (a .at + 32)) (now (a .buffer)) _ _ _ _ _ _ (c .before .before .before .before .before .before .before .before .before .before .before .qualified-name .ensures .1) f in
+    head-alone _ _ _ _ _ _ _ k (refused-bytes _ _ (a .slot) _ _ _ f .0 (sym (c .before .before .before .before .before .number .ensures) ∙ c .before .before .before .before .if3 .left)) (head-long _ _ _ _) (c .before .before .put-head2 .ensures) (omega arith)
+
+pub put-record-spec : {M : Type 1} → statement M
+put-record-spec =
+    tie.close
+    (tie.spec
+    returns
+    sub-if2
+    returns-2
+    add-qualified-name
+    sub-qualified-name
+    part-qualified-name-start
+    part-qualified-name-end
+    qualified-name-requires
+    enum-known-length
+    put-head-requires
+    add-result
+    enum-known-refusal
+    number-requires
+    same-length
+    returns-3
+    put-head-requires-2
+    same-length-2
+    returns-4
+    same-length-3
+    returns-5)

@@ -1,0 +1,51 @@
+-- `typedescriptor::offsets::field_offsets` meets its contract: of all bodies a struct has a vector.
+-- Assumes nothing.
+use mathlib.Core.Path.{refl}
+use Rattle.field_offsets.specs.Offsets.{vector}
+use Rattle.field_offsets.specs.OffsetsLaws.{offsets-of, no-offsets-of}
+use borrow.Author.Needs.{needs}
+use Rattle.field_offsets.proofs.offsets.field_offsets.Statement.{statement}
+use Rattle.field_offsets.proofs.offsets.field_offsets.Tie as tie
+
+enum-told : tie.Need-enum-told
+enum-told c = search needs
+
+enum-known-body : tie.Need-enum-known-body
+enum-known-body c = search needs
+
+struct-offsets-requires : tie.Need-struct-offsets-requires
+struct-offsets-requires c κs = search needs
+
+enum-told-2 : tie.Need-enum-told-2
+enum-told-2 c = search needs
+
+enum-told-3 : tie.Need-enum-told-3
+enum-told-3 c = search needs
+
+returns : tie.Need-returns
+unfolding vector
+returns c = no-offsets-of _ _ _ _ _ (c .enum-told .given .1) refl
+
+returns-2 : tie.Need-returns-2
+returns-2 c = offsets-of _ _ _ _ _ (c .before .before .body .given .1) _ (c .struct-offsets .ensures)
+
+returns-3 : tie.Need-returns-3
+unfolding vector
+returns-3 c = no-offsets-of _ _ _ _ _ (c .enum-told2 .given .1) refl
+
+returns-4 : tie.Need-returns-4
+returns-4 c = no-offsets-of _ _ _ _ _ (c .enum-told3 .given .1) refl
+
+pub field-offsets-spec : {M : Type 1} → statement M
+field-offsets-spec =
+    tie.close
+    (tie.spec
+    enum-told
+    enum-known-body
+    struct-offsets-requires
+    enum-told-2
+    enum-told-3
+    returns
+    returns-2
+    returns-3
+    returns-4)

@@ -1,0 +1,19 @@
+-- `full_rows::rows::table_numbers` meets its contract.
+-- Assumes nothing.
+use native.Mathlib.Omega.{arith}
+use Rattle.full_rows.specs.BlocksLaws.{vtable-numbers, other-numbers}
+use borrow.Author.Needs.{needs}
+use Rattle.full_rows.proofs.rows.table_numbers.Statement.{statement}
+use Rattle.full_rows.proofs.rows.table_numbers.Tie as tie
+
+number-of-requires : tie.Need-number-of-requires
+number-of-requires c κs = search needs
+
+returns : tie.Need-returns
+returns c = vtable-numbers (c .before .before .args .kind) _ _ _ _ (c .before .number-of .ensures) (omega arith)
+
+returns-2 : tie.Need-returns-2
+returns-2 c = other-numbers (c .before .before .args .kind) _ (c .before .before .args .offset) _ _ (c .before .number-of .ensures) (λ e. omega arith)
+
+pub table-numbers-spec : {M : Type 1} → statement M
+table-numbers-spec = tie.close (tie.spec number-of-requires returns returns-2)

@@ -1,9 +1,0 @@
--- The answer of the calls over field offsets: docs/SPECIFICATION.md, "Refusals" and "Field offsets".
-use mathlib.Core.Option.{Option}
-use Rattle.refusal.specs.Refusal.{Guarded, answered, refused, refusalNumber}
-use Rattle.fieldoffsets.specs.Offsets.{Offsets, offsetsOf}
-use Rattle.listing.specs.declared.offsets.OffsetsAnswer.{OffsetsAnswer}
-
-abbrev pub offsetsAnswer : OffsetsAnswer → Guarded (Option Offsets)
-offsetsAnswer (OffsetsAnswer.Offsets o) = answered (offsetsOf o)
-offsetsAnswer (OffsetsAnswer.Refused x) = refused (refusalNumber x)

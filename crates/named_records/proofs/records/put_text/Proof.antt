@@ -1,0 +1,59 @@
+-- `named_records::records::put_text` meets its contract.
+-- Assumes nothing.
+use Rattle.entry_tables.specs.PastedLaws.{pasted-as}
+use Rattle.named_records.specs.NamedRecordsLaws.{text-known}
+use borrow.Author.Needs.{needs}
+use Rattle.named_records.proofs.records.put_text.Statement.{statement}
+use Rattle.named_records.proofs.records.put_text.Tie as tie
+use Rattle.named_records.proofs.records.put_text.Reads as reads
+use Rattle.named_records.proofs.records.put_text.Lts as lts
+use Rattle.named_records.proofs.records.put_three.Reads as put-three-reads
+
+-- src/records.rt:45:20
+enum-known-text : tie.Need-enum-known-text
+enum-known-text c = search needs
+
+-- src/records.rt:46:13
+put-three-requires : tie.Need-put-three-requires
+put-three-requires c κs = search needs
+
+-- src/records.rt:49:32
+enum-told : tie.Need-enum-told
+enum-told c = search needs
+
+-- src/records.rt:49:13
+put-three-requires-2 : tie.Need-put-three-requires-2
+put-three-requires-2 c κs = search needs
+
+-- src/records.rt:40:1
+same-length : tie.Need-same-length
+same-length c = search needs
+
+-- src/records.rt:40:1
+returns : tie.Need-returns
+returns c =
+    let a = c .before .before .before .before .before .before .before .before .args in
+    pasted-as (a .buffer .now) _ _ _ (a .at) (c .before .before .put-three .ensures) (text-known _ _ (c .before .before .before .before .before .text .given .1))
+
+-- src/records.rt:40:1
+same-length-2 : tie.Need-same-length-2
+same-length-2 c = search needs
+
+-- src/records.rt:40:1
+returns-2 : tie.Need-returns-2
+returns-2 c =
+    let a = c .before .before .before .before .before .before .before .args in
+    pasted-as (a .buffer .now) _ _ _ (a .at) (c .before .before .put-three2 .ensures) (text-known _ _ (c .before .before .before .before .enum-told .given .1))
+
+pub put-text-spec : {M : Type 1} → statement M
+put-text-spec =
+    tie.close
+    (tie.spec
+    enum-known-text
+    put-three-requires
+    enum-told
+    put-three-requires-2
+    same-length
+    returns
+    same-length-2
+    returns-2)

@@ -1,9 +1,0 @@
-// The lines of the printed listing.
-mod digits;
-mod lines;
-
-pub use lines::LINE_BYTES;
-pub use lines::Lister;
-pub use lines::NextLine;
-pub use lines::next_line;
-pub use lines::refused_line;

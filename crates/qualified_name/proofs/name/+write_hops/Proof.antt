@@ -1,0 +1,198 @@
+-- `qualified_name::name::write_hops` meets its contract. It calls itself with fewer contexts allowed, so its measure is `left`.
+-- Assumes nothing.
+use borrow.Author.Needs.{needs}
+use native.Mathlib.Omega.{arith}
+use mathlib.Core.Path.{refl, ap}
+use Rattle.util.specs.AnswersLaws.{told, case}
+use Rattle.qualified_name.specs.Walk.{ContextLocated, Walked, hopsOf}
+use Rattle.qualified_name.specs.NameLaws.{kept, filled-as, refused-as, hops-written}
+use Rattle.qualified_name.specs.WalkLaws.{walk-deep, last-long, last-fits, last-written, last-filled, none-long, none-written, none-filled, further-fits, further-written, further-refused, further-filled}
+use Prim.Native.Nat.{ℕ, _<_}
+use borrow.Fn.Kinds.{In}
+use borrow.Fn.PlainCycle.{Measures, is, falls, and}
+use Rattle.qualified_name.proofs.name.write_hops.Reads as write-hops
+use Rattle.qualified_name.proofs.name.write_hops.Kinds as write-hops-kinds
+use Rattle.qualified_name.proofs.name.+write_hops.Lts-write_hops as write-hops-lts
+use Rattle.qualified_name.proofs.name.locate_context.Reads as locate-context-reads
+use Rattle.qualified_name.proofs.name.collect.Reads as collect-reads
+use Rattle.qualified_name.proofs.name.put_hops.Reads as put-hops-reads
+use Rattle.qualified_name.proofs.name.+write_hops.{statement}
+use Rattle.qualified_name.proofs.name.+write_hops.Tie.{close}
+
+abbrev μ-write-hops : Measures 3 write-hops-kinds.ps ℕ
+μ-write-hops κs a = a .1 .1 .1 .0
+
+abbrev write-hops-at : ℕ → In 3 write-hops-kinds.ps
+write-hops-at t =
+    and 3 write-hops-kinds.ps (is 3 write-hops-kinds.ps μ-write-hops t) write-hops.Pre
+
+abbrev write-hops-below : ℕ → In 3 write-hops-kinds.ps
+write-hops-below t =
+    and 3 write-hops-kinds.ps (falls 3 write-hops-kinds.ps _<_ μ-write-hops t) write-hops.Pre
+
+-- the contracts of the calls
+abbrev claims : ℕ → write-hops-lts.Claims
+claims t = (
+  locate-context-reads.Asked,
+  locate-context-reads.Learnt,
+  collect-reads.Asked,
+  collect-reads.Learnt,
+  put-hops-reads.Asked,
+  put-hops-reads.Learnt,
+  write-hops-below t,
+  write-hops.Post,
+)
+
+write-hops-locate-context-requires : (t : ℕ) → write-hops-lts.Need-locate-context-requires (claims t) (write-hops-at t) write-hops.Post
+write-hops-locate-context-requires t c κs = search needs
+
+write-hops-enum-known-mapping : (t : ℕ) → write-hops-lts.Need-enum-known-mapping (claims t) (write-hops-at t) write-hops.Post
+write-hops-enum-known-mapping t c = search needs
+
+write-hops-slice-aggregate-collect : (t : ℕ) → write-hops-lts.Need-slice-aggregate-collect (claims t) (write-hops-at t) write-hops.Post
+write-hops-slice-aggregate-collect t c = search needs
+
+write-hops-slice-aggregate-collect-2 : (t : ℕ) → write-hops-lts.Need-slice-aggregate-collect-2 (claims t) (write-hops-at t) write-hops.Post
+write-hops-slice-aggregate-collect-2 t c = search needs
+
+write-hops-collect-requires : (t : ℕ) → write-hops-lts.Need-collect-requires (claims t) (write-hops-at t) write-hops.Post
+write-hops-collect-requires t c κs =
+    (case (ContextLocated _ _) (c .before .before .before .before .before .locate-context .ensures) (c .before .before .before .mapping .given .1), (refl, refl))
+
+write-hops-enum-known-count : (t : ℕ) → write-hops-lts.Need-enum-known-count (claims t) (write-hops-at t) write-hops.Post
+write-hops-enum-known-count t c = search needs
+
+write-hops-returns : (t : ℕ) → write-hops-lts.Need-returns (claims t) (write-hops-at t) write-hops.Post
+write-hops-returns t c =
+    let w = case (Walked _ _ _ _ _ _ _) (c .before .before .before .before .before .before .collect .ensures) (c .before .before .count .given .1) in (
+      last-long _ _ _ _ _ _ _ _ _ w _ (omega arith) (omega (arith, c .before .before .before .before .before .before .before .before .before .before .before .before .before .before .before .before .good)),
+      kept _ _ _,
+    )
+
+write-hops-slice-aggregate-put-hops : (t : ℕ) → write-hops-lts.Need-slice-aggregate-put-hops (claims t) (write-hops-at t) write-hops.Post
+write-hops-slice-aggregate-put-hops t c = search needs
+
+write-hops-slice-aggregate-put-hops-2 : (t : ℕ) → write-hops-lts.Need-slice-aggregate-put-hops-2 (claims t) (write-hops-at t) write-hops.Post
+write-hops-slice-aggregate-put-hops-2 t c = search needs
+
+write-hops-put-hops-requires : (t : ℕ) → write-hops-lts.Need-put-hops-requires (claims t) (write-hops-at t) write-hops.Post
+write-hops-put-hops-requires t c κs =
+    let w = case (Walked _ _ _ _ _ _ _) (c .before .before .before .before .before .before .before .before .before .collect .ensures) (c .before .before .before .before .before .count .given .1) in (
+      (omega (arith, w .few, c .before .before .before .before .before .before .before .before .before .collect .kept), omega (arith, w .few, c .before .before .before .before .before .before .before .before .before .collect .kept)),
+      omega (arith, last-fits _ _ _ _ _ _ _ _ _ w _ (c .before .before .before .if1 .left) (omega (arith, c .before .before .before .before .before .before .before .before .before .before .before .before .before .before .before .before .before .before .before .good))),
+    )
+
+write-hops-enum-known-next : (t : ℕ) → write-hops-lts.Need-enum-known-next (claims t) (write-hops-at t) write-hops.Post
+write-hops-enum-known-next t c = search needs
+
+write-hops-write-hops-requires : (t : ℕ) → write-hops-lts.Need-write-hops-requires (claims t) (write-hops-at t) write-hops.Post
+write-hops-write-hops-requires t c κs =
+    let w = case (Walked _ _ _ _ _ _ _) (c .before .before .before .before .before .before .collect .ensures) (c .before .before .next .given .1) in
+    (omega (arith, w .fewer), tt)
+
+write-hops-enum-known-at : (t : ℕ) → write-hops-lts.Need-enum-known-at (claims t) (write-hops-at t) write-hops.Post
+write-hops-enum-known-at t c = search needs
+
+write-hops-slice-aggregate-put-hops-3 : (t : ℕ) → write-hops-lts.Need-slice-aggregate-put-hops-3 (claims t) (write-hops-at t) write-hops.Post
+write-hops-slice-aggregate-put-hops-3 t c = search needs
+
+write-hops-slice-aggregate-put-hops-4 : (t : ℕ) → write-hops-lts.Need-slice-aggregate-put-hops-4 (claims t) (write-hops-at t) write-hops.Post
+write-hops-slice-aggregate-put-hops-4 t c = search needs
+
+write-hops-put-hops-requires-2 : (t : ℕ) → write-hops-lts.Need-put-hops-requires-2 (claims t) (write-hops-at t) write-hops.Post
+write-hops-put-hops-requires-2 t c κs =
+    let w = case (Walked _ _ _ _ _ _ _) (c .before .before .before .before .before .before .before .before .before .before .before .before .before .before .before .collect .ensures) (c .before .before .before .before .before .before .before .before .before .before .before .next .given .1) in (
+      (omega (arith, c .before .before .before .before .before .before .before .before .before .before .before .before .before .before .before .collect .kept), omega (arith, c .before .before .before .before .before .before .before .before .before .before .before .before .before .before .before .collect .kept)),
+      omega (
+        arith,
+        further-fits _ _ _ _ _ _ _ _ _ _ _ w _ _ (told hopsOf (c .before .before .before .before .before .before .before .before .write-hops .ensures .0) (c .before .before .before .before .at .given .1)) (omega (arith, c .before .before .before .before .before .before .before .before .before .before .before .before .before .before .before .before .before .before .before .before .before .before .before .before .before .good)),
+        c .before .before .before .before .before .before .before .before .write-hops .kept,
+      ),
+    )
+
+write-hops-enum-known-refusal : (t : ℕ) → write-hops-lts.Need-enum-known-refusal (claims t) (write-hops-at t) write-hops.Post
+write-hops-enum-known-refusal t c = search needs
+
+write-hops-enum-told : (t : ℕ) → write-hops-lts.Need-enum-told (claims t) (write-hops-at t) write-hops.Post
+write-hops-enum-told t c = search needs
+
+write-hops-enum-told-2 : (t : ℕ) → write-hops-lts.Need-enum-told-2 (claims t) (write-hops-at t) write-hops.Post
+write-hops-enum-told-2 t c = search needs
+
+write-hops-returns-2 : (t : ℕ) → write-hops-lts.Need-returns-2 (claims t) (write-hops-at t) write-hops.Post
+write-hops-returns-2 t c =
+    let e = case (ContextLocated _ _) (c .before .before .before .locate-context .ensures) (c .before .enum-told2 .given .1) _ in
+    (none-long _ _ _ _ e _ _ (omega arith) (omega arith) (omega (arith, c .before .before .before .before .before .before .before .good)), kept _ _ _)
+
+write-hops-same-length : (t : ℕ) → write-hops-lts.Need-same-length (claims t) (write-hops-at t) write-hops.Post
+write-hops-same-length t c = search needs
+
+write-hops-returns-3 : (t : ℕ) → write-hops-lts.Need-returns-3 (claims t) (write-hops-at t) write-hops.Post
+write-hops-returns-3 t c =
+    let w = case (Walked _ _ _ _ _ _ _) (c .before .before .before .before .before .before .before .before .before .before .before .before .collect .ensures) (c .before .before .before .before .before .before .before .before .count .given .1) in (
+      last-written _ _ _ _ _ _ _ _ _ w _ _ (c .before .before .put-hops .ensures .ends) (c .before .before .before .before .before .before .if1 .left) (omega (arith, c .before .before .before .before .before .before .before .before .before .before .before .before .before .before .before .before .before .before .before .before .before .before .good)),
+      last-filled _ _ _ _ _ _ _ _ _ w _ _ _ (c .before .before .put-hops .ensures),
+    )
+
+write-hops-same-length-2 : (t : ℕ) → write-hops-lts.Need-same-length-2 (claims t) (write-hops-at t) write-hops.Post
+write-hops-same-length-2 t c = search needs
+
+write-hops-returns-4 : (t : ℕ) → write-hops-lts.Need-returns-4 (claims t) (write-hops-at t) write-hops.Post
+write-hops-returns-4 t c =
+    let w = case (Walked _ _ _ _ _ _ _) (c .before .before .before .before .before .before .before .before .before .before .before .before .before .before .before .before .before .before .collect .ensures) (c .before .before .before .before .before .before .before .before .before .before .before .before .before .before .next .given .1) in
+    let f = told hopsOf (c .before .before .before .before .before .before .before .before .before .before .before .write-hops .ensures .0) (c .before .before .before .before .before .before .before .at .given .1) in
+    let h = hops-written _ _ _ _ _ _ _ f in (
+      further-written _ _ _ _ _ _ _ _ _ _ _ w _ _ _ f (c .before .before .put-hops2 .ensures .ends) (omega (arith, c .before .before .before .before .before .before .before .before .before .before .before .before .before .before .before .before .before .before .before .before .before .before .before .before .before .before .before .before .good)),
+      further-filled _ _ _ _ _ _ _ _ _ _ _ w _ _ _ _ _ (filled-as _ _ _ _ _ (c .before .before .before .before .before .before .before .before .before .before .before .write-hops .ensures .1) (ap hopsOf (c .before .before .before .before .before .before .before .at .given .1))) (h .0) (c .before .before .put-hops2 .ensures) (omega (arith, h .1)),
+    )
+
+write-hops-same-length-3 : (t : ℕ) → write-hops-lts.Need-same-length-3 (claims t) (write-hops-at t) write-hops.Post
+write-hops-same-length-3 t c = search needs
+
+write-hops-returns-5 : (t : ℕ) → write-hops-lts.Need-returns-5 (claims t) (write-hops-at t) write-hops.Post
+write-hops-returns-5 t c =
+    let w = case (Walked _ _ _ _ _ _ _) (c .before .before .before .before .before .before .before .before .before .before .before .before .collect .ensures) (c .before .before .before .before .before .before .before .before .next .given .1) in (
+      further-refused _ _ _ _ _ _ _ _ _ _ _ w _ _ (told hopsOf (c .before .before .before .before .before .write-hops .ensures .0) (c .before .refusal .given .1)) (omega (arith, c .before .before .before .before .before .before .before .before .before .before .before .before .before .before .before .before .before .before .before .before .before .before .good)),
+      refused-as _ _ _ _ _ _ (c .before .before .before .before .before .write-hops .ensures .1) (ap hopsOf (c .before .refusal .given .1)),
+    )
+
+write-hops-returns-6 : (t : ℕ) → write-hops-lts.Need-returns-6 (claims t) (write-hops-at t) write-hops.Post
+write-hops-returns-6 t c = (walk-deep _ _ _ _ _ _ (case (Walked _ _ _ _ _ _ _) (c .before .before .before .before .collect .ensures) (c .enum-told .given .1)), kept _ _ _)
+
+write-hops-returns-7 : (t : ℕ) → write-hops-lts.Need-returns-7 (claims t) (write-hops-at t) write-hops.Post
+write-hops-returns-7 t c =
+    let e = case (ContextLocated _ _) (c .before .before .before .locate-context .ensures) (c .before .enum-told2 .given .1) _ in
+    (none-written _ _ _ _ e _ _ (omega arith) (omega (arith, c .before .before .before .before .before .before .before .good)), none-filled _ _ _ _ e _)
+
+pub +write-hops-spec : {M : Type 1} → statement M
++write-hops-spec = close μ-write-hops λ t. write-hops-lts.spec (claims t)
+    (write-hops-at t)
+    write-hops.Post
+    (write-hops-locate-context-requires t)
+    (write-hops-enum-known-mapping t)
+    (write-hops-slice-aggregate-collect t)
+    (write-hops-slice-aggregate-collect-2 t)
+    (write-hops-collect-requires t)
+    (write-hops-enum-known-count t)
+    (write-hops-returns t)
+    (write-hops-slice-aggregate-put-hops t)
+    (write-hops-slice-aggregate-put-hops-2 t)
+    (write-hops-put-hops-requires t)
+    (write-hops-enum-known-next t)
+    (write-hops-write-hops-requires t)
+    (write-hops-enum-known-at t)
+    (write-hops-slice-aggregate-put-hops-3 t)
+    (write-hops-slice-aggregate-put-hops-4 t)
+    (write-hops-put-hops-requires-2 t)
+    (write-hops-enum-known-refusal t)
+    (write-hops-enum-told t)
+    (write-hops-enum-told-2 t)
+    (write-hops-returns-2 t)
+    (write-hops-same-length t)
+    (write-hops-returns-3 t)
+    (write-hops-same-length-2 t)
+    (write-hops-returns-4 t)
+    (write-hops-same-length-3 t)
+    (write-hops-returns-5 t)
+    (write-hops-returns-6 t)
+    (write-hops-returns-7 t)

@@ -1,0 +1,66 @@
+-- `qualified_name::name::qualified_name` meets its contract: the hops, and then the row's own name.
+-- Assumes nothing.
+use native.Mathlib.Omega.{arith}
+use mathlib.Core.Path.{ap, sym}
+use lib.ListN.{length}
+use Rattle.util.specs.AnswersLaws.{told}
+use Rattle.util.specs.BufferLaws.{put-fits}
+use Rattle.refusal.specs.Refusal.{mapped}
+use Rattle.qualified_name.specs.Walk.{hopsOf}
+use Rattle.qualified_name.specs.NameLaws.{filled-as, hops-written, name-written, name-refused, name-kept, name-filled}
+use borrow.Author.Needs.{needs}
+use Rattle.qualified_name.proofs.name.qualified_name.Statement.{statement}
+use Rattle.qualified_name.proofs.name.qualified_name.Tie as tie
+
+part-requires : tie.Need-part-requires
+part-requires c κs = search needs
+
+write-hops-requires : tie.Need-write-hops-requires
+write-hops-requires c κs = search needs
+
+enum-known-at : tie.Need-enum-known-at
+enum-known-at c = search needs
+
+put-requires : tie.Need-put-requires
+put-requires c κs = search needs
+
+enum-known-refusal : tie.Need-enum-known-refusal
+enum-known-refusal c = search needs
+
+same-length : tie.Need-same-length
+same-length c = search needs
+
+returns : tie.Need-returns
+returns c =
+    let own = c .before .before .before .before .before .before .before .before .before .before .before .part .ensures in
+    let f = told hopsOf (c .before .before .before .before .before .before .before .before .before .write-hops .ensures .0) (c .before .before .before .before .before .at .given .1) in
+    let w = hops-written _ _ _ _ _ _ _ f in
+    let u = put-fits _ _ _ _ _ (c .before .before .put .ensures .0) (c .before .before .put .ensures .1) (omega (arith, c .before .before .before .before .before .before .before .before .before .write-hops .kept)) in (
+      name-written _ _ _ _ own _ _ _ f (w .0) (u .ends),
+      name-filled _ _ _ _ own _ _ _ _ _ _ f (filled-as _ _ _ _ _ (c .before .before .before .before .before .before .before .before .before .write-hops .ensures .1) (ap hopsOf (c .before .before .before .before .before .at .given .1))) (w .0) u (omega arith),
+    )
+
+same-length-2 : tie.Need-same-length-2
+same-length-2 c = search needs
+
+returns-2 : tie.Need-returns-2
+returns-2 c =
+    let own = c .before .before .before .before .before .before .before .part .ensures in
+    let f = told hopsOf (c .before .before .before .before .before .write-hops .ensures .0) (c .before .refusal .given .1) in (
+      sym (ap (mapped length) (name-refused _ _ _ _ own _ _ f)),
+      name-kept _ _ _ _ own _ _ _ _ _ _ f (c .before .before .before .before .before .write-hops .ensures .1) (ap hopsOf (c .before .refusal .given .1)),
+    )
+
+pub qualified-name-spec : {M : Type 1} → statement M
+qualified-name-spec =
+    tie.close
+    (tie.spec
+    part-requires
+    write-hops-requires
+    enum-known-at
+    put-requires
+    enum-known-refusal
+    same-length
+    returns
+    same-length-2
+    returns-2)

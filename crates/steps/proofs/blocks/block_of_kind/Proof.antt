@@ -1,0 +1,57 @@
+-- `steps::blocks::block_of_kind` meets its contract.
+-- Assumes nothing.
+use mathlib.Core.Path.{ap, _∙_}
+use Rattle.refusal.specs.Refusal.{answered}
+use Rattle.util.specs.AnswersLaws.{told}
+use Rattle.classtrailers.specs.Calls.{blockReadOf}
+use Rattle.type_body.specs.Items.{trailersOf}
+use Rattle.steps.specs.Blocks.{kindFrom}
+use Rattle.refusal.specs.GuardedLaws.{ragged, whole-as}
+use borrow.Author.Needs.{needs}
+use Rattle.steps.proofs.blocks.block_of_kind.Statement.{statement}
+use Rattle.steps.proofs.blocks.block_of_kind.Tie as tie
+
+returns : tie.Need-returns
+returns c = ragged _ _ (c .if1 .taken)
+
+trailing-requires : tie.Need-trailing-requires
+trailing-requires c κs = search needs
+
+enum-known-trailing : tie.Need-enum-known-trailing
+enum-known-trailing c = search needs
+
+block-of-kind-requires : tie.Need-block-of-kind-requires
+block-of-kind-requires c κs = search needs
+
+enum-known-block : tie.Need-enum-known-block
+enum-known-block c = search needs
+
+enum-told : tie.Need-enum-told
+enum-told c = search needs
+
+enum-told-2 : tie.Need-enum-told-2
+enum-told-2 c = search needs
+
+returns-2 : tie.Need-returns-2
+returns-2 c = whole-as _ _ _ (ap answered (told blockReadOf (c .before .before .before .block-of-kind .ensures) (c .before .block .given .1) ∙ ap (kindFrom _ _ _) (told trailersOf (c .before .before .before .before .before .before .before .trailing .ensures) (c .before .before .before .before .before .trailing2 .given .1)))) (c .before .before .before .before .before .before .before .before .if1 .left)
+
+returns-3 : tie.Need-returns-3
+returns-3 c = whole-as _ _ _ (ap answered (told blockReadOf (c .before .before .block-of-kind .ensures) (c .enum-told .given .1) ∙ ap (kindFrom _ _ _) (told trailersOf (c .before .before .before .before .before .before .trailing .ensures) (c .before .before .before .before .trailing2 .given .1)))) (c .before .before .before .before .before .before .before .if1 .left)
+
+returns-4 : tie.Need-returns-4
+returns-4 c = whole-as _ _ _ (ap answered (ap (kindFrom _ _ _) (told trailersOf (c .before .before .trailing .ensures) (c .enum-told2 .given .1)))) (c .before .before .before .if1 .left)
+
+pub block-of-kind-spec : {M : Type 1} → statement M
+block-of-kind-spec =
+    tie.close
+    (tie.spec
+    returns
+    trailing-requires
+    enum-known-trailing
+    block-of-kind-requires
+    enum-known-block
+    enum-told
+    enum-told-2
+    returns-2
+    returns-3
+    returns-4)

@@ -1,0 +1,32 @@
+-- `steps::blocks::next_block` meets its contract.
+-- Assumes nothing.
+use mathlib.Core.Path.{ap}
+use Rattle.refusal.specs.Refusal.{answered}
+use Rattle.util.specs.AnswersLaws.{told}
+use Rattle.classtrailers.specs.Calls.{blockStepOf}
+use Rattle.refusal.specs.GuardedLaws.{ragged, whole-as}
+use borrow.Author.Needs.{needs}
+use Rattle.steps.proofs.blocks.next_block.Statement.{statement}
+use Rattle.steps.proofs.blocks.next_block.Tie as tie
+
+returns : tie.Need-returns
+returns c = ragged _ _ (c .if1 .taken)
+
+next-requires : tie.Need-next-requires
+next-requires c κs = search needs
+
+enum-known-block : tie.Need-enum-known-block
+enum-known-block c = search needs
+
+enum-told : tie.Need-enum-told
+enum-told c = search needs
+
+returns-2 : tie.Need-returns-2
+returns-2 c = whole-as _ _ _ (ap answered (told blockStepOf (c .before .before .before .next .ensures) (c .before .block .given .1))) (c .before .before .before .before .if1 .left)
+
+returns-3 : tie.Need-returns-3
+returns-3 c = whole-as _ _ _ (ap answered (told blockStepOf (c .before .before .next .ensures) (c .enum-told .given .1))) (c .before .before .before .if1 .left)
+
+pub next-block-spec : {M : Type 1} → statement M
+next-block-spec =
+    tie.close (tie.spec returns next-requires enum-known-block enum-told returns-2 returns-3)

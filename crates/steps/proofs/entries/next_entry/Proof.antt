@@ -1,0 +1,20 @@
+-- `steps::entries::next_entry` meets its contract.
+-- Assumes nothing.
+use mathlib.Core.Path.{ap}
+use Rattle.refusal.specs.Refusal.{answered}
+use Rattle.refusal.specs.GuardedLaws.{ragged, whole-as}
+use borrow.Author.Needs.{needs}
+use Rattle.steps.proofs.entries.next_entry.Statement.{statement}
+use Rattle.steps.proofs.entries.next_entry.Tie as tie
+
+returns : tie.Need-returns
+returns c = ragged _ _ (c .if1 .taken)
+
+next-requires : tie.Need-next-requires
+next-requires c κs = search needs
+
+returns-2 : tie.Need-returns-2
+returns-2 c = whole-as _ _ _ (ap answered (c .next .ensures)) (c .before .if1 .left)
+
+pub next-entry-spec : {M : Type 1} → statement M
+next-entry-spec = tie.close (tie.spec returns next-requires returns-2)

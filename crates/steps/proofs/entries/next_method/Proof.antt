@@ -1,0 +1,20 @@
+-- `steps::entries::next_method` meets its contract.
+-- Assumes nothing.
+use mathlib.Core.Path.{ap}
+use Rattle.refusal.specs.Refusal.{answered}
+use Rattle.refusal.specs.GuardedLaws.{ragged, whole-as}
+use borrow.Author.Needs.{needs}
+use Rattle.steps.proofs.entries.next_method.Statement.{statement}
+use Rattle.steps.proofs.entries.next_method.Tie as tie
+
+returns : tie.Need-returns
+returns c = ragged _ _ (c .if1 .taken)
+
+method-step-requires : tie.Need-method-step-requires
+method-step-requires c κs = search needs
+
+returns-2 : tie.Need-returns-2
+returns-2 c = whole-as _ _ _ (ap answered (c .method-step .ensures)) (c .before .if1 .left)
+
+pub next-method-spec : {M : Type 1} → statement M
+next-method-spec = tie.close (tie.spec returns method-step-requires returns-2)

@@ -1,0 +1,20 @@
+-- `steps::singletons::singleton_pointer` meets its contract.
+-- Assumes nothing.
+use mathlib.Core.Path.{ap}
+use Rattle.refusal.specs.Refusal.{answered}
+use Rattle.refusal.specs.GuardedLaws.{ragged, whole-as}
+use borrow.Author.Needs.{needs}
+use Rattle.steps.proofs.singletons.singleton_pointer.Statement.{statement}
+use Rattle.steps.proofs.singletons.singleton_pointer.Tie as tie
+
+returns : tie.Need-returns
+returns c = ragged _ _ (c .if1 .taken)
+
+singleton-metadata-pointer-requires : tie.Need-singleton-metadata-pointer-requires
+singleton-metadata-pointer-requires c κs = search needs
+
+returns-2 : tie.Need-returns-2
+returns-2 c = whole-as _ _ _ (ap answered (c .singleton-metadata-pointer .ensures)) (c .before .if1 .left)
+
+pub singleton-pointer-spec : {M : Type 1} → statement M
+singleton-pointer-spec = tie.close (tie.spec returns singleton-metadata-pointer-requires returns-2)

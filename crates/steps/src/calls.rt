@@ -1,0 +1,82 @@
+// The public calls over an image, its segments and its types section. Each refuses a list of segment numbers that is no multiple of
+// four, before all else (refusal 1), and owes its caller nothing.
+ghost use mathlib.Core.Path.{_≡_};
+ghost use lib.ListN.{length};
+ghost use Rattle.refusal.specs.Refusal.{answered, mapped, answerOf};
+ghost use Rattle.util.specs.Buffer.{overwritten};
+ghost use Rattle.typedescriptor.specs.Row.{rowOf};
+ghost use Rattle.typedescriptor.specs.Slots.{nextRow};
+ghost use Rattle.parent.specs.Chain.{chainStep};
+ghost use Rattle.qualified_name.specs.Name.{nameAnswer, lengthOf};
+ghost use Rattle.refusal.specs.Guarded.{guarded};
+ghost use Rattle.steps.specs.Calls.{rowAnswer, contextAnswer};
+use parent::ParentChain;
+use parent::ParentContext;
+use parent::ParentStep;
+use qualified_name::QualifiedName;
+use refusal::Refusal;
+use typedescriptor::Row;
+use typedescriptor::TypeIter;
+use typedescriptor::TypeStep;
+
+pub enum NextRow {
+    Row {
+        slot: usize,
+        row: Row,
+        next: TypeIter,
+    },
+    End,
+    Refused(Refusal),
+}
+
+pub enum NextContext {
+    Context {
+        context: ParentContext,
+        next: ParentChain,
+    },
+    End,
+    Refused(Refusal),
+}
+
+// The next row of the types section from where the walk stands.
+pub fn next_row(
+    image: &[u8],
+    segments: &[u64],
+    types: &[u8],
+    vmaddr: u64,
+    walk: TypeIter,
+) -> NextRow
+    ensures { λ r. ⌜ rowAnswer (now (image .entry)) r ≡ guarded (now (segments .entry)) (answered (nextRow (now (image .entry)) (now (segments .entry)) (now (types .entry)) vmaddr (walk .slot))) ⌝ }
+{
+    if segments.len() % 4 != 0 {
+        return NextRow::Refused(Refusal::RaggedSegments);
+    }
+    match walk.next(image, segments, types, vmaddr) {
+        TypeStep::Row { slot, row, next } => NextRow::Row { slot, row, next },
+        TypeStep::End => NextRow::End,
+    }
+}
+
+// The next context of a type from where the walk stands.
+pub fn next_context(image: &[u8], segments: &[u64], walk: ParentChain) -> NextContext
+    ensures { λ r. ⌜ contextAnswer (now (image .entry)) r ≡ guarded (now (segments .entry)) (answered (chainStep (now (image .entry)) (now (segments .entry)) (walk .«next_descriptor_va») (walk .given))) ⌝ }
+{
+    if segments.len() % 4 != 0 {
+        return NextContext::Refused(Refusal::RaggedSegments);
+    }
+    match walk.next(image, segments) {
+        ParentStep::Context { context, next } => NextContext::Context { context, next },
+        ParentStep::End => NextContext::End,
+    }
+}
+
+// The joined name of a row into the buffer's start.
+pub fn joined_name(image: &[u8], segments: &[u64], row: Row, buffer: &mut [u8]) -> QualifiedName
+    ensures { λ r. ⌜ lengthOf r ≡ mapped length (guarded (now (segments .entry)) (nameAnswer (now (image .entry)) (now (segments .entry)) (rowOf (now (image .entry)) row) (length (now (buffer .entry))))) ⌝ }
+    ensures { λ _. ⌜ now (buffer .exit) ≡ overwritten (now (buffer .entry)) (answerOf (guarded (now (segments .entry)) (nameAnswer (now (image .entry)) (now (segments .entry)) (rowOf (now (image .entry)) row) (length (now (buffer .entry)))))) ⌝ }
+{
+    if segments.len() % 4 != 0 {
+        return QualifiedName::Refused(Refusal::RaggedSegments);
+    }
+    qualified_name::qualified_name(image, segments, row, buffer)
+}

@@ -1,0 +1,193 @@
+ghost use mathlib.Core.Path.{_≡_};
+ghost use Prim.Native.Nat.{_+_, _<_, _^_};
+ghost use Rattle.segment.specs.Mapping.{withMapping};
+ghost use Rattle.runtime.specs.Reads.{run};
+ghost use Rattle.util.specs.Cstr.{textOf};
+ghost use Rattle.type_body.specs.Body.{sizesAt, sizesOf, classBody, classOf, structBody, structOf, enumBody, enumOf, bodyBytes, body, bodyOf, superclassName};
+use context::ContextDescriptorFlags;
+use context::ContextDescriptorKind;
+use segment::Mapping;
+use util::Text;
+
+// The two words of a class whose meaning a resilient superclass changes: the metadata's sizes, or the address of its bounds (0 where
+// it has none) and the extra class flags.
+pub enum ClassSizes {
+    Fixed {
+        negative_words: u32,
+        positive_words: u32,
+    },
+    Resilient {
+        bounds_va: u64,
+        extra_class_flags: u32,
+    },
+}
+
+// What follows the 20 bytes of a class. The superclass's name is looked up at its address, which is 0 where the class has none.
+pub struct ClassBody {
+    pub superclass_va: u64,
+    pub sizes: ClassSizes,
+    pub num_immediate_members: u32,
+    pub num_fields: u32,
+    pub field_offset_vector_offset: u32,
+}
+
+pub struct StructBody {
+    pub num_fields: u32,
+    pub field_offset_vector_offset: u32,
+}
+
+pub struct EnumBody {
+    pub num_payload_cases: u32,
+    pub payload_size_offset: u8,
+    pub num_empty_cases: u32,
+}
+
+pub enum TypeBody {
+    Class(ClassBody),
+    Struct(StructBody),
+    Enum(EnumBody),
+    Nothing,
+}
+
+// The words at 4 and 8 of a class's 24 bytes; `slot_va` is the address of the first of them.
+fn class_sizes(header: &[u8], slot_va: u64, resilient: bool) -> ClassSizes
+    ensures { λ r. ⌜ sizesOf r ≡ sizesAt resilient «slot_va» (now (header .entry)) ⌝ }
+{
+    if resilient {
+        ClassSizes::Resilient {
+            bounds_va: util::address_in(header, 4, slot_va),
+            extra_class_flags: util::u32_at(header, 8),
+        }
+    } else {
+        ClassSizes::Fixed {
+            negative_words: util::u32_at(header, 4),
+            positive_words: util::u32_at(header, 8),
+        }
+    }
+}
+
+// What the 24 bytes after the first 20 of a class at `address` say.
+fn class_in(header: &[u8], address: u64, flags: u32) -> ClassBody
+    requires { ⌜ address + 44 < 2 ^ 64 ⌝ }
+    ensures { λ r. ⌜ classOf r ≡ classBody address flags (now (header .entry)) ⌝ }
+{
+    let resilient = ContextDescriptorFlags(flags)
+        .type_flags()
+        .class_has_resilient_superclass();
+    ClassBody {
+        superclass_va: util::address_in(header, 0, address + 20),
+        sizes: class_sizes(header, address + 24, resilient),
+        num_immediate_members: util::u32_at(header, 12),
+        num_fields: util::u32_at(header, 16),
+        field_offset_vector_offset: util::u32_at(header, 20),
+    }
+}
+
+fn struct_in(header: &[u8]) -> StructBody
+    ensures { λ r. ⌜ structOf r ≡ structBody (now (header .entry)) ⌝ }
+{
+    StructBody {
+        num_fields: util::u32_at(header, 0),
+        field_offset_vector_offset: util::u32_at(header, 4),
+    }
+}
+
+// The low 24 bits of the first word count the payload cases, the high 8 are the payload size's word.
+fn enum_in(header: &[u8]) -> EnumBody
+    ensures { λ r. ⌜ enumOf r ≡ enumBody (now (header .entry)) ⌝ }
+{
+    let packed = util::u32_at(header, 0);
+    EnumBody {
+        num_payload_cases: packed % 0x100_0000,
+        payload_size_offset: (packed / 0x100_0000) as u8,
+        num_empty_cases: util::u32_at(header, 4),
+    }
+}
+
+fn decode_class_body(
+    image: &[u8],
+    segments: &[u64],
+    mapping: Mapping,
+    address: u64,
+    flags: u32,
+) -> TypeBody
+    ensures { λ r. ⌜ bodyOf r ≡ run (now (image .entry)) (withMapping mapping (now (segments .entry))) (bodyBytes address 24 (classBody address flags)) ⌝ }
+{
+    if address > 0xffff_ffff_ffff_ffd3 {
+        return TypeBody::Nothing;
+    }
+    let header = runtime::read_bytes_near(image, segments, mapping, address + 20, 24);
+    if header.len() < 24 {
+        return TypeBody::Nothing;
+    }
+    TypeBody::Class(class_in(header, address, flags))
+}
+
+fn decode_struct_body(image: &[u8], segments: &[u64], mapping: Mapping, address: u64) -> TypeBody
+    ensures { λ r. ⌜ bodyOf r ≡ run (now (image .entry)) (withMapping mapping (now (segments .entry))) (bodyBytes address 8 structBody) ⌝ }
+{
+    if address > 0xffff_ffff_ffff_ffe3 {
+        return TypeBody::Nothing;
+    }
+    let header = runtime::read_bytes_near(image, segments, mapping, address + 20, 8);
+    if header.len() < 8 {
+        return TypeBody::Nothing;
+    }
+    TypeBody::Struct(struct_in(header))
+}
+
+fn decode_enum_body(image: &[u8], segments: &[u64], mapping: Mapping, address: u64) -> TypeBody
+    ensures { λ r. ⌜ bodyOf r ≡ run (now (image .entry)) (withMapping mapping (now (segments .entry))) (bodyBytes address 8 enumBody) ⌝ }
+{
+    if address > 0xffff_ffff_ffff_ffe3 {
+        return TypeBody::Nothing;
+    }
+    let header = runtime::read_bytes_near(image, segments, mapping, address + 20, 8);
+    if header.len() < 8 {
+        return TypeBody::Nothing;
+    }
+    TypeBody::Enum(enum_in(header))
+}
+
+// The body of the descriptor at an address, which has these flags: nothing where it is no class, struct or enum, where its bytes are
+// not in the image, and where its end reaches 2^64. The mapping is asked before the segments: one that is true of them changes no answer.
+pub fn decode_body_near(
+    image: &[u8],
+    segments: &[u64],
+    mapping: Mapping,
+    address: u64,
+    flags: u32,
+) -> TypeBody
+    ensures { λ r. ⌜ bodyOf r ≡ run (now (image .entry)) (withMapping mapping (now (segments .entry))) (body address flags) ⌝ }
+{
+    match ContextDescriptorFlags(flags).kind() {
+        ContextDescriptorKind::Class => decode_class_body(image, segments, mapping, address, flags),
+        ContextDescriptorKind::Struct => decode_struct_body(image, segments, mapping, address),
+        ContextDescriptorKind::Enum => decode_enum_body(image, segments, mapping, address),
+        ContextDescriptorKind::Module => TypeBody::Nothing,
+        ContextDescriptorKind::Extension => TypeBody::Nothing,
+        ContextDescriptorKind::Anonymous => TypeBody::Nothing,
+        ContextDescriptorKind::Protocol => TypeBody::Nothing,
+        ContextDescriptorKind::OpaqueType => TypeBody::Nothing,
+        ContextDescriptorKind::Other(_) => TypeBody::Nothing,
+    }
+}
+
+// The same without a mapping.
+pub fn decode_body(image: &[u8], segments: &[u64], address: u64, flags: u32) -> TypeBody
+    ensures { λ r. ⌜ bodyOf r ≡ run (now (image .entry)) (now (segments .entry)) (body address flags) ⌝ }
+{
+    decode_body_near(image, segments, Mapping::empty(), address, flags)
+}
+
+// The name of a class's superclass; `util::text_part` gives the part of the image. There is none beside another body.
+pub fn superclass_name(image: &[u8], segments: &[u64], body: TypeBody) -> Text
+    ensures { λ r. ⌜ textOf r ≡ superclassName (now (image .entry)) (now (segments .entry)) (bodyOf body) ⌝ }
+{
+    match body {
+        TypeBody::Class(class) => runtime::read_cstr(image, segments, class.superclass_va),
+        TypeBody::Struct(_) => Text::Nothing,
+        TypeBody::Enum(_) => Text::Nothing,
+        TypeBody::Nothing => Text::Nothing,
+    }
+}
