@@ -63,11 +63,11 @@ add-at-2 c = record { fits = omega (arith, c .before .before .before .before .be
 add-classes : tie.Need-add-classes Inv-loop μ-loop
 add-classes c = record { fits = omega (arith, c .before .before .before .before .before .before .before .before .before .before .before .before .before .before .before .before .before .before .before .before .before .before .good .1 .1 .1 .1 .1 .1 .0 .0, c .before .before .before .before .before .before .before .before .before .before .before .before .before .before .before .before .loop .inv .1 .counted, fits _ _ _ _ _ _ _ _ _ _ _ _ (c .before .before .before .before .before .before .before .before .before .before .before .before .before .before .before .before .loop .inv .1) (c .before .before .before .before .before .before .before .before .before .before .before .before .before .before .before .loop-test .taken) _ (a-class _ _ _ _ _ _ (told (descriptorOf _) (c .before .before .before .before .before .before .before .before .before .before .before .before .before .before .slot-row-moving .ensures .row (c .before .before .before .before .before .before .before .before .before .before .before .before .before .before .before .before .loop .inv .0)) (c .before .before .before .before .before .before .before .before .before .before .before .found .given .1)) _ (told tableAt (c .before .before .before .before .before .before .before .before .before .vtable-near .ensures) (c .before .before .before .before .before .before .before .base-va .given .1) ∙ table-mapped _ _ _ (c .before .before .before .before .before .before .before .before .before .before .before .before .before .before .slot-row-moving .ensures .mapped (c .before .before .before .before .before .before .before .before .before .before .before .before .before .before .before .before .loop .inv .0)) _ _)) (omega (arith, c .before .before .before .before .before .if1 .left)) _ _ (c .before .before .before .put-class .ensures .0)) }
 
-cast-t29 : tie.Need-cast-t29 Inv-loop μ-loop
-cast-t29 c = record { fits = omega (arith, c .before .before .before .before .before .before .before .before .before .known-told2 .given .1 .0, below-count _ _ _ _ _ _ _ _ _ _ _ _ (c .before .before .before .before .before .before .before .before .before .before .before .before .before .before .before .before .before .before .before .loop .inv .1) (c .before .before .before .before .before .before .before .before .before .before .before .before .before .before .before .before .before .before .loop-test .taken) _ (a-class _ _ _ _ _ _ (told (descriptorOf _) (c .before .before .before .before .before .before .before .before .before .before .before .before .before .before .before .before .before .slot-row-moving .ensures .row (c .before .before .before .before .before .before .before .before .before .before .before .before .before .before .before .before .before .before .before .loop .inv .0)) (c .before .before .before .before .before .before .before .before .before .before .before .before .before .before .found .given .1)) _ (told tableAt (c .before .before .before .before .before .before .before .before .before .before .before .before .vtable-near .ensures) (c .before .before .before .before .before .before .before .before .before .before .base-va .given .1) ∙ table-mapped _ _ _ (c .before .before .before .before .before .before .before .before .before .before .before .before .before .before .before .before .before .slot-row-moving .ensures .mapped (c .before .before .before .before .before .before .before .before .before .before .before .before .before .before .before .before .before .before .before .loop .inv .0)) _ _)) (omega (arith, c .before .before .before .before .before .before .before .before .if1 .left)) _ _ (c .before .before .before .before .before .before .put-class .ensures .0) (c .before .if2 .taken)) }
+cast-t30 : tie.Need-cast-t30 Inv-loop μ-loop
+cast-t30 c = record { fits = omega (arith, c .before .before .before .before .before .before .before .before .before .known-told2 .given .1 .0, below-count _ _ _ _ _ _ _ _ _ _ _ _ (c .before .before .before .before .before .before .before .before .before .before .before .before .before .before .before .before .before .before .before .loop .inv .1) (c .before .before .before .before .before .before .before .before .before .before .before .before .before .before .before .before .before .before .loop-test .taken) _ (a-class _ _ _ _ _ _ (told (descriptorOf _) (c .before .before .before .before .before .before .before .before .before .before .before .before .before .before .before .before .before .slot-row-moving .ensures .row (c .before .before .before .before .before .before .before .before .before .before .before .before .before .before .before .before .before .before .before .loop .inv .0)) (c .before .before .before .before .before .before .before .before .before .before .before .before .before .before .found .given .1)) _ (told tableAt (c .before .before .before .before .before .before .before .before .before .before .before .before .vtable-near .ensures) (c .before .before .before .before .before .before .before .before .before .before .base-va .given .1) ∙ table-mapped _ _ _ (c .before .before .before .before .before .before .before .before .before .before .before .before .before .before .before .before .before .slot-row-moving .ensures .mapped (c .before .before .before .before .before .before .before .before .before .before .before .before .before .before .before .before .before .before .before .loop .inv .0)) _ _)) (omega (arith, c .before .before .before .before .before .before .before .before .if1 .left)) _ _ (c .before .before .before .before .before .before .put-class .ensures .0) (c .before .if2 .taken)) }
 
-add-t30 : tie.Need-add-t30 Inv-loop μ-loop
-add-t30 c = record { fits = omega (arith, c .before .before .before .before .before .before .before .before .before .known-told2 .given .1 .0, below-count _ _ _ _ _ _ _ _ _ _ _ _ (c .before .before .before .before .before .before .before .before .before .before .before .before .before .before .before .before .before .before .before .loop .inv .1) (c .before .before .before .before .before .before .before .before .before .before .before .before .before .before .before .before .before .before .loop-test .taken) _ (a-class _ _ _ _ _ _ (told (descriptorOf _) (c .before .before .before .before .before .before .before .before .before .before .before .before .before .before .before .before .before .slot-row-moving .ensures .row (c .before .before .before .before .before .before .before .before .before .before .before .before .before .before .before .before .before .before .before .loop .inv .0)) (c .before .before .before .before .before .before .before .before .before .before .before .before .before .before .found .given .1)) _ (told tableAt (c .before .before .before .before .before .before .before .before .before .before .before .before .vtable-near .ensures) (c .before .before .before .before .before .before .before .before .before .before .base-va .given .1) ∙ table-mapped _ _ _ (c .before .before .before .before .before .before .before .before .before .before .before .before .before .before .before .before .before .slot-row-moving .ensures .mapped (c .before .before .before .before .before .before .before .before .before .before .before .before .before .before .before .before .before .before .before .loop .inv .0)) _ _)) (omega (arith, c .before .before .before .before .before .before .before .before .if1 .left)) _ _ (c .before .before .before .before .before .before .put-class .ensures .0) (c .before .if2 .taken)) }
+add-t31 : tie.Need-add-t31 Inv-loop μ-loop
+add-t31 c = record { fits = omega (arith, c .before .before .before .before .before .before .before .before .before .known-told2 .given .1 .0, below-count _ _ _ _ _ _ _ _ _ _ _ _ (c .before .before .before .before .before .before .before .before .before .before .before .before .before .before .before .before .before .before .before .loop .inv .1) (c .before .before .before .before .before .before .before .before .before .before .before .before .before .before .before .before .before .before .loop-test .taken) _ (a-class _ _ _ _ _ _ (told (descriptorOf _) (c .before .before .before .before .before .before .before .before .before .before .before .before .before .before .before .before .before .slot-row-moving .ensures .row (c .before .before .before .before .before .before .before .before .before .before .before .before .before .before .before .before .before .before .before .loop .inv .0)) (c .before .before .before .before .before .before .before .before .before .before .before .before .before .before .found .given .1)) _ (told tableAt (c .before .before .before .before .before .before .before .before .before .before .before .before .vtable-near .ensures) (c .before .before .before .before .before .before .before .before .before .before .base-va .given .1) ∙ table-mapped _ _ _ (c .before .before .before .before .before .before .before .before .before .before .before .before .before .before .before .before .before .slot-row-moving .ensures .mapped (c .before .before .before .before .before .before .before .before .before .before .before .before .before .before .before .before .before .before .before .loop .inv .0)) _ _)) (omega (arith, c .before .before .before .before .before .before .before .before .if1 .left)) _ _ (c .before .before .before .before .before .before .put-class .ensures .0) (c .before .if2 .taken)) }
 
 same-length-2 : tie.Need-same-length-2 Inv-loop μ-loop
 same-length-2 c = still-long _ _ _ _ _ _ _ _ _ _ _ _ (c .before .before .before .before .before .before .before .before .before .before .before .before .before .before .before .before .before .before .before .loop .inv .1) (c .before .before .before .before .before .before .before .before .before .before .before .before .before .before .before .before .before .before .loop-test .taken) _ (a-class _ _ _ _ _ _ (told (descriptorOf _) (c .before .before .before .before .before .before .before .before .before .before .before .before .before .before .before .before .before .slot-row-moving .ensures .row (c .before .before .before .before .before .before .before .before .before .before .before .before .before .before .before .before .before .before .before .loop .inv .0)) (c .before .before .before .before .before .before .before .before .before .before .before .before .before .before .found .given .1)) _ (told tableAt (c .before .before .before .before .before .before .before .before .before .before .before .before .vtable-near .ensures) (c .before .before .before .before .before .before .before .before .before .before .base-va .given .1) ∙ table-mapped _ _ _ (c .before .before .before .before .before .before .before .before .before .before .before .before .before .before .before .before .before .slot-row-moving .ensures .mapped (c .before .before .before .before .before .before .before .before .before .before .before .before .before .before .before .before .before .before .before .loop .inv .0)) _ _)) (omega (arith, c .before .before .before .before .before .before .before .before .if1 .left)) _ _ (c .before .before .before .before .before .before .put-class .ensures .0) _ (c .before .before .before .before .before .before .put-class .ensures .1)
@@ -137,8 +137,8 @@ put-classes-spec =
     add-at
     add-at-2
     add-classes
-    cast-t29
-    add-t30
+    cast-t30
+    add-t31
     same-length-2
     returns-2
     add-slot
