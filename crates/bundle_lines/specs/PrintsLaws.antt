@@ -45,8 +45,8 @@ module _ (s segments : List ℕ) where
   pub going-start : (p : Pending) → Going p 0 p
   going-start p = record { few = omega arith; rest = omega arith }
 
-  pub going-on : (p q : Pending) (n : ℕ) (t : Line Pending) → Going p n q → printStep s segments q ≡ some t → n < linesMost → Going p (n + 1) (t .next)
-  going-on p q n t g e h =
+  pub lines-going-on : (p q : Pending) (n : ℕ) (t : Line Pending) → Going p n q → printStep s segments q ≡ some t → n < linesMost → Going p (n + 1) (t .next)
+  lines-going-on p q n t g e h =
       let more : linesMost - n ≡ suc (linesMost - (n + 1)) = omega arith in
       let one : length (taken (linesMost - n) s segments q .lines) ≡ suc (length (taken (linesMost - (n + 1)) s segments (t .next) .lines)) =
       ap (λ (k : ℕ). length (taken k s segments q .lines)) more ∙ ap (λ (u : Taken). length (u .lines)) (taken-some (linesMost - (n + 1)) q t e) in

@@ -21,16 +21,16 @@ use Rattle.bundle.specs.declared.open.Part.{Part}
 use Rattle.bundle.specs.declared.open.Layout.{Layout}
 
 -- the body of a kind, empty where it is missing
-unfoldable pub bodyOf : ℕ → List Record → List ℕ
-bodyOf kind [] = []
-bodyOf kind (r ∷ rs) = cond (eqb (r .kind) kind) (r .body) (bodyOf kind rs)
+unfoldable pub recordBodyOf : ℕ → List Record → List ℕ
+recordBodyOf kind [] = []
+recordBodyOf kind (r ∷ rs) = cond (eqb (r .kind) kind) (r .body) (recordBodyOf kind rs)
 
-pub place-bytes : (s : List ℕ) (kind at : ℕ) (rs : List Record) → drop at s ≡ bundleBytes rs → bytesOf s (bodyPlace kind at rs) ≡ bodyOf kind rs
-unfolding bodyPlace bodyOf bundleBytes
+pub place-bytes : (s : List ℕ) (kind at : ℕ) (rs : List Record) → drop at s ≡ bundleBytes rs → bytesOf s (bodyPlace kind at rs) ≡ recordBodyOf kind rs
+unfolding bodyPlace recordBodyOf bundleBytes
 place-bytes s kind at [] e = part-in s 0 0 (omega arith)
 place-bytes s kind at (r ∷ rs) e = go (place-bytes s kind _ rs (from-next s at r (bundleBytes rs) e)) (eqb (r .kind) kind) refl
   where
-    go : bytesOf s (bodyPlace kind (at + 6 + length (r .body)) rs) ≡ bodyOf kind rs → (b : Bool) → eqb (r .kind) kind ≡ b → bytesOf s (bodyPlace kind at (r ∷ rs)) ≡ bodyOf kind (r ∷ rs)
+    go : bytesOf s (bodyPlace kind (at + 6 + length (r .body)) rs) ≡ recordBodyOf kind rs → (b : Bool) → eqb (r .kind) kind ≡ b → bytesOf s (bodyPlace kind at (r ∷ rs)) ≡ recordBodyOf kind (r ∷ rs)
     go below true t =
         rw t
         (part-in s (at + 6) (length (r .body)) (read-within s at r (bundleBytes rs) e)

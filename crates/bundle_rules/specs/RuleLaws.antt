@@ -95,9 +95,9 @@ on : (b : Bool) (x : Checked) (r : Rule) (k n : ℕ) → Checked.Keeps k n ≡ c
 on true x r k n e = (refl, e)
 on false x r k n e = let z : _≡_ {A = ℕ} 0 1 = cc in absurd (omega arith)
 
-pub kept : (s : List ℕ) (last at k n : ℕ) → Checked.Keeps k n ≡ checkAt s last at → Kept s last at k n
+pub kept-by-check : (s : List ℕ) (last at k n : ℕ) → Checked.Keeps k n ≡ checkAt s last at → Kept s last at k n
 unfolding checkAt checkKind
-kept s last at k n e =
+kept-by-check s last at k n e =
     let whole = on (leb (at + 6 + sizeAt s at) (length s)) _ _ k n e in
     let range = on (leb 1 (kindAt s at) && leb (kindAt s at) 5) _ _ k n (whole .1) in
     let above = on (ltb last (kindAt s at)) _ _ k n (range .1) in
@@ -115,13 +115,13 @@ unfolding brokenRule
 too-long-whole s h = rw (lt-ltb bundleMost (length s) h)
 
 -- where the walk stands, with turns enough for the kinds that are left
-pub record Walked (s : List ℕ) (image : Bool) (last at : ℕ) : Type 0 where
+pub record RulesWalked (s : List ℕ) (image : Bool) (last at : ℕ) : Type 0 where
   pub turns : ℕ
   pub enough : 6 ≤ turns + last
   pub low : last ≤ 5
   pub same : walk turns s image last at ≡ brokenRule s
 
-pub walked-none : (s : List ℕ) → length s ≤ bundleMost → Walked s false 0 0
+pub walked-none : (s : List ℕ) → length s ≤ bundleMost → RulesWalked s false 0 0
 unfolding brokenRule
 walked-none s h = record { turns = 6; enough = omega arith; low = omega arith; same = sym (rw (le-ltb bundleMost (length s) h)) }
 
@@ -135,46 +135,46 @@ module _ (s : List ℕ) (image : Bool) (last at : ℕ) where
   unfolding walk
   turned-end n h = rw (walk, le-leb (length s) at h)
 
-  pub walked-breaks : (r : Rule) → Walked s image last at → at < length s → Checked.Breaks r ≡ checkAt s last at → Broken.At r at ≡ brokenRule s
+  pub walked-breaks : (r : Rule) → RulesWalked s image last at → at < length s → Checked.Breaks r ≡ checkAt s last at → Broken.At r at ≡ brokenRule s
   walked-breaks r w h e = go (w .turns) (w .enough) (w .same)
     where
       go : (n : ℕ) → 6 ≤ n + last → walk n s image last at ≡ brokenRule s → Broken.At r at ≡ brokenRule s
       go zero m f = absurd (omega (arith, w .low))
       go (suc n) m f = ap (λ (c : Checked). turn at c (λ kind next. walk n s (eqb kind 1 || image) kind next)) e ∙ sym (turned n h) ∙ f
 
-  pub walked-keeps : (k n : ℕ) → Walked s image last at → at < length s → Checked.Keeps k n ≡ checkAt s last at → Walked s (eqb k 1 || image) k n
+  pub walked-keeps : (k n : ℕ) → RulesWalked s image last at → at < length s → Checked.Keeps k n ≡ checkAt s last at → RulesWalked s (eqb k 1 || image) k n
   walked-keeps k n w h e = go (w .turns) (w .enough) (w .same)
     where
-      go : (m : ℕ) → 6 ≤ m + last → walk m s image last at ≡ brokenRule s → Walked s (eqb k 1 || image) k n
+      go : (m : ℕ) → 6 ≤ m + last → walk m s image last at ≡ brokenRule s → RulesWalked s (eqb k 1 || image) k n
       go zero m f = absurd (omega (arith, w .low))
       go (suc m) l f =
           record {
             turns = m;
-            enough = omega (arith, kept s last at k n e .above);
-            low = kept s last at k n e .high;
+            enough = omega (arith, kept-by-check s last at k n e .above);
+            low = kept-by-check s last at k n e .high;
             same = ap (λ (c : Checked). turn at c (λ kind next. walk m s (eqb kind 1 || image) kind next)) e ∙ sym (turned m h) ∙ f;
           }
 
-  walked-ended : Walked s image last at → length s ≤ at → atEnd s image ≡ brokenRule s
+  walked-ended : RulesWalked s image last at → length s ≤ at → atEnd s image ≡ brokenRule s
   walked-ended w h = go (w .turns) (w .enough) (w .same)
     where
       go : (n : ℕ) → 6 ≤ n + last → walk n s image last at ≡ brokenRule s → atEnd s image ≡ brokenRule s
       go zero m f = absurd (omega (arith, w .low))
       go (suc n) m f = sym (turned-end n h) ∙ f
 
-  pub walked-whole : Walked s image last at → length s ≤ at → image ≡ true → Broken.Whole ≡ brokenRule s
+  pub walked-whole : RulesWalked s image last at → length s ≤ at → image ≡ true → Broken.Whole ≡ brokenRule s
   walked-whole w h e = sym (ap (atEnd s) e) ∙ walked-ended w h
 
-  pub walked-missing : Walked s image last at → length s ≤ at → image ≡ false → Broken.At Rule.NoImage (length s) ≡ brokenRule s
+  pub walked-missing : RulesWalked s image last at → length s ≤ at → image ≡ false → Broken.At Rule.NoImage (length s) ≡ brokenRule s
   walked-missing w h e = sym (ap (atEnd s) e) ∙ walked-ended w h
 
 -- whether there was an image, as the code has it after a record that kept the rules
 module _ (s : List ℕ) (image : Bool) (k n : ℕ) where
-  pub seen-image : k ≡ 1 → Walked s (eqb k 1 || image) k n → Walked s (eqb k 1) k n
-  seen-image e w = subst (λ (b : Bool). Walked s b k n) (rw (eq-eqb k 1 e)) w
+  pub seen-image : k ≡ 1 → RulesWalked s (eqb k 1 || image) k n → RulesWalked s (eqb k 1) k n
+  seen-image e w = subst (λ (b : Bool). RulesWalked s b k n) (rw (eq-eqb k 1 e)) w
 
-  pub seen-other : (k ≡ 1 → ⊥) → Walked s (eqb k 1 || image) k n → Walked s image k n
-  seen-other e w = subst (λ (b : Bool). Walked s b k n) (rw (ne-eqb k 1 e)) w
+  pub seen-other : (k ≡ 1 → ⊥) → RulesWalked s (eqb k 1 || image) k n → RulesWalked s image k n
+  seen-other e w = subst (λ (b : Bool). RulesWalked s b k n) (rw (ne-eqb k 1 e)) w
 
 -- ---- whole exactly where it is not refused for a rule
 
@@ -256,7 +256,7 @@ walk-end n s image at =
 
     breaks : (c : Checked) → c ≡ checkAt s 5 at → isWhole (turn at c (λ kind next. walk n s (eqb kind 1 || image) kind next)) ≡ false
     breaks (Checked.Breaks r) e = refl
-    breaks (Checked.Keeps k m) e = absurd (omega (arith, kept s 5 at k m e .above, kept s 5 at k m e .high))
+    breaks (Checked.Keeps k m) e = absurd (omega (arith, kept-by-check s 5 at k m e .above, kept-by-check s 5 at k m e .high))
 
 -- the kinds up to `last` are taken, as `openBundle` takes them, with turns enough for the others
 record Stage (s : List ℕ) (image : Bool) (last at : ℕ) : Type 0 where

@@ -1,4 +1,4 @@
-// The methods of a table in one call: those from an entry on up to the first that cannot be read, as many as the lent buffer holds.
+// The methods of a table in one call: those from an entry on up to the first that cannot be read, as many as the caller's buffer holds.
 ghost use Rattle.vtable.specs.Entries.{method};
 ghost use Rattle.entry_tables.specs.Tables.{guardedTable};
 ghost use Rattle.c_tables.specs.Tables.{cursorAt, TellsTable};

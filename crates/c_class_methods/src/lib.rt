@@ -5,7 +5,7 @@ ghost use lib.ListN.{length};
 ghost use Rattle.refusal.specs.Refusal.{answered, mapped, answerOf};
 ghost use Rattle.util.specs.Buffer.{overwritten};
 ghost use Rattle.refusal.specs.Guarded.{guarded};
-ghost use Rattle.class_methods.specs.ClassMethods.{classesIn, givenOf, numbersOf};
+ghost use Rattle.class_methods.specs.ClassMethods.{classesIn, methodsGivenOf, methodNumbersOf};
 ghost use Rattle.c_rows.specs.Numbers.{Tells};
 ghost use Rattle.c_class_methods.specs.ClassMethods.{classesNumbers};
 use class_methods::ClassMethods;
@@ -28,8 +28,8 @@ pub extern "C" fn hodrupec_class_methods(
     buffer: &mut [u64],
     out: &mut [u64; 4],
 ) -> u64
-    ensures { λ r. ⌜ Tells (mapped classesNumbers (mapped givenOf (guarded (now (segments .entry)) (answered (classesIn (now (image .entry)) (now (segments .entry)) (now (types .entry)) vmaddr start first (length (now (buffer .entry)))))))) (now (out .entry)) r (now (out .exit)) ⌝ }
-    ensures { λ _. ⌜ now (buffer .exit) ≡ overwritten (now (buffer .entry)) (answerOf (mapped numbersOf (guarded (now (segments .entry)) (answered (classesIn (now (image .entry)) (now (segments .entry)) (now (types .entry)) vmaddr start first (length (now (buffer .entry)))))))) ⌝ }
+    ensures { λ r. ⌜ Tells (mapped classesNumbers (mapped methodsGivenOf (guarded (now (segments .entry)) (answered (classesIn (now (image .entry)) (now (segments .entry)) (now (types .entry)) vmaddr start first (length (now (buffer .entry)))))))) (now (out .entry)) r (now (out .exit)) ⌝ }
+    ensures { λ _. ⌜ now (buffer .exit) ≡ overwritten (now (buffer .entry)) (answerOf (mapped methodNumbersOf (guarded (now (segments .entry)) (answered (classesIn (now (image .entry)) (now (segments .entry)) (now (types .entry)) vmaddr start first (length (now (buffer .entry)))))))) ⌝ }
 {
     match class_methods::class_methods(image, segments, types, vmaddr, start, first, buffer) {
         ClassMethods::Given(given) => {

@@ -1,5 +1,5 @@
 // The calls of the archive level for programs in C or Rust: fields, their records, field offsets, and what is certain of an
-// image by its first bytes. As in `c_rows`, each gives back a status, 0 where it answers and else the refusal's number, and writes its answer into a
+// image by its first bytes. As in `c_rows`, each returns a status, 0 where it answers and else the refusal's number, and writes its answer into a
 // lent array, of which a refused call changes nothing.
 mod certain;
 mod fields;

@@ -1,4 +1,4 @@
-// The records of a field descriptor in one call: those from one on up to the first that cannot be read, as many as the lent buffer holds.
+// The records of a field descriptor in one call: those from one on up to the first that cannot be read, as many as the caller's buffer holds.
 ghost use Rattle.field.specs.Records.{recordLayout};
 ghost use Rattle.entry_tables.specs.Tables.{guardedTable};
 ghost use Rattle.c_tables.specs.Tables.{cursorAt, TellsTable};

@@ -248,6 +248,6 @@ module _ (image segments types : List ℕ) (start past : ℕ) where
           rw (rowsFrom, t) (resumed-row image segments past (found i r) (rowsFrom image segments types start n (suc i)) _ room (rw (e, rowsFrom, t)) further)
 
 -- going on gives the same records as one call
-pub going-on : (image segments types : List ℕ) (start i room : ℕ)
+pub listing-going-on : (image segments types : List ℕ) (start i room : ℕ)
     → Resumes image segments (rowsFrom image segments types start (slots types - i) i) (listingFrom image segments types start i room) (λ j. rowsFrom image segments types start (slots types - j) j)
-going-on image segments types start i room = resumed image segments types start (max (slots types) i) (slots types - i) i (slots types) room refl (omega arith)
+listing-going-on image segments types start i room = resumed image segments types start (max (slots types) i) (slots types - i) i (slots types) room refl (omega arith)

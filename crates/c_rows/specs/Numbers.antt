@@ -1,5 +1,5 @@
 -- docs/SPECIFICATION.md, "Calls for C".
--- The answers of the calls as a status and, in a lent array, numbers of a fixed count. The first number is 0, as are all others, where there is nothing.
+-- The answers of the calls as a status and, in the caller's array, numbers of a fixed count. The first number is 0, as are all others, where there is nothing.
 use Prim.Native.Nat.{ℕ}
 use mathlib.Core.Path.{_≡_}
 use mathlib.Core.List.{List, [], _∷_}
@@ -21,7 +21,7 @@ abbrev pub overOut : List ℕ → Guarded (List ℕ) → List ℕ
 overOut out (answered numbers) = numbers
 overOut out (refused n) = out
 
--- what a call that answers or refuses so gives back, and what it makes of the array
+-- what a call that answers or refuses so returns, and what it makes of the array
 pub record Tells (answer : Guarded (List ℕ)) (out : List ℕ) (r : ℕ) (out′ : List ℕ) : Type 0 where
   pub gives : r ≡ status answer
   pub writes : out′ ≡ overOut out answer
@@ -40,9 +40,9 @@ abbrev pub contextNumbers : Option context.Name → List ℕ
 contextNumbers none = 0 ∷ (0 ∷ (0 ∷ []))
 contextNumbers (some n) = 1 ∷ (n .place .start ∷ (n .place .size ∷ []))
 
-abbrev pub stepNumbers : Option Step → List ℕ
-stepNumbers none = 0 ∷ (0 ∷ (0 ∷ (0 ∷ (0 ∷ (0 ∷ (0 ∷ (0 ∷ [])))))))
-stepNumbers (some s) =
+abbrev pub chainStepNumbers : Option Step → List ℕ
+chainStepNumbers none = 0 ∷ (0 ∷ (0 ∷ (0 ∷ (0 ∷ (0 ∷ (0 ∷ (0 ∷ [])))))))
+chainStepNumbers (some s) =
     1 ∷ (s .context .header .address ∷ (s .context .header .flags ∷ (s .next ∷ (s .given ∷ contextNumbers (s .context .name)))))
 
 -- a length alone

@@ -52,7 +52,7 @@ fn pair(a: u64, b: u64) -> [u8; 16]
     ]
 }
 
-// Puts what comes before a name at a place, and gives back where the name starts.
+// Puts what comes before a name at a place, and returns where the name starts.
 fn put_head(slot: usize, row: Row, name_length: u64, buffer: &mut [u8], at: usize) -> usize
     requires { ⌜ at + 32 ≤ length (now buffer) ⌝ }
     ensures { λ r. ⌜ Put (now (buffer .entry)) at (headBytes slot (row .address) (row .flags) «name_length») r (now (buffer .exit)) ⌝ }
@@ -63,7 +63,7 @@ fn put_head(slot: usize, row: Row, name_length: u64, buffer: &mut [u8], at: usiz
     util::put(&second, buffer, middle)
 }
 
-// Puts a row's record at a place, and gives back where it ends: where it starts, if it does not fit.
+// Puts a row's record at a place, and returns where it ends: where it starts, if it does not fit.
 fn put_record(
     image: &[u8],
     segments: &[u64],
@@ -92,7 +92,7 @@ fn put_record(
     }
 }
 
-// Puts the records of the rows from a slot on at the buffer's start, as long as they fit, and gives back the three numbers of the call below. The mapping
+// Puts the records of the rows from a slot on at the buffer's start, as long as they fit, and returns the three numbers of the call below. The mapping
 // around one descriptor finds the next, unless that lies elsewhere.
 fn put_rows(
     image: &[u8],

@@ -10,7 +10,7 @@ ghost use Rattle.typedescriptor.specs.Slots.{nextRow};
 ghost use Rattle.parent.specs.Chain.{chainStep};
 ghost use Rattle.qualified_name.specs.Name.{nameAnswer};
 ghost use Rattle.refusal.specs.Guarded.{guarded};
-ghost use Rattle.c_rows.specs.Numbers.{Tells, valueNumbers, rowNumbers, stepNumbers, oneNumber, namedRow};
+ghost use Rattle.c_rows.specs.Numbers.{Tells, valueNumbers, rowNumbers, chainStepNumbers, oneNumber, namedRow};
 use parent::ParentChain;
 use qualified_name::QualifiedName;
 use refusal::Refusal;
@@ -139,7 +139,7 @@ pub extern "C" fn hodrupec_next_context(
     given: usize,
     out: &mut [u64; 8],
 ) -> u64
-    ensures { λ r. ⌜ Tells (mapped stepNumbers (guarded (now (segments .entry)) (answered (chainStep (now (image .entry)) (now (segments .entry)) «descriptor_va» given)))) (now (out .entry)) r (now (out .exit)) ⌝ }
+    ensures { λ r. ⌜ Tells (mapped chainStepNumbers (guarded (now (segments .entry)) (answered (chainStep (now (image .entry)) (now (segments .entry)) «descriptor_va» given)))) (now (out .entry)) r (now (out .exit)) ⌝ }
 {
     let walk = ParentChain {
         next_descriptor_va: descriptor_va,

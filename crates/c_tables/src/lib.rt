@@ -1,5 +1,5 @@
 // Whole tables for programs in C or Rust, by the rules of the crate `c_rows`: the entries from one on up to the first that cannot be read,
-// as many as the lent buffer holds. Methods stand in `c_blocks` and field records in `c_fields`: with one kind of table to an
+// as many as the caller's buffer holds. Methods stand in `c_blocks` and field records in `c_fields`: with one kind of table to an
 // archive its loop is made for that kind. Told are: how many were written, and why no more: 0 the table's end, 1 the buffer is full, 2 an entry that
 // cannot be read.
 ghost use Rattle.refusal.specs.Refusal.{mapped};
@@ -13,7 +13,7 @@ use vtable::EntryIter;
 // The status of a call that answers.
 const ANSWERED: u64 = 0;
 
-// What a call over a table gives back, and writes of its answer.
+// What a call over a table returns, and writes of its answer.
 pub fn tell_counts(answer: TableAnswer, out: &mut [u64; 2]) -> u64
     ensures { λ r. ⌜ Tells (mapped countNumbers (tableAnswer answer)) (now (out .entry)) r (now (out .exit)) ⌝ }
 {

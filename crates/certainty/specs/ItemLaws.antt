@@ -169,7 +169,7 @@ module _ (arrived segments : List ℕ) where
 
   -- ---- an item
 
-  -- a range of a path that is no text, or whose NUL arrived
+  -- a range of a path that is not a text, or whose NUL arrived
   abbrev pub Ended : Range → Type 0
   Ended r = r .isText ≡ true → hasNul (drop (r .from) arrived) ≡ true
 

@@ -1,4 +1,4 @@
-// The public calls. Each refuses a list of segment numbers that is no multiple of four, before all else (refusal 1), and owes its caller nothing.
+// The public calls. Each refuses a list of segment numbers that is not a multiple of four, before all else (refusal 1), and owes its caller nothing.
 ghost use mathlib.Core.Path.{_≡_};
 ghost use Rattle.refusal.specs.Refusal.{answered};
 ghost use Rattle.typedescriptor.specs.Slots.{slotRow};

@@ -1,4 +1,4 @@
--- The methods of the classes of a types section into a lent list of numbers: docs/SPECIFICATION.md, "Methods of all classes".
+-- The methods of the classes of a types section into the caller's list of numbers: docs/SPECIFICATION.md, "Methods of all classes".
 use Prim.Native.Nat.{ℕ, zero, suc, _+_, _-_, _*_}
 use mathlib.Core.List.{List, [], _∷_, _++_}
 use mathlib.Core.Bool.{Bool, true, false, cond}
@@ -86,13 +86,13 @@ classesFrom image segments types start (suc m) i k n =
 abbrev pub classesIn : List ℕ → List ℕ → List ℕ → ℕ → ℕ → ℕ → ℕ → ClassesListed
 classesIn image segments types start i k n = classesFrom image segments types start (slots types - i) i k n
 
--- ---- the call's answer: the counts; the other numbers are in the lent list
+-- ---- the call's answer: the counts; the other numbers are in the caller's list
 
-abbrev pub givenOf : ClassesListed → Given
-givenOf l = record { classes = l .classes; next = l .next; method = l .method; all = l .all }
+abbrev pub methodsGivenOf : ClassesListed → Given
+methodsGivenOf l = record { classes = l .classes; next = l .next; method = l .method; all = l .all }
 
-abbrev pub numbersOf : ClassesListed → List ℕ
-numbersOf l = l .numbers
+abbrev pub methodNumbersOf : ClassesListed → List ℕ
+methodNumbersOf l = l .numbers
 
 abbrev pub classMethodsAnswer : ClassMethods → Guarded Given
 classMethodsAnswer (ClassMethods.Given g) = answered g

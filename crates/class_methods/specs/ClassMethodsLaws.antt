@@ -33,7 +33,7 @@ use Rattle.entry_tables.specs.Tables.{entryNumbers, tableFrom, WholeTable, Coun
 use Rattle.entry_tables.specs.TablesLaws.{entry-wide, full-all, all-there, Sized, sized}
 use Rattle.entry_tables.specs.PastedLaws.{four-put, pasted-long}
 use Rattle.class_methods.specs.declared.classes.Given.{Given}
-use Rattle.class_methods.specs.ClassMethods.{methodTable, Class, classAt, rowClass, slotClass, classNumbers, methodsAt, ClassesListed, stopsAt, classThen, classesFrom, classesIn, givenOf, numbersOf}
+use Rattle.class_methods.specs.ClassMethods.{methodTable, Class, classAt, rowClass, slotClass, classNumbers, methodsAt, ClassesListed, stopsAt, classThen, classesFrom, classesIn, methodsGivenOf, methodNumbersOf}
 
 -- ---- the class of a slot
 
@@ -198,8 +198,8 @@ module _ (image segments types : List ℕ) (start i₀ k₀ : ℕ) (b₀ : List 
 
   abbrev Done : ℕ → ℕ → ℕ → Bool → List ℕ → Type 0
   Done c i k e b =
-      (record { classes = c; next = i; method = k; all = e } ≡ givenOf (left i₀ k₀ (length b₀)))
-      × (b ≡ atStart (numbersOf (left i₀ k₀ (length b₀))) b₀)
+      (record { classes = c; next = i; method = k; all = e } ≡ methodsGivenOf (left i₀ k₀ (length b₀)))
+      × (b ≡ atStart (methodNumbersOf (left i₀ k₀ (length b₀))) b₀)
 
   -- what is told in the end
   stops : (c i k at : ℕ) (e : Bool) (b : List ℕ) → at ≤ length b → drop at b ≡ drop at b₀ → left i₀ k₀ (length b₀) ≡ after (take at b) c (stopsAt i k e) → Done c i k e b

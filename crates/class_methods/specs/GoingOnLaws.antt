@@ -1,5 +1,5 @@
 -- What a caller gets who goes on from where a call tells: the methods that the numbers of one call tell, read off the list (`readOff`), and all from
--- there on are all methods, each once and in order (`going-on`); and a list of seven numbers or more takes each call on (`moves-on`).
+-- there on are all methods, each once and in order (`methods-going-on`); and a list of seven numbers or more takes each call on (`moves-on`).
 use Prim.Native.Nat.{ℕ, zero, suc, _+_, _-_, _*_, _/_, _≤_, _<_}
 use native.Mathlib.Nat.{zero-add, add-zero, div-eq-sub-div}
 use native.Mathlib.Decide.{decLt}
@@ -17,7 +17,7 @@ use Rattle.runtime.specs.Reads.{run}
 use Rattle.typedescriptor.specs.Slots.{slots}
 use Rattle.vtable.specs.Entries.{Entry, method, entryAt}
 use Rattle.entry_tables.specs.Tables.{entryNumbers, WholeTable, tableFrom}
-use Rattle.entry_tables.specs.TablesLaws.{entry-wide, full-all, all-there, sized, going-on as table-going-on}
+use Rattle.entry_tables.specs.TablesLaws.{entry-wide, full-all, all-there, sized, table-going-on}
 use Rattle.class_methods.specs.ClassMethods.{Class, slotClass, classNumbers, methodsAt, ClassesListed, stopsAt, classThen, classesFrom, classesIn}
 use Rattle.class_methods.specs.ClassMethodsLaws.{from-none, from-few, from-full, from-whole, allMethods}
 
@@ -202,9 +202,9 @@ module _ (image segments types : List ℕ) (start : ℕ) where
   resumed zero i k n e = (out i k n e .0, λ h z. absurd (out i k n e .1 z))
   resumed (suc m) i k n e = both m i k n e (λ n. resumed m (suc i) 0 n (omega arith) .0)
 
-  -- what a call tells, and then all from where it tells to go on from, are all methods
-  pub going-on : (i k n : ℕ) → Resumes (methodsFrom (slots types - i) i k) i (classesIn image segments types start i k n)
-  going-on i k n = resumed (slots types - i) i k n refl .0
+  -- what a call returns, and then all from where it tells to go on from, are all methods
+  pub methods-going-on : (i k n : ℕ) → Resumes (methodsFrom (slots types - i) i k) i (classesIn image segments types start i k n)
+  methods-going-on i k n = resumed (slots types - i) i k n refl .0
 
   -- seven numbers take each call on
   pub moves-on : (i k n : ℕ) → 7 ≤ n → classesIn image segments types start i k n .all ≡ false → Further i k (classesIn image segments types start i k n)

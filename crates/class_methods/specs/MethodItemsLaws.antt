@@ -21,7 +21,7 @@ use Rattle.items.specs.ProgramLaws.{run-map}
 use Rattle.items.specs.ListedLaws as items
 use Rattle.steps.specs.Blocks.{kindFrom}
 use Rattle.entry_tables.specs.Tables.{entryNumbers, tableFrom}
-use Rattle.entry_tables.specs.TablesLaws.{numbersIn, table-listed}
+use Rattle.entry_tables.specs.TablesLaws.{numbersOfAll, table-listed}
 use Rattle.class_methods.specs.ClassMethods.{methodTable, Class, classAt, rowClass, slotClass, methodsAt}
 
 module _ (image segments : List ℕ) (s : Sections) (i : ℕ) where
@@ -86,7 +86,7 @@ module _ (image segments : List ℕ) (s : Sections) (i : ℕ) where
 
   -- and their numbers are those that are told of it
   pub class-methods-numbers : (c : Class)
-      → tableFrom image segments method (c .table .count) (methodsAt (c .table) 0) .numbers ≡ numbersIn entryNumbers (listed image segments method (c .table .count) (start (c .table .base) (c .table .count)))
+      → tableFrom image segments method (c .table .count) (methodsAt (c .table) 0) .numbers ≡ numbersOfAll entryNumbers (listed image segments method (c .table .count) (start (c .table .base) (c .table .count)))
   class-methods-numbers c = table-listed entryNumbers image segments method (c .table .count) (methodsAt (c .table) 0) .0
 
   -- a slot without a class has no methods

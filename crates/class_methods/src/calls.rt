@@ -3,7 +3,7 @@ ghost use lib.ListN.{length};
 ghost use Rattle.refusal.specs.Refusal.{answered, mapped, answerOf};
 ghost use Rattle.util.specs.Buffer.{overwritten};
 ghost use Rattle.refusal.specs.Guarded.{guarded};
-ghost use Rattle.class_methods.specs.ClassMethods.{classesIn, givenOf, numbersOf, classMethodsAnswer};
+ghost use Rattle.class_methods.specs.ClassMethods.{classesIn, methodsGivenOf, methodNumbersOf, classMethodsAnswer};
 use crate::classes::Given;
 use crate::classes::put_classes;
 use refusal::Refusal;
@@ -25,8 +25,8 @@ pub fn class_methods(
     first: u32,
     buffer: &mut [u64],
 ) -> ClassMethods
-    ensures { λ r. ⌜ classMethodsAnswer r ≡ mapped givenOf (guarded (now (segments .entry)) (answered (classesIn (now (image .entry)) (now (segments .entry)) (now (types .entry)) vmaddr start first (length (now (buffer .entry)))))) ⌝ }
-    ensures { λ _. ⌜ now (buffer .exit) ≡ overwritten (now (buffer .entry)) (answerOf (mapped numbersOf (guarded (now (segments .entry)) (answered (classesIn (now (image .entry)) (now (segments .entry)) (now (types .entry)) vmaddr start first (length (now (buffer .entry)))))))) ⌝ }
+    ensures { λ r. ⌜ classMethodsAnswer r ≡ mapped methodsGivenOf (guarded (now (segments .entry)) (answered (classesIn (now (image .entry)) (now (segments .entry)) (now (types .entry)) vmaddr start first (length (now (buffer .entry)))))) ⌝ }
+    ensures { λ _. ⌜ now (buffer .exit) ≡ overwritten (now (buffer .entry)) (answerOf (mapped methodNumbersOf (guarded (now (segments .entry)) (answered (classesIn (now (image .entry)) (now (segments .entry)) (now (types .entry)) vmaddr start first (length (now (buffer .entry)))))))) ⌝ }
 {
     if segments.len() % 4 != 0 {
         return ClassMethods::Refused(Refusal::RaggedSegments);

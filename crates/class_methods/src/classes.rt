@@ -5,7 +5,7 @@ ghost use lib.ListN.{length};
 ghost use Rattle.util.specs.Buffer.{pasted, atStart};
 ghost use Rattle.vtable.specs.Entries.{method};
 ghost use Rattle.entry_tables.specs.Tables.{tableIn, counts};
-ghost use Rattle.class_methods.specs.ClassMethods.{classNumbers, classesIn, givenOf, numbersOf};
+ghost use Rattle.class_methods.specs.ClassMethods.{classNumbers, classesIn, methodsGivenOf, methodNumbersOf};
 use crate::vtables::TableAt;
 use crate::vtables::vtable_near;
 use entry_tables::Listed;
@@ -68,8 +68,8 @@ pub fn put_classes(
     first: u32,
     buffer: &mut [u64],
 ) -> Given
-    ensures { λ r. ⌜ r ≡ givenOf (classesIn (now (image .entry)) (now (segments .entry)) (now (types .entry)) vmaddr start first (length (now (buffer .entry)))) ⌝ }
-    ensures { λ _. ⌜ now (buffer .exit) ≡ atStart (numbersOf (classesIn (now (image .entry)) (now (segments .entry)) (now (types .entry)) vmaddr start first (length (now (buffer .entry))))) (now (buffer .entry)) ⌝ }
+    ensures { λ r. ⌜ r ≡ methodsGivenOf (classesIn (now (image .entry)) (now (segments .entry)) (now (types .entry)) vmaddr start first (length (now (buffer .entry)))) ⌝ }
+    ensures { λ _. ⌜ now (buffer .exit) ≡ atStart (methodNumbersOf (classesIn (now (image .entry)) (now (segments .entry)) (now (types .entry)) vmaddr start first (length (now (buffer .entry))))) (now (buffer .entry)) ⌝ }
 {
     let count = types.len() / 4;
     let mut mapping = Mapping::empty();

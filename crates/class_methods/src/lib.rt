@@ -1,4 +1,4 @@
-// The methods of all classes of a types section in one call, into a lent list of numbers. The call refuses a list of segment numbers that is no
+// The methods of all classes of a types section in one call, into the caller's list of numbers. The call refuses a list of segment numbers that is not a
 // multiple of four, before all else (refusal 1).
 mod calls;
 mod classes;

@@ -1,6 +1,6 @@
 -- What the definitions of the blocks say from outside: the numbers of the kinds are their places in the table (`kind-row`, `table-length`),
--- stepping from the start gives the blocks of all kinds that are there and can be read (`stepped-take`, `stepped-blocks`), and then none is left
--- (`stepped-end`); what the set's count counts (`bits-are`); and that the block of a kind is of that kind, with what its row records (`block-recorded`).
+-- stepping from the start gives the blocks of all kinds that are there and can be read (`stepped-blocks-take`, `stepped-blocks`), and then none is left
+-- (`stepped-blocks-end`); what the set's count counts (`bits-are`); and that the block of a kind is of that kind, with what its row records (`block-recorded`).
 use Prim.Native.Nat.{ℕ, zero, suc, _+_, _-_, _/_, _%_, _^_, _≤_, _<_}
 use native.Mathlib.Nat.{pow-suc, mod-lt, mul-comm, div-one, div-div-eq-div-mul}
 use native.Mathlib.Omega.{arith}
@@ -21,16 +21,16 @@ use Rattle.classtrailers.specs.declared.block.Block.{Block}
 use Rattle.classtrailers.specs.declared.block.BlockKind.{BlockKind}
 
 -- the blocks that at most `n` steps of a walk give, each step from where the one before it left off
-unfoldable pub stepped : List ℕ → List ℕ → ℕ → Walk → List Block
-stepped image segments zero w = []
-stepped image segments (suc n) w =
-    elim (nextBlock image segments w) [ none ↦ [] | some s ↦ s .block ∷ stepped image segments n (s .next) ]
+unfoldable pub steppedBlocks : List ℕ → List ℕ → ℕ → Walk → List Block
+steppedBlocks image segments zero w = []
+steppedBlocks image segments (suc n) w =
+    elim (nextBlock image segments w) [ none ↦ [] | some s ↦ s .block ∷ steppedBlocks image segments n (s .next) ]
 
 -- and the walk at which they leave off
-unfoldable pub steppedTo : List ℕ → List ℕ → ℕ → Walk → Walk
-steppedTo image segments zero w = w
-steppedTo image segments (suc n) w =
-    elim (nextBlock image segments w) [ none ↦ w | some s ↦ steppedTo image segments n (s .next) ]
+unfoldable pub steppedBlocksTo : List ℕ → List ℕ → ℕ → Walk → Walk
+steppedBlocksTo image segments zero w = w
+steppedBlocksTo image segments (suc n) w =
+    elim (nextBlock image segments w) [ none ↦ w | some s ↦ steppedBlocksTo image segments n (s .next) ]
 
 -- ---- the table
 
@@ -60,31 +60,31 @@ take-none (suc n) = refl
 
 module _ (image segments : List ℕ) where
   -- a walk that is over stays so
-  stepped-over : (n : ℕ) (w : Walk) → none ≡ nextBlock image segments w → stepped image segments n w ≡ []
-  unfolding stepped
+  stepped-over : (n : ℕ) (w : Walk) → none ≡ nextBlock image segments w → steppedBlocks image segments n w ≡ []
+  unfolding steppedBlocks
   stepped-over zero w e = refl
-  stepped-over (suc n) w e = rw (stepped, ← e)
+  stepped-over (suc n) w e = rw (steppedBlocks, ← e)
 
-  left-over : (n : ℕ) (w : Walk) → none ≡ nextBlock image segments w → steppedTo image segments n w ≡ w
-  unfolding steppedTo
+  left-over : (n : ℕ) (w : Walk) → none ≡ nextBlock image segments w → steppedBlocksTo image segments n w ≡ w
+  unfolding steppedBlocksTo
   left-over zero w e = refl
-  left-over (suc n) w e = rw (steppedTo, ← e)
+  left-over (suc n) w e = rw (steppedBlocksTo, ← e)
 
   -- two walks whose next step is the same
-  stepped-same : (n : ℕ) (v w : Walk) → nextBlock image segments v ≡ nextBlock image segments w → stepped image segments n v ≡ stepped image segments n w
-  unfolding stepped
+  stepped-same : (n : ℕ) (v w : Walk) → nextBlock image segments v ≡ nextBlock image segments w → steppedBlocks image segments n v ≡ steppedBlocks image segments n w
+  unfolding steppedBlocks
   stepped-same zero v w e = refl
-  stepped-same (suc n) v w e = rw (stepped, e)
+  stepped-same (suc n) v w e = rw (steppedBlocks, e)
 
   left-same : (n : ℕ) (v w : Walk) → nextBlock image segments v ≡ nextBlock image segments w
-      → none ≡ nextBlock image segments (steppedTo image segments n w) → none ≡ nextBlock image segments (steppedTo image segments n v)
-  unfolding steppedTo
+      → none ≡ nextBlock image segments (steppedBlocksTo image segments n w) → none ≡ nextBlock image segments (steppedBlocksTo image segments n v)
+  unfolding steppedBlocksTo
   left-same zero v w e h = h ∙ sym e
   left-same (suc n) v w e h = go (nextBlock image segments w) refl
     where
-      go : (x : Option Step) → nextBlock image segments w ≡ x → none ≡ nextBlock image segments (steppedTo image segments (suc n) v)
-      go none f = rw (steppedTo, e, f) (sym (e ∙ f))
-      go (some s) f = rw (steppedTo, e, f) (rw (steppedTo, f) at h)
+      go : (x : Option Step) → nextBlock image segments w ≡ x → none ≡ nextBlock image segments (steppedBlocksTo image segments (suc n) v)
+      go none f = rw (steppedBlocksTo, e, f) (sym (e ∙ f))
+      go (some s) f = rw (steppedBlocksTo, e, f) (rw (steppedBlocksTo, f) at h)
 
   module _ (t : Trailing) (start : ℕ) where
     abbrev at : ℕ → ℕ → Walk
@@ -154,10 +154,10 @@ module _ (image segments : List ℕ) where
 
     -- from row `i` on, which lies at `a`, steps give the blocks of the rows that are left
     abbrev Gives : ℕ → ℕ → ℕ → Type 0
-    Gives m i a = (n : ℕ) → stepped image segments n (at i a) ≡ take n (blocksFrom m i)
+    Gives m i a = (n : ℕ) → steppedBlocks image segments n (at i a) ≡ take n (blocksFrom m i)
 
     gives : (m i a : ℕ) → i + m ≡ 11 → some a ≡ run image segments (reached t start i) → Gives m i a
-    unfolding blocksFrom stepped
+    unfolding blocksFrom steppedBlocks
     gives zero i a h e n = stepped-over n (at i a) (over i a (omega arith)) ∙ take-none n
     gives (suc m) i a h e n = by (λ c f. gives m (i + 1) c (omega arith) f) n (rowAt i .there t) refl
       where
@@ -165,7 +165,7 @@ module _ (image segments : List ℕ) where
         l = omega arith
 
         on : ((c : ℕ) → some c ≡ run image segments (reached t start (i + 1)) → Gives m (i + 1) c)
-            → (x : Option ℕ) → x ≡ run image segments (reached t start (i + 1)) → (n : ℕ) → stepped image segments n (after t (i + 1) x) ≡ take n (blocksFrom m (i + 1))
+            → (x : Option ℕ) → x ≡ run image segments (reached t start (i + 1)) → (n : ℕ) → steppedBlocks image segments n (after t (i + 1) x) ≡ take n (blocksFrom m (i + 1))
         on further none f n = stepped-over n (at 11 0) (over 11 0 (omega arith)) ∙ rw (none-after m (i + 1) f) (take-none n)
         on further (some c) f n = further c f n
 
@@ -177,29 +177,29 @@ module _ (image segments : List ℕ) where
         there further y (some b) f zero = refl
         there further y (some b) f (suc n) =
             let w = row-read i a l e y b f in
-            rw (stepped, ← w .1, blocksFrom, ← w .0) (ap (λ (s : List Block). b .block ∷ s) (on further _ (w .2) n))
+            rw (steppedBlocks, ← w .1, blocksFrom, ← w .0) (ap (λ (s : List Block). b .block ∷ s) (on further _ (w .2) n))
 
         by : ((c : ℕ) → some c ≡ run image segments (reached t start (i + 1)) → Gives m (i + 1) c) → (n : ℕ) (b : Bool) → rowAt i .there t ≡ b
-            → stepped image segments n (at i a) ≡ take n (blocksFrom (suc m) i)
+            → steppedBlocks image segments n (at i a) ≡ take n (blocksFrom (suc m) i)
         by further n true y = there further y (run image segments (blockAt (rowAt i) a)) refl n
         by further n false y =
             let w = row-absent i a l e y in
             stepped-same n (at i a) (at (i + 1) a) (w .2) ∙ further a (w .0) n ∙ rw (blocksFrom, ← w .1)
 
     -- `n` steps give the first `n` blocks
-    pub stepped-take : (n : ℕ) → stepped image segments n (at 0 start) ≡ take n (blocks image segments t start)
-    stepped-take n = gives 11 0 start refl (reached-start image segments t start) n ∙ ap (take n) (sym blocks-from)
+    pub stepped-blocks-take : (n : ℕ) → steppedBlocks image segments n (at 0 start) ≡ take n (blocks image segments t start)
+    stepped-blocks-take n = gives 11 0 start refl (reached-start image segments t start) n ∙ ap (take n) (sym blocks-from)
 
     -- and as many as there are kinds, or more, give them all
-    pub stepped-blocks : (n : ℕ) → 11 ≤ n → stepped image segments n (at 0 start) ≡ blocks image segments t start
-    stepped-blocks n h = stepped-take n ∙ take-all n _ (rw blocks-from (omega (arith, blocks-few 11 0)))
+    pub stepped-blocks : (n : ℕ) → 11 ≤ n → steppedBlocks image segments n (at 0 start) ≡ blocks image segments t start
+    stepped-blocks n h = stepped-blocks-take n ∙ take-all n _ (rw blocks-from (omega (arith, blocks-few 11 0)))
 
     -- then none is left
     abbrev Ends : ℕ → ℕ → ℕ → Type 0
-    Ends m i a = (n : ℕ) → m ≤ n → none ≡ nextBlock image segments (steppedTo image segments n (at i a))
+    Ends m i a = (n : ℕ) → m ≤ n → none ≡ nextBlock image segments (steppedBlocksTo image segments n (at i a))
 
     ends : (m i a : ℕ) → i + m ≡ 11 → Ends m i a
-    unfolding steppedTo
+    unfolding steppedBlocksTo
     ends zero i a h n g = rw (left-over n (at i a) (over i a (omega arith))) (over i a (omega arith))
     ends (suc m) i a h zero g = absurd (omega arith)
     ends (suc m) i a h (suc n) g = by (λ c. ends m (i + 1) c (omega arith)) (rowAt i .there t) refl
@@ -207,26 +207,26 @@ module _ (image segments : List ℕ) where
         l : i < 11
         l = omega arith
 
-        on : ((c : ℕ) → Ends m (i + 1) c) → (x : Option ℕ) → none ≡ nextBlock image segments (steppedTo image segments n (after t (i + 1) x))
+        on : ((c : ℕ) → Ends m (i + 1) c) → (x : Option ℕ) → none ≡ nextBlock image segments (steppedBlocksTo image segments n (after t (i + 1) x))
         on further none = rw (left-over n (at 11 0) (over 11 0 (omega arith))) (over 11 0 (omega arith))
         on further (some c) = further c n (omega arith)
 
         there : ((c : ℕ) → Ends m (i + 1) c) → rowAt i .there t ≡ true → (x : Option Ended) → x ≡ run image segments (blockAt (rowAt i) a)
-            → none ≡ nextBlock image segments (steppedTo image segments (suc n) (at i a))
+            → none ≡ nextBlock image segments (steppedBlocksTo image segments (suc n) (at i a))
         there further y none f =
             let w : none ≡ nextBlock image segments (at i a) = next-there image segments t i a _ y (step-as image segments t i a none f) l in
             rw (left-over (suc n) (at i a) w) w
         there further y (some b) f =
             let w : some (record { block = b .block; next = after t (i + 1) (b .end) }) ≡ nextBlock image segments (at i a)
             = next-there image segments t i a _ y (step-as image segments t i a (some b) f) l in
-            rw (steppedTo, ← w) (on further (b .end))
+            rw (steppedBlocksTo, ← w) (on further (b .end))
 
-        by : ((c : ℕ) → Ends m (i + 1) c) → (b : Bool) → rowAt i .there t ≡ b → none ≡ nextBlock image segments (steppedTo image segments (suc n) (at i a))
+        by : ((c : ℕ) → Ends m (i + 1) c) → (b : Bool) → rowAt i .there t ≡ b → none ≡ nextBlock image segments (steppedBlocksTo image segments (suc n) (at i a))
         by further true y = there further y (run image segments (blockAt (rowAt i) a)) refl
         by further false y = left-same (suc n) (at i a) (at (i + 1) a) (next-absent image segments t i a y l) (further a (suc n) (omega arith))
 
-    pub stepped-end : (n : ℕ) → 11 ≤ n → none ≡ nextBlock image segments (steppedTo image segments n (at 0 start))
-    stepped-end n h = ends 11 0 start refl n h
+    pub stepped-blocks-end : (n : ℕ) → 11 ≤ n → none ≡ nextBlock image segments (steppedBlocksTo image segments n (at 0 start))
+    stepped-blocks-end n h = ends 11 0 start refl n h
 
 -- ---- the number of protocols
 

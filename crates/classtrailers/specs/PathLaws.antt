@@ -68,9 +68,9 @@ module _ (image segments : List ℕ) where
             ∙ rw (g, header-path y a (r .header) _ (λ h. ended-path (r .bounded) (record { kind = r .kind; body = r .recorded a h }) (below (a + r .size h))) (sym g), nil y)
             (append-nil (headerRange segments a (r .header)))
 
-    pub record-path : (b : Block) → some b ≡ run image segments (recordAt r a) → path image segments (recordAt r a) ≡ headerRange segments a (r .header)
+    pub block-record-path : (b : Block) → some b ≡ run image segments (recordAt r a) → path image segments (recordAt r a) ≡ headerRange segments a (r .header)
     unfolding recordAt path
-    record-path b e = made-path (λ y. done (y .block)) (λ y. refl) b e
+    block-record-path b e = made-path (λ y. done (y .block)) (λ y. refl) b e
 
     pub end-path : (e : ℕ) → some e ≡ run image segments (endAt r a) → path image segments (endAt r a) ≡ headerRange segments a (r .header)
     unfolding endAt
@@ -93,7 +93,7 @@ module _ (image segments : List ℕ) where
       where
         go : (c : Bool) → some b ≡ run image segments (cond c (recordAt (rowAt n) a) nothing)
             → path image segments (cond c (recordAt (rowAt n) a) nothing) ≡ cond c (headerRange segments a (rowAt n .header)) []
-        go true g = record-path (rowAt n) a b g
+        go true g = block-record-path (rowAt n) a b g
         go false g = let z : _≡_ {A = ℕ} 0 1 = cc in absurd (omega arith)
 
     -- where a row lies: the headers of those before it
@@ -113,9 +113,9 @@ module _ (image segments : List ℕ) where
             rw (path-bind, headers, f, further c (sym f), passed-path n c a g)
 
     -- a block: the headers of those before it that are there, and its own
-    pub row-path : (n : ℕ) (b : Block) → some b ≡ run image segments (blockIn t start n) → path image segments (blockIn t start n) ≡ headers image segments t start (suc n)
+    pub block-row-path : (n : ℕ) (b : Block) → some b ≡ run image segments (blockIn t start n) → path image segments (blockIn t start n) ≡ headers image segments t start (suc n)
     unfolding blockIn headers
-    row-path n b e = go (run image segments (reached t start n)) refl
+    block-row-path n b e = go (run image segments (reached t start n)) refl
       where
         go : (x : Option ℕ) → run image segments (reached t start n) ≡ x → path image segments (blockIn t start n) ≡ headers image segments t start (suc n)
         go none f =
@@ -129,4 +129,4 @@ module _ (image segments : List ℕ) where
     pub block-path : (k : BlockKind) (b : Block) → some b ≡ run image segments (block t start k)
         → path image segments (block t start k) ≡ headers image segments t start (suc (rowNumber k))
     unfolding block
-    block-path k b e = row-path (rowNumber k) b e
+    block-path k b e = block-row-path (rowNumber k) b e

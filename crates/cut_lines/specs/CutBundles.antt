@@ -9,6 +9,7 @@ use lib.ListN.{length, take, drop}
 use borrow.Author.Tests.{le-ltb}
 use Rattle.utf8.specs.Table.{table}
 use Rattle.utf8.specs.Text.{following, goesOn, untilNul, textLength}
+use Rattle.util.specs.Letters.{letters}
 use Rattle.util.specs.LittleEndian.{littleEndian, bytesAt, littleAt, twosComplement, signedAt, unsignedIn, signedIn}
 use Rattle.util.specs.Pointer.{relativePointer, relativeAddress}
 use Rattle.util.specs.Cstr.{textAt, partOf}
@@ -20,7 +21,7 @@ use Rattle.typedescriptor.specs.Slots.{Found, slotRow, rowsFrom, rows}
 use Rattle.parent.specs.Context.{headerIn, header, slotName, nameAt, name, contextName, withName, contextRead}
 use Rattle.parent.specs.Chain.{headerAt, chain}
 use Rattle.qualified_name.specs.Name.{hops, qualifiedName, tooDeep, nameAnswer}
-use Rattle.items.specs.Oak.{image}
+use Rattle.items.specs.Oak.{oakImage}
 use Rattle.items.specs.Texts.{NameKey, descriptorName, slotNameAddress, nameOf, ClearOf}
 use Rattle.items.specs.ClearLaws.{Outside, nowhere, there}
 use Rattle.items.specs.CutLaws.{keptRows}
@@ -48,7 +49,7 @@ behind n o =
 abbrev clue : List ℕ
 clue =
     33 ∷ 0 ∷ 0 ∷ 0 ∷ 1 ∷ 0 ∷
-    17 ∷ 0 ∷ 0 ∷ 0 ∷ 0 ∷ 0 ∷ 0 ∷ 0 ∷ 20 ∷ 0 ∷ 0 ∷ 0 ∷ 0 ∷ 0 ∷ 0 ∷ 0 ∷ 0 ∷ 0 ∷ 0 ∷ 0 ∷ 0 ∷ 0 ∷ 0 ∷ 0 ∷ 0 ∷ 0 ∷ 0 ∷ 0 ∷ 67 ∷ 108 ∷ 117 ∷ 101 ∷ 0 ∷
+    17 ∷ 0 ∷ 0 ∷ 0 ∷ 0 ∷ 0 ∷ 0 ∷ 0 ∷ 20 ∷ 0 ∷ 0 ∷ 0 ∷ 0 ∷ 0 ∷ 0 ∷ 0 ∷ 0 ∷ 0 ∷ 0 ∷ 0 ∷ 0 ∷ 0 ∷ 0 ∷ 0 ∷ 0 ∷ 0 ∷ 0 ∷ 0 ∷ letters "Clue" ++ 0 ∷
     behind 33 0
 
 -- its image cut to 27 bytes
@@ -60,16 +61,16 @@ clue′ =
 
 -- the image `Oak` (crate `items`), and cut to 107 bytes: the module's name is lost
 abbrev oak : List ℕ
-oak = 113 ∷ 0 ∷ 0 ∷ 0 ∷ 1 ∷ 0 ∷ image ++ behind 113 4
+oak = 113 ∷ 0 ∷ 0 ∷ 0 ∷ 1 ∷ 0 ∷ oakImage ++ behind 113 4
 
 abbrev oak′ : List ℕ
-oak′ = 107 ∷ 0 ∷ 0 ∷ 0 ∷ 1 ∷ 0 ∷ take 107 image ++ behind 113 4
+oak′ = 107 ∷ 0 ∷ 0 ∷ 0 ∷ 1 ∷ 0 ∷ take 107 oakImage ++ behind 113 4
 
 -- an image of `n` bytes behind a header of 6, then the segments behind another, then the types behind a third and their address
 abbrev layout : ℕ → Layout
 layout n =
     record {
-      image = part 6 n;
+      oakImage = part 6 n;
       segments = part (n + 12) 32;
       types = record { address = 0x2000; part = part (n + 58) 4 };
       fields = record { address = 0; part = part 0 0 };
@@ -84,8 +85,8 @@ pub met : Met
 unfolding openBundle answer takeAt isAt bodyFits sectionIn littleEndian partOf numbers
 met =
     record {
-      clue-27 = record { whole = refl; opened = refl; image = refl; segments = refl; types = refl; typesStart = refl };
-      oak-107 = record { whole = refl; opened = refl; image = refl; segments = refl; types = refl; typesStart = refl };
+      clue-27 = record { whole = refl; opened = refl; oakImage = refl; segments = refl; types = refl; typesStart = refl };
+      oak-107 = record { whole = refl; opened = refl; oakImage = refl; segments = refl; types = refl; typesStart = refl };
     }
 
 -- ---- the premise
@@ -119,16 +120,16 @@ oak-clear = of-one oak (layout 113) 107 0x1000 0 refl refl refl (inr (omega arit
 
 -- an address of 0x1000 + a digit, a kind and a name; and the last line
 abbrev lineOf : ℕ → List ℕ → List ℕ → List ℕ
-lineOf d k n = 48 ∷ 48 ∷ 48 ∷ 48 ∷ 48 ∷ 48 ∷ 48 ∷ 48 ∷ 48 ∷ 48 ∷ 48 ∷ 48 ∷ 49 ∷ 48 ∷ 48 ∷ d ∷ 32 ∷ (k ++ 32 ∷ n ++ 10 ∷ [])
+lineOf d k n = letters "000000000000100" ++ d ∷ 32 ∷ k ++ 32 ∷ n ++ 10 ∷ []
 
 abbrev ending : ℕ → List ℕ
-ending d = 101 ∷ 110 ∷ 100 ∷ 32 ∷ d ∷ 10 ∷ []
+ending d = letters "end " ++ d ∷ 10 ∷ []
 
 abbrev struct : List ℕ
-struct = 115 ∷ 116 ∷ 114 ∷ 117 ∷ 99 ∷ 116 ∷ []
+struct = letters "struct"
 
 abbrev class : List ℕ
-class = 99 ∷ 108 ∷ 97 ∷ 115 ∷ 115 ∷ []
+class = letters "class"
 
 -- the right side of `cut-printed`
 abbrev said : List ℕ → Layout → ℕ → List (List ℕ)
@@ -136,21 +137,21 @@ said b l c =
     map (λ (f : Found). rowLine (take c (bytesOf b (l .image))) (segmentNumbers b l) (f .row)) (keptRows (bytesOf b (l .image)) (segmentNumbers b l) (sectionsOf b l) c)
     ++ (endLine (length (keptRows (bytesOf b (l .image)) (segmentNumbers b l) (sectionsOf b l) c)) ∷ [])
 
-pub record Worked : Type 0 where
+pub record CutBundlesWorked : Type 0 where
   -- whole: `Clue`; `Wood.Oak`
-  pub clue-whole : printed clue ≡ lineOf 48 struct (67 ∷ 108 ∷ 117 ∷ 101 ∷ []) ∷ ending 49 ∷ []
-  pub oak-whole : printed oak ≡ lineOf 52 class (87 ∷ 111 ∷ 111 ∷ 100 ∷ 46 ∷ 79 ∷ 97 ∷ 107 ∷ []) ∷ ending 49 ∷ []
+  pub clue-whole : printed clue ≡ lineOf 48 struct (letters "Clue") ∷ ending 49 ∷ []
+  pub oak-whole : printed oak ≡ lineOf 52 class (letters "Wood.Oak") ∷ ending 49 ∷ []
   -- what `cut-printed` says of their cuts: no row is kept; the row is kept, `Oak`
   pub clue-said : said clue (layout 33) 27 ≡ ending 48 ∷ []
-  pub oak-said : said oak (layout 113) 107 ≡ lineOf 52 class (79 ∷ 97 ∷ 107 ∷ []) ∷ ending 49 ∷ []
+  pub oak-said : said oak (layout 113) 107 ≡ lineOf 52 class (letters "Oak") ∷ ending 49 ∷ []
 
-pub worked : Worked
+pub cut-bundles-worked : CutBundlesWorked
 unfolding run path extent bind bytesPlace within textOffset segmentsOf fileOffset decides inFile table following goesOn textAt textLength untilNul unsignedIn signedIn littleAt signedAt bytesAt littleEndian twosComplement relativeAddress relativePointer descriptor rowName slotRow rowsFrom rows kindOf headerIn header headerAt slotName nameAt name contextName withName contextRead chain hops qualifiedName tooDeep nameAnswer digit hex decimal kindWord nameText rowLine endLine lines printed keptRows openBundle answer takeAt isAt bodyFits sectionIn partOf numbers
-worked = record { clue-whole = refl; oak-whole = refl; clue-said = refl; oak-said = refl }
+cut-bundles-worked = record { clue-whole = refl; oak-whole = refl; clue-said = refl; oak-said = refl }
 
 -- so this is what is printed of them, by the law
 pub clue-27-printed : printed clue′ ≡ ending 48 ∷ []
-clue-27-printed = cut-printed clue clue′ (layout 33) (layout 27) 27 (met .clue-27) clue-clear ∙ worked .clue-said
+clue-27-printed = cut-printed clue clue′ (layout 33) (layout 27) 27 (met .clue-27) clue-clear ∙ cut-bundles-worked .clue-said
 
-pub oak-107-printed : printed oak′ ≡ lineOf 52 class (79 ∷ 97 ∷ 107 ∷ []) ∷ ending 49 ∷ []
-oak-107-printed = cut-printed oak oak′ (layout 113) (layout 107) 107 (met .oak-107) oak-clear ∙ worked .oak-said
+pub oak-107-printed : printed oak′ ≡ lineOf 52 class (letters "Oak") ∷ ending 49 ∷ []
+oak-107-printed = cut-printed oak oak′ (layout 113) (layout 107) 107 (met .oak-107) oak-clear ∙ cut-bundles-worked .oak-said

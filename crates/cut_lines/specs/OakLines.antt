@@ -7,6 +7,7 @@ use mathlib.Core.Bool.{true, false}
 use lib.ListN.{take}
 use Rattle.utf8.specs.Table.{table}
 use Rattle.utf8.specs.Text.{following, goesOn, untilNul, textLength}
+use Rattle.util.specs.Letters.{letters}
 use Rattle.util.specs.LittleEndian.{littleEndian, bytesAt, littleAt, twosComplement, signedAt, unsignedIn, signedIn}
 use Rattle.util.specs.Pointer.{relativePointer, relativeAddress}
 use Rattle.segment.specs.Segments.{segmentsOf, fileOffset, decides, inFile}
@@ -18,39 +19,39 @@ use Rattle.typedescriptor.specs.Slots.{slotRow, rowsFrom, rows}
 use Rattle.parent.specs.Context.{headerIn, header, slotName, nameAt, name, contextName, withName, contextRead}
 use Rattle.parent.specs.Chain.{headerAt, chain}
 use Rattle.qualified_name.specs.Name.{hops, qualifiedName, tooDeep, nameAnswer}
-use Rattle.items.specs.Oak.{image, segments, sections}
+use Rattle.items.specs.Oak.{oakImage, oakSegments, oakSections}
 use Rattle.type_lines.specs.Digits.{digit, hex, decimal}
 use Rattle.type_lines.specs.Lines.{kindWord, nameText, rowLine, endLine, lines}
 use Rattle.cut_lines.specs.CutLines.{joinedPath}
 
 abbrev listed : List ℕ → List (List ℕ)
-listed i = lines i segments (sections .types) (sections .typesStart)
+listed i = lines i oakSegments (oakSections .types) (oakSections .typesStart)
 
 -- `0000000000001004 class `, a name, a line end; and the last line, `end 1` or `end 0`
 abbrev lineOf : List ℕ → List ℕ
 lineOf n =
-    48 ∷ 48 ∷ 48 ∷ 48 ∷ 48 ∷ 48 ∷ 48 ∷ 48 ∷ 48 ∷ 48 ∷ 48 ∷ 48 ∷ 49 ∷ 48 ∷ 48 ∷ 52 ∷ 32 ∷ 99 ∷ 108 ∷ 97 ∷ 115 ∷ 115 ∷ 32 ∷ (n ++ (10 ∷ []))
+    letters "0000000000001004 class " ++ (n ++ (10 ∷ []))
 
 abbrev ending : ℕ → List ℕ
-ending d = 101 ∷ 110 ∷ 100 ∷ 32 ∷ d ∷ 10 ∷ []
+ending d = letters "end " ++ d ∷ 10 ∷ []
 
 -- bytes from an offset up to another
 abbrev bytesTo : ℕ → ℕ → Range
 bytesTo o e = record { from = o; to = e; isText = false }
 
-pub record Worked : Type 0 where
+pub record OakLinesWorked : Type 0 where
   -- `Wood.Oak`
-  pub whole : listed image ≡ lineOf (87 ∷ 111 ∷ 111 ∷ 100 ∷ 46 ∷ 79 ∷ 97 ∷ 107 ∷ []) ∷ ending 49 ∷ []
+  pub whole : listed oakImage ≡ lineOf (letters "Wood.Oak") ∷ ending 49 ∷ []
   -- the joined name reads the 8 bytes of both contexts, and of the module, which has a name, the 4 bytes of its offset and the name
-  pub reads : joinedPath image segments 0x1058 ≡ bytesTo 88 96 ∷ bytesTo 96 104 ∷ bytesTo 104 108 ∷ record { from = 108; to = 113; isText = true } ∷ []
+  pub reads : joinedPath oakImage oakSegments 0x1058 ≡ bytesTo 88 96 ∷ bytesTo 96 104 ∷ bytesTo 104 108 ∷ record { from = 108; to = 113; isText = true } ∷ []
   -- cut into the module's name: `Wo.Oak`. The row is there by the premise for its own name alone; the names before it have their own
-  pub cut-110 : listed (take 110 image) ≡ lineOf (87 ∷ 111 ∷ 46 ∷ 79 ∷ 97 ∷ 107 ∷ []) ∷ ending 49 ∷ []
+  pub cut-110 : listed (take 110 oakImage) ≡ lineOf (letters "Wo.Oak") ∷ ending 49 ∷ []
   -- the module's name is lost, and then the contexts: `Oak`
-  pub cut-107 : listed (take 107 image) ≡ lineOf (79 ∷ 97 ∷ 107 ∷ []) ∷ ending 49 ∷ []
-  pub cut-24 : listed (take 24 image) ≡ lineOf (79 ∷ 97 ∷ 107 ∷ []) ∷ ending 49 ∷ []
+  pub cut-107 : listed (take 107 oakImage) ≡ lineOf (letters "Oak") ∷ ending 49 ∷ []
+  pub cut-24 : listed (take 24 oakImage) ≡ lineOf (letters "Oak") ∷ ending 49 ∷ []
   -- the row is lost
-  pub cut-23 : listed (take 23 image) ≡ ending 48 ∷ []
+  pub cut-23 : listed (take 23 oakImage) ≡ ending 48 ∷ []
 
-pub worked : Worked
+pub oak-lines-worked : OakLinesWorked
 unfolding run path extent bind bytesPlace within textOffset segmentsOf fileOffset decides inFile table following goesOn textAt textLength untilNul unsignedIn signedIn littleAt signedAt bytesAt littleEndian twosComplement relativeAddress relativePointer descriptor rowName slotRow rowsFrom rows kindOf headerIn header headerAt slotName nameAt name contextName withName contextRead chain hops qualifiedName tooDeep nameAnswer digit hex decimal kindWord nameText rowLine endLine lines joinedPath
-worked = record { whole = refl; reads = refl; cut-110 = refl; cut-107 = refl; cut-24 = refl; cut-23 = refl }
+oak-lines-worked = record { whole = refl; reads = refl; cut-110 = refl; cut-107 = refl; cut-24 = refl; cut-23 = refl }

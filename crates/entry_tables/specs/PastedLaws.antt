@@ -1,4 +1,4 @@
--- Numbers at a place of a lent list, as the code puts them one by one, and one piece after another.
+-- Numbers at a place of the caller's list, as the code puts them one by one, and one piece after another.
 use Prim.Native.Nat.{ℕ, _+_, _≤_}
 use native.Mathlib.Omega.{arith}
 use mathlib.Core.Path.{_≡_, refl, sym, _∙_, ap}

@@ -1,4 +1,4 @@
--- Whole tables of entries into a lent list of numbers: docs/SPECIFICATION.md, "Whole tables".
+-- Whole tables of entries into the caller's list of numbers: docs/SPECIFICATION.md, "Whole tables".
 use Prim.Native.Nat.{ℕ, zero, suc, _+_, _-_, _*_, _/_, _^_, _≤_, _<_}
 use mathlib.Core.Path.{_≡_}
 use mathlib.Core.List.{List, [], _∷_, _++_}
@@ -30,8 +30,8 @@ pub record WholeTable : Type 0 where
   pub entries : ℕ
   pub stop : ℕ
 
-abbrev pub ended : ℕ → WholeTable
-ended stop = record { numbers = []; entries = 0; stop = stop }
+abbrev pub emptyTable : ℕ → WholeTable
+emptyTable stop = record { numbers = []; entries = 0; stop = stop }
 
 abbrev pub entryThen : (Entry → List ℕ) → Entry → WholeTable → WholeTable
 entryThen f e t = record { numbers = f e ++ t .numbers; entries = suc (t .entries); stop = t .stop }
@@ -42,11 +42,11 @@ stopAt k count = cond (ltb k count) 1 0
 
 -- the entries from where a walk stands up to the first that cannot be read, at most so many, each by the numbers that `f` gives of it
 unfoldable pub tableBy : (Entry → List ℕ) → List ℕ → List ℕ → Layout → ℕ → EntryIter → WholeTable
-tableBy f image segments l zero c = ended (stopAt (c .next) (c .count))
+tableBy f image segments l zero c = emptyTable (stopAt (c .next) (c .count))
 tableBy f image segments l (suc n) c =
     elim (entryStep image segments l c) [
-      | none ↦ ended 0
-      | some s ↦ elim (s .found) [ none ↦ ended 2 | some e ↦ entryThen f e (tableBy f image segments l n (s .next)) ]
+      | none ↦ emptyTable 0
+      | some s ↦ elim (s .found) [ none ↦ emptyTable 2 | some e ↦ entryThen f e (tableBy f image segments l n (s .next)) ]
     ]
 
 abbrev pub tableFrom : List ℕ → List ℕ → Layout → ℕ → EntryIter → WholeTable
@@ -59,15 +59,15 @@ width l = suc (length (l .words))
 abbrev pub entriesRoom : Layout → ℕ → ℕ
 entriesRoom l n = n / width l
 
--- the table as a lent list of so many numbers holds it
+-- the table as a caller's list of so many numbers holds it
 abbrev pub tableIn : List ℕ → List ℕ → Layout → EntryIter → ℕ → WholeTable
 tableIn image segments l c n = tableFrom image segments l (entriesRoom l n) c
 
--- the same for a lent list, unless the segments' numbers are refused
+-- the same for the caller's list, unless the segments' numbers are refused
 abbrev pub guardedTable : List ℕ → List ℕ → Layout → EntryIter → List ℕ → Guarded WholeTable
 guardedTable image segments l c buffer = guarded segments (answered (tableIn image segments l c (length buffer)))
 
--- the call's answer: the two numbers; the others are in the lent list
+-- the call's answer: the two numbers; the others are in the caller's list
 pub record Counts : Type 0 where
   pub entries : ℕ
   pub stop : ℕ
@@ -82,11 +82,11 @@ abbrev pub tableAnswer : TableAnswer → Guarded Counts
 tableAnswer (TableAnswer.Listed l) = answered (record { entries = l .entries; stop = l .stop })
 tableAnswer (TableAnswer.Refused x) = refused (refusalNumber x)
 
--- the lent list after the call
+-- the caller's list after the call
 abbrev pub bufferWith : Guarded WholeTable → List ℕ → List ℕ
 bufferWith g buffer = overwritten buffer (answerOf (mapped tableNumbers g))
 
--- what a call gives: its answer, and the lent list at the end
+-- what a call gives: its answer, and the caller's list at the end
 pub record GivesTable (g : Guarded WholeTable) (buffer : List ℕ) (r : TableAnswer) (buffer′ : List ℕ) : Type 0 where
   pub answers : tableAnswer r ≡ mapped counts g
   pub holds : buffer′ ≡ bufferWith g buffer
@@ -130,6 +130,6 @@ pub record PutRun (image : List ℕ) (l : Layout) (o last a most : ℕ) (buffer 
   pub within : (i : ℕ) → i < n → l .stride * i ≤ last
   pub holds : buffer′ ≡ pasted buffer at (runNumbers image l o a n)
 
--- a table was listed: what is told of it, and the lent list at the end
+-- a table was listed: what is told of it, and the caller's list at the end
 abbrev pub Lists : WholeTable → List ℕ → Listed → List ℕ → Type 0
 Lists t buffer r buffer′ = (record { entries = r .entries; stop = r .stop } ≡ counts t) × (buffer′ ≡ atStart (tableNumbers t) buffer)

@@ -28,13 +28,13 @@ use Rattle.runtime.specs.Reads.{bytesPlace, run, andThen}
 use Rattle.runtime.specs.CallsLaws.{bytes-at, bytes-past, bytes-nowhere, bytes-within}
 use Rattle.vtable.specs.Entries.{Word, Layout, Entry, entrySize, entryOf, entryAddress, entryAt, Step, entryStep, wordAt, wordsFrom}
 use Rattle.vtable.specs.EntriesLaws.{step-end, step-gives}
-use Rattle.vtable.specs.ListLaws.{walkAt, listed}
+use Rattle.vtable.specs.ListLaws.{iterAt, listed}
 use Rattle.vtable.specs.declared.iter.EntryIter.{EntryIter}
 use Rattle.entry_tables.specs.declared.list.Words.{Words}
 use Rattle.entry_tables.specs.declared.list.Listed.{Listed}
 use Rattle.entry_tables.specs.declared.calls.TableAnswer.{TableAnswer}
 use Rattle.entry_tables.specs.declared.window.Window.{Window}
-use Rattle.entry_tables.specs.Tables.{entryNumbers, WholeTable, Counts, ended, stopAt, entryThen, tableBy, tableFrom, tableIn, width, counts, tableNumbers, tableAnswer, bufferWith, GivesTable, first, shape, entryPlace, Opens, wordsIn, runNumbers, PutRun, Lists}
+use Rattle.entry_tables.specs.Tables.{entryNumbers, WholeTable, Counts, emptyTable, stopAt, entryThen, tableBy, tableFrom, tableIn, width, counts, tableNumbers, tableAnswer, bufferWith, GivesTable, first, shape, entryPlace, Opens, wordsIn, runNumbers, PutRun, Lists}
 
 -- ---- where an entry lies
 
@@ -324,24 +324,24 @@ stop-ended k count h = simp (le-ltb k count h)
 -- whatever numbers are said of an entry
 module _ (say : Entry → List ℕ) (image segments : List ℕ) (l : Layout) (base count : ℕ) where
   abbrev left : ℕ → ℕ → WholeTable
-  left n k = tableBy say image segments l n (walkAt base count k)
+  left n k = tableBy say image segments l n (iterAt base count k)
 
-  from-end : (n k : ℕ) → count ≤ k → left n k ≡ ended 0
+  from-end : (n k : ℕ) → count ≤ k → left n k ≡ emptyTable 0
   unfolding tableBy
-  from-end zero k h = ap ended (sym (stop-ended k count h))
-  from-end (suc n) k h = rw (tableBy, sym (step-end image segments l (walkAt base count k) h))
+  from-end zero k h = ap emptyTable (sym (stop-ended k count h))
+  from-end (suc n) k h = rw (tableBy, sym (step-end image segments l (iterAt base count k) h))
 
-  from-full : (k : ℕ) → k < count → left 0 k ≡ ended 1
+  from-full : (k : ℕ) → k < count → left 0 k ≡ emptyTable 1
   unfolding tableBy
-  from-full k h = ap ended (sym (stop-full k count h))
+  from-full k h = ap emptyTable (sym (stop-full k count h))
 
-  from-none : (n k : ℕ) → k < count → none ≡ run image segments (entryAt l base k) → left (suc n) k ≡ ended 2
+  from-none : (n k : ℕ) → k < count → none ≡ run image segments (entryAt l base k) → left (suc n) k ≡ emptyTable 2
   unfolding tableBy
-  from-none n k h e = rw (tableBy, sym (step-gives image segments l (walkAt base count k) none e h))
+  from-none n k h e = rw (tableBy, sym (step-gives image segments l (iterAt base count k) none e h))
 
   from-some : (n k : ℕ) (x : Entry) → k < count → some x ≡ run image segments (entryAt l base k) → left (suc n) k ≡ entryThen say x (left n (k + 1))
   unfolding tableBy
-  from-some n k x h e = rw (tableBy, sym (step-gives image segments l (walkAt base count k) (some x) e h))
+  from-some n k x h e = rw (tableBy, sym (step-gives image segments l (iterAt base count k) (some x) e h))
 
   -- some entries are listed, and a walk stands at the next one
   abbrev after : List ℕ → ℕ → WholeTable → WholeTable
@@ -367,13 +367,13 @@ module _ (say : Entry → List ℕ) (image segments : List ℕ) (l : Layout) (ba
   none-listed k = refl
 
   -- where the list was full, the table from the entry after its last gives the others
-  pub going-on : (n m k : ℕ) → left n k .stop ≡ 1 → left (n + m) k ≡ after (left n k .numbers) n (left m (n + k))
-  going-on zero m k e =
+  pub table-going-on : (n m k : ℕ) → left n k .stop ≡ 1 → left (n + m) k ≡ after (left n k .numbers) n (left m (n + k))
+  table-going-on zero m k e =
       let no-numbers = none-listed k in
       rw (no-numbers, zero-add m, zero-add k) (after-none (left m k))
-  going-on (suc n) m k e = go (going-on n m (k + 1)) (decLt k count)
+  table-going-on (suc n) m k e = go (table-going-on n m (k + 1)) (decLt k count)
     where
-      never : (s : ℕ) → left (suc n) k ≡ ended s → (s ≡ 1 → ⊥) → left (suc n + m) k ≡ after (left (suc n) k .numbers) (suc n) (left m (suc n + k))
+      never : (s : ℕ) → left (suc n) k ≡ emptyTable s → (s ≡ 1 → ⊥) → left (suc n + m) k ≡ after (left (suc n) k .numbers) (suc n) (left m (suc n + k))
       never s f z = absurd (z (sym (ap (λ (r : WholeTable). r .stop) f) ∙ e))
 
       given : (left n (k + 1) .stop ≡ 1 → left (n + m) (k + 1) ≡ after (left n (k + 1) .numbers) n (left m (n + (k + 1)))) → k < count
@@ -450,7 +450,7 @@ module _ (say : Entry → List ℕ) (image segments : List ℕ) (l : Layout) (ba
       pub long : length (left n k .numbers) ≡ each * left n k .entries
       pub few : left n k .entries ≤ n
 
-    none-sized : (n k s : ℕ) → left n k ≡ ended s → Sized n k
+    none-sized : (n k s : ℕ) → left n k ≡ emptyTable s → Sized n k
     none-sized n k s e =
         record {
           long = ap (λ (r : WholeTable). length (r .numbers)) e ∙ sym (mul-zero each) ∙ ap (λ (r : WholeTable). each * r .entries) (sym e);
@@ -509,12 +509,12 @@ module _ (say : Entry → List ℕ) (image segments : List ℕ) (l : Layout) (ba
     fits-in n h = omega (arith, mul-le-mul-left each h, mul-div-le (length b₀) each)
 
     module _ (k n : ℕ) (b : List ℕ) (g : Going k n b) where
-      -- no more: what the call gives back, and what the list holds
-      stops : (s : ℕ) → left (most - n) k ≡ ended s
+      -- no more: what the call returns, and what the list holds
+      stops : (s : ℕ) → left (most - n) k ≡ emptyTable s
           → (record { entries = n; stop = s } ≡ counts (left most k₀)) × (b ≡ atStart (tableNumbers (left most k₀)) b₀)
       stops s e =
           let len : length (take (each * n) b) ≡ each * n = length-take-le (each * n) b (omega (arith, fits-in n (g .few), g .long)) in
-          let all : left most k₀ ≡ after (take (each * n) b) n (ended s) = g .goes ∙ ap (after (take (each * n) b) n) e in
+          let all : left most k₀ ≡ after (take (each * n) b) n (emptyTable s) = g .goes ∙ ap (after (take (each * n) b) n) e in
           rw (all, append-nil, len) (ap (λ (j : ℕ). record { entries = j; stop = s }) (omega arith), sym (take-append-drop (each * n) b) ∙ ap (λ (x : List ℕ). take (each * n) b ++ x) (g .rest))
 
       pub stops-end : count ≤ k → (record { entries = n; stop = 0 } ≡ counts (left most k₀)) × (b ≡ atStart (tableNumbers (left most k₀)) b₀)
@@ -525,7 +525,7 @@ module _ (say : Entry → List ℕ) (image segments : List ℕ) (l : Layout) (ba
       unfolding tableBy
       stops-full e s f =
           let none-left : most - n ≡ 0 = omega arith in
-          stops s (ap (λ (j : ℕ). left j k) none-left ∙ ap ended (sym f))
+          stops s (ap (λ (j : ℕ). left j k) none-left ∙ ap emptyTable (sym f))
 
       module _ (h : k < count) (m : n < most) where
         one-left : most - n ≡ suc (most - (n + 1))
@@ -615,7 +615,7 @@ module _ (image segments : List ℕ) (numbered : Bool) (more stride base count :
 
   module _ (k n : ℕ) (b : List ℕ) (g : Listing image segments l base count b₀ k₀ k n b) where
     abbrev Done : ℕ → Type 0
-    Done s = Lists (tableFrom image segments l (length b₀ / width l) (walkAt base count k₀)) b₀ (record { entries = n; stop = s }) b
+    Done s = Lists (tableFrom image segments l (length b₀ / width l) (iterAt base count k₀)) b₀ (record { entries = n; stop = s }) b
 
     pub table-full : (s : ℕ) → length b₀ / (2 + more) ≤ n → s ≡ stopAt k count → Done s
     table-full s h f = stops-full entryNumbers image segments l base count (width l) b₀ k₀ k n b g (le-antisymm (g .few) (rw wide h)) s f
@@ -649,7 +649,7 @@ module _ (image segments : List ℕ) (numbered : Bool) (more stride base count :
 
   -- a single entry
   abbrev only : WholeTable
-  only = tableFrom image segments l (length b₀ / width l) (walkAt base count k₀)
+  only = tableFrom image segments l (length b₀ / width l) (iterAt base count k₀)
 
   module _ (h : k₀ + 1 ≡ count) where
     pub one-full : length b₀ < 2 + more → Lists only b₀ (record { entries = 0; stop = 1 }) b₀
@@ -702,9 +702,9 @@ module _ (segments : List ℕ) (t : WholeTable) (b : List ℕ) where
 -- ---- what a table says
 
 -- the numbers of these entries
-abbrev pub numbersIn : (Entry → List ℕ) → List Entry → List ℕ
-numbersIn say [] = []
-numbersIn say (e ∷ es) = say e ++ numbersIn say es
+abbrev pub numbersOfAll : (Entry → List ℕ) → List Entry → List ℕ
+numbersOfAll say [] = []
+numbersOfAll say (e ∷ es) = say e ++ numbersOfAll say es
 
 module _ (say : Entry → List ℕ) (image segments : List ℕ) (l : Layout) where
   abbrev table : ℕ → EntryIter → WholeTable
@@ -715,7 +715,7 @@ module _ (say : Entry → List ℕ) (image segments : List ℕ) (l : Layout) whe
 
   -- a table of at most so many entries is what so many steps list, entry by entry
   abbrev Told : ℕ → EntryIter → Type 0
-  Told n c = (table n c .numbers ≡ numbersIn say (steps n c)) × (table n c .entries ≡ length (steps n c))
+  Told n c = (table n c .numbers ≡ numbersOfAll say (steps n c)) × (table n c .entries ≡ length (steps n c))
 
   pub table-listed : (n : ℕ) (c : EntryIter) → Told n c
   unfolding tableBy listed

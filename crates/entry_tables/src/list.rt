@@ -1,4 +1,4 @@
-// The entries of a table, one after the other, into a lent list of numbers.
+// The entries of a table, one after the other, into the caller's list of numbers.
 ghost use mathlib.Core.Path.{_≡_};
 ghost use mathlib.Core.List.{_∷_};
 ghost use Prim.Native.Nat.{_+_, _*_, _^_, _≤_, _<_, min};
@@ -17,7 +17,7 @@ pub const FULL: u64 = 1;
 
 pub const UNREADABLE: u64 = 2;
 
-// How many entries the lent list has, and why there are no more: 0 the table ends, 1 the list is full, 2 the next entry cannot be read.
+// How many entries the caller's list has, and why there are no more: 0 the table ends, 1 the list is full, 2 the next entry cannot be read.
 pub struct Listed {
     pub entries: usize,
     pub stop: u64,

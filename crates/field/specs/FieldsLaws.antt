@@ -1,6 +1,6 @@
 -- What the calls' tests say of the fields section: where a step stays (`no-header`, `overruns`) and where it moves (`passes`); and what stepping
 -- gives: the step after `k` steps gives descriptor `k` (`stepped-descriptor`), and the list of a caller who steps until there is none has those
--- whose programs answer, in order, and no others (`listed-all`).
+-- whose programs answer, in order, and no others (`descriptors-listed-all`).
 use Prim.Native.Nat.{ℕ, zero, suc, _+_, _*_, _%_, _^_, _≤_, _<_}
 use native.Mathlib.Decide.{decLt}
 use native.Mathlib.Omega.{arith}
@@ -176,9 +176,9 @@ module _ (fields : List ℕ) (vmaddr : ℕ) where
 
     -- the list of a caller who steps until there is no descriptor: its descriptor `k` is what the program of descriptor `k` gives, for every `k`;
     -- as many steps as the section has room for headers are enough
-    pub listed-all : (n k : ℕ) → length fields < 16 * (n + 1) → getElem? (listed n 0) k ≡ run image segments (descriptorAt fields vmaddr k)
+    pub descriptors-listed-all : (n k : ℕ) → length fields < 16 * (n + 1) → getElem? (listed n 0) k ≡ run image segments (descriptorAt fields vmaddr k)
     unfolding descriptorAt
-    listed-all n k h = go (decLt k n) ∙ run-given (descriptorFrom fields vmaddr 0 k)
+    descriptors-listed-all n k h = go (decLt k n) ∙ run-given (descriptorFrom fields vmaddr 0 k)
       where
         go : Dec (k < n) → getElem? (listed n 0) k ≡ descriptorFrom fields vmaddr 0 k
         go (yes l) = listed-at n k 0 l

@@ -71,7 +71,7 @@ answered a xs = some (record { address = a; words = xs })
 abbrev high : ℕ → Option Entry
 high base = run (sampleImage ++ sampleImage) highSegments (fieldRecord base 12 1 0)
 
-pub record Worked : Type 0 where
+pub record RecordPathsWorked : Type 0 where
   -- a record has 12 bytes whatever the record size is
   pub twelve : (size : ℕ) → entrySize (recordLayout size) ≡ 12
   -- one record of 12 bytes, and one byte less: the walk stays
@@ -106,9 +106,9 @@ pub record Worked : Type 0 where
   pub high-record : high 18446744073709551607 ≡ answered 18446744073709551607 (2048 ∷ (65531 ∷ (4095 ∷ [])))
   pub no-record : high 18446744073709551608 ≡ none
 
-pub worked : Worked
+pub record-paths-worked : RecordPathsWorked
 unfolding run bytesPlace within segmentsOf fileOffset decides inFile entry upTo entryAt bind unsignedIn signedIn littleAt signedAt bytesAt littleEndian twosComplement relativeAddress relativePointer fieldKind fieldStep descriptorFrom descriptorAt descriptorRecord
-worked =
+record-paths-worked =
     record {
       twelve = λ size. refl;
       fits = refl;

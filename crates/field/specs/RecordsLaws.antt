@@ -1,6 +1,6 @@
 -- Records are entries, and the laws of their steps are those of entries (crate `vtable`): the step after `k` steps gives what the program of record
 -- `k` gives, as long as no earlier record is unreadable (`stepped-record`); and the list of a caller who steps until a record is unreadable or the
--- end is there has the records whose programs answer, in order, and no others (`listed-all`).
+-- end is there has the records whose programs answer, in order, and no others (`records-listed-all`).
 use Prim.Native.Nat.{ℕ, zero, suc, _+_, _^_, _≤_, _<_}
 use mathlib.Core.Path.{_≡_, refl, sym, ap, _∙_}
 use mathlib.Core.List.{List, [], _∷_}
@@ -14,7 +14,7 @@ use Rattle.runtime.specs.ReadsLaws.{run-bind}
 use Rattle.vtable.specs.declared.iter.EntryIter.{EntryIter}
 use Rattle.vtable.specs.Entries.{Entry, entryAt, start, moved, Step, entryStep}
 use Rattle.vtable.specs.EntriesLaws.{step-end, step-gives, step-mapped}
-use Rattle.vtable.specs.ListLaws.{walkAt, Readable, stepped-entry, stepAfter as entriesAfter, listed as entriesListed, listed-all as entries-all}
+use Rattle.vtable.specs.ListLaws.{iterAt, Readable, stepped-entry, stepAfter as entriesAfter, listed as entriesListed, entries-listed-all as entries-all}
 use Rattle.field.specs.declared.iter.FieldDescriptor.{FieldDescriptor}
 use Rattle.field.specs.declared.record.FieldRecordIter.{FieldRecordIter}
 use Rattle.field.specs.Fields.{descriptorAt}
@@ -107,13 +107,13 @@ module _ (image segments : List ℕ) where
     -- stepping k + 1 times gives what the program of record k gives
     pub stepped-record : (k : ℕ) → k < count → Readable image segments (recordLayout size) base count k
         → stepAfter k (recordsOf d)
-        ≡ some (record { found = run image segments (fieldRecord base size count k); next = recordsFrom size (walkAt base count (k + 1)) })
+        ≡ some (record { found = run image segments (fieldRecord base size count k); next = recordsFrom size (iterAt base count (k + 1)) })
     stepped-record k l r =
         after-entries size k (start base count) ∙ ap (Option·map (sized size)) (stepped-entry image segments (recordLayout size) base count k l r)
 
     -- the list of a caller who steps to the end: its record `k` is what the program of record `k` reads, for every `k`
-    pub listed-all : (n k : ℕ) → count ≤ n → getElem? (listed n (recordsOf d)) k ≡ run image segments (fieldRecord base size count k)
-    listed-all n k c = ap (λ (l : List Entry). getElem? l k) (listed-entries size n (start base count)) ∙ entries-all image segments (recordLayout size) base count n k c
+    pub records-listed-all : (n k : ℕ) → count ≤ n → getElem? (listed n (recordsOf d)) k ≡ run image segments (fieldRecord base size count k)
+    records-listed-all n k c = ap (λ (l : List Entry). getElem? l k) (listed-entries size n (start base count)) ∙ entries-all image segments (recordLayout size) base count n k c
 
     module _ (fields : List ℕ) (vmaddr j : ℕ) (there : run image segments (descriptorAt fields vmaddr j) ≡ some d) where
       -- as an item: record `k` of descriptor `j`
@@ -122,4 +122,4 @@ module _ (image segments : List ℕ) where
       record-of k = run-bind image segments (λ e. fieldRecord (recordsBase (e .address)) (e .«field_record_size») (e .«num_fields») k) (descriptorAt fields vmaddr j) ∙ rw there
 
       pub listed-records : (n k : ℕ) → count ≤ n → getElem? (listed n (recordsOf d)) k ≡ run image segments (descriptorRecord fields vmaddr j k)
-      listed-records n k c = listed-all n k c ∙ sym (record-of k)
+      listed-records n k c = records-listed-all n k c ∙ sym (record-of k)

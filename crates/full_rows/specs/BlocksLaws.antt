@@ -21,7 +21,7 @@ use Rattle.classtrailers.specs.declared.block.BlockBody.{BlockBody}
 use Rattle.classtrailers.specs.declared.block.BlockKind.{BlockKind}
 use Rattle.entry_tables.specs.TablesLaws.{set-more}
 use Rattle.entry_tables.specs.PastedLaws.{pasted-then, pasted-long, pasted-as}
-use Rattle.full_rows.specs.FullRows.{tableNumbers, recordedIn, blockFour, blockFours}
+use Rattle.full_rows.specs.FullRows.{tableRecorded, recordedIn, blockFour, blockFours}
 
 -- ---- numbers at a place of a list
 
@@ -78,10 +78,10 @@ recorded-as k b c p e f = f ∙ ap (recordedIn k) (sym e)
 
 -- those of a table
 module _ (k : BlockKind) (r o n a : ℕ) (e : r ≡ rowNumber k) where
-  pub vtable-numbers : r ≡ 4 → o ∷ (n ∷ (a ∷ [])) ≡ tableNumbers k o n a
+  pub vtable-numbers : r ≡ 4 → o ∷ (n ∷ (a ∷ [])) ≡ tableRecorded k o n a
   vtable-numbers f = let q : rowNumber k ≡ 4 = sym e ∙ f in rw q
 
-  pub other-numbers : (r ≡ 4 → ⊥) → n ∷ (a ∷ (0 ∷ [])) ≡ tableNumbers k o n a
+  pub other-numbers : (r ≡ 4 → ⊥) → n ∷ (a ∷ (0 ∷ [])) ≡ tableRecorded k o n a
   other-numbers f = simp (ne-eqb (rowNumber k) 4 (λ q. f (e ∙ q)))
 
 -- where nothing follows, all are 0

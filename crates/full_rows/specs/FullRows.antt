@@ -1,4 +1,4 @@
--- The rows of a types section with body and all trailing blocks, as records of a fixed count of numbers in a lent list: docs/SPECIFICATION.md, "Full rows".
+-- The rows of a types section with body and all trailing blocks, as records of a fixed count of numbers in the caller's list: docs/SPECIFICATION.md, "Full rows".
 use Prim.Native.Nat.{ℕ, _-_, _/_, max}
 use mathlib.Core.List.{List, [], _∷_, _++_, map}
 use mathlib.Core.Bool.{Bool, true, false, cond}
@@ -36,12 +36,12 @@ bodyNumbers (some (ofEnum p w e)) = 3 ∷ (p ∷ (w ∷ (e ∷ (0 ∷ (0 ∷ (0 
 
 -- what is recorded of a block, 0 where a kind has fewer than three numbers: an address; of a table the number of entries and their address, and a
 -- vtable's offset ahead of them; the set and the number of its protocols
-abbrev pub tableNumbers : BlockKind → ℕ → ℕ → ℕ → List ℕ
-tableNumbers k o n a = cond (eqb (blocks.rowNumber k) 4) (o ∷ (n ∷ (a ∷ []))) (n ∷ (a ∷ (0 ∷ [])))
+abbrev pub tableRecorded : BlockKind → ℕ → ℕ → ℕ → List ℕ
+tableRecorded k o n a = cond (eqb (blocks.rowNumber k) 4) (o ∷ (n ∷ (a ∷ []))) (n ∷ (a ∷ (0 ∷ [])))
 
 abbrev pub recordedIn : BlockKind → BlockBody → List ℕ
 recordedIn k (BlockBody.At a) = a ∷ (0 ∷ (0 ∷ []))
-recordedIn k (BlockBody.Table o n a) = tableNumbers k o n a
+recordedIn k (BlockBody.Table o n a) = tableRecorded k o n a
 recordedIn k (BlockBody.Set s n) = s ∷ (n ∷ (0 ∷ []))
 
 abbrev pub recordedNumbers : Block → List ℕ
@@ -102,12 +102,12 @@ recordsListed image segments past room fs =
       all = noneLeft (drop room fs);
     }
 
--- the rows of a section from slot `i` on, as a lent list of `n` numbers holds them: a record has 58
+-- the rows of a section from slot `i` on, as a caller's list of `n` numbers holds them: a record has 58
 abbrev pub fullRowsIn : List ℕ → List ℕ → List ℕ → ℕ → ℕ → ℕ → RecordsListed
 fullRowsIn image segments types start i n =
     recordsListed image segments (max (slots types) i) (n / 58) (rowsFrom image segments types start (slots types - i) i)
 
--- ---- the call's answer: the counts; the other numbers are in the lent list
+-- ---- the call's answer: the counts; the other numbers are in the caller's list
 
 abbrev pub givenOf : RecordsListed → Given
 givenOf l = record { records = l .records; next = l .next; all = l .all }

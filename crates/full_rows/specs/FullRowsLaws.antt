@@ -1,5 +1,5 @@
 -- What the code writes, row after row, is the definition's records (`Going`). The rows given are those that stepping gives (`listed-stepped`), and
--- a call from the slot to go on from gives the others (`going-on`).
+-- a call from the slot to go on from gives the others (`full-rows-going-on`).
 use Prim.Native.Nat.{ℕ, zero, suc, _+_, _-_, _*_, _/_, _%_, _≤_, _<_, max}
 use native.Mathlib.Omega.{arith}
 use native.Mathlib.Nat.{mul-suc, mul-div-le, mul-le-mul-left}
@@ -20,7 +20,7 @@ use Rattle.classtrailers.specs.Blocks as blocks
 use Rattle.classtrailers.specs.declared.block.BlockKind.{BlockKind}
 use Rattle.typedescriptor.specs.Row.{TypeRow}
 use Rattle.typedescriptor.specs.Slots.{slots, slotRow, Found, found, rowsFrom}
-use Rattle.typedescriptor.specs.SlotsLaws.{stepped, stepped-take, rows-out}
+use Rattle.typedescriptor.specs.SlotsLaws.{steppedRows, stepped-rows-take, rows-out}
 use Rattle.type_body.specs.Body.{Body, ofClass, ofStruct, ofEnum, fixed, resilient, body, bodyOf, classOf, sizesOf}
 use Rattle.type_body.specs.declared.body.ClassBody.{ClassBody}
 use Rattle.type_body.specs.declared.body.ClassSizes.{ClassSizes}
@@ -232,10 +232,10 @@ module _ (image segments types : List ℕ) (start i₀ : ℕ) (b₀ : List ℕ) 
 module _ (image segments types : List ℕ) (start : ℕ) where
   -- the rows given are those that as many steps give as there is room
   pub listed-stepped : (i n : ℕ)
-      → (fullRowsIn image segments types start i n .numbers ≡ fullRows image segments (stepped image segments types start (n / 58) i))
-      × (fullRowsIn image segments types start i n .records ≡ length (stepped image segments types start (n / 58) i))
+      → (fullRowsIn image segments types start i n .numbers ≡ fullRows image segments (steppedRows image segments types start (n / 58) i))
+      × (fullRowsIn image segments types start i n .records ≡ length (steppedRows image segments types start (n / 58) i))
   unfolding recordsListed
-  listed-stepped i n = rw (stepped-take image segments types start (n / 58) i) (refl, refl)
+  listed-stepped i n = rw (stepped-rows-take image segments types start (n / 58) i) (refl, refl)
 
   abbrev from : ℕ → ℕ → List Found
   from m j = rowsFrom image segments types start (m - j) j
@@ -266,11 +266,11 @@ module _ (image segments types : List ℕ) (start : ℕ) where
   none-left-empty (f ∷ fs) e = let z : _≡_ {A = ℕ} 0 1 = cc in absurd (omega arith)
 
   -- going on gives the same records as one call, and no row is left where all are given
-  pub going-on : (i n : ℕ)
+  pub full-rows-going-on : (i n : ℕ)
       → (fullRows image segments (from (slots types) i) ≡ fullRowsIn image segments types start i n .numbers ++ fullRows image segments (from (slots types) (fullRowsIn image segments types start i n .next)))
       × (fullRowsIn image segments types start i n .all ≡ true → from (slots types) (fullRowsIn image segments types start i n .next) ≡ [])
   unfolding recordsListed
-  going-on i n =
+  full-rows-going-on i n =
       let rest = resumed (max (slots types) i) (slots types - i) i (slots types) (n / 58) refl (omega arith) in
       rw rest (
         ap (fullRows image segments) (sym (take-append-drop (n / 58) (from (slots types) i))) ∙ rows-append image segments (take (n / 58) (from (slots types) i)) _,

@@ -6,7 +6,7 @@ ghost use Prim.Native.Nat.{_+_, _≤_, _*_, _/_};
 ghost use lib.ListN.{length, replicate};
 ghost use Rattle.util.specs.Buffer.{pasted, atStart};
 ghost use Rattle.type_body.specs.Body.{bodyOf, classOf};
-ghost use Rattle.full_rows.specs.FullRows.{bodyNumbers, tableNumbers, recordedNumbers, recordedOf, blockFour, blockFours, fullRow, fullRowsIn, numbersOf, givenOf};
+ghost use Rattle.full_rows.specs.FullRows.{bodyNumbers, tableRecorded, recordedNumbers, recordedOf, blockFour, blockFours, fullRow, fullRowsIn, numbersOf, givenOf};
 ghost use Rattle.segment.specs.Mapping.{withMapping};
 ghost use Rattle.classtrailers.specs.Calls.{trailingOf};
 ghost use Rattle.typedescriptor.specs.Row.{rowOf};
@@ -192,7 +192,7 @@ pub struct Recorded {
 
 // Those of a table: only a vtable has an offset, ahead of the others.
 fn table_numbers(kind: BlockKind, offset: u32, count: u32, entries_va: u64) -> Recorded
-    ensures { λ r. ⌜ recordedOf r ≡ tableNumbers kind offset count «entries_va» ⌝ }
+    ensures { λ r. ⌜ recordedOf r ≡ tableRecorded kind offset count «entries_va» ⌝ }
 {
     if classtrailers::number_of(kind) == VTABLE {
         Recorded {

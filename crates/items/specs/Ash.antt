@@ -8,6 +8,7 @@ use mathlib.Core.Option.{Option, some, none}
 use lib.ListN.{take}
 use Rattle.utf8.specs.Table.{table}
 use Rattle.utf8.specs.Text.{following, goesOn, untilNul, textLength}
+use Rattle.util.specs.Letters.{letters}
 use Rattle.util.specs.LittleEndian.{littleEndian, bytesAt, littleAt, twosComplement, signedAt, unsignedIn, signedIn}
 use Rattle.util.specs.Pointer.{relativePointer, relativeAddress}
 use Rattle.segment.specs.Segments.{segmentsOf, fileOffset, decides, inFile}
@@ -35,7 +36,7 @@ word n = n ∷ 0 ∷ 0 ∷ 0 ∷ []
 abbrev image : List ℕ
 image =
     -- 0: `Ash` and a NUL
-    65 ∷ 115 ∷ 104 ∷ 0 ∷
+    letters "Ash" ++ 0 ∷
     -- 4: the descriptor: a class, generic (0x80), with an invertible set (0x20); type flags: prespecializations (8), default overrides (0x40); no parent; the name's offset -12 at 12
     0xb0 ∷ 0 ∷ 0x48 ∷ 0 ∷ word 0 ++ 0xf4 ∷ 0xff ∷ 0xff ∷ 0xff ∷ word 0 ++ word 0
     -- 24: the body
@@ -91,7 +92,7 @@ invertibleSet s n = record { kind = BlockKind.InvertibleProtocolSet; body = Bloc
 abbrev defaultOverridesFrom : ℕ → ℕ → Block
 defaultOverridesFrom n a = record { kind = BlockKind.DefaultOverrideTable; body = BlockBody.Table 0 n a }
 
-pub record Worked : Type 0 where
+pub record AshWorked : Type 0 where
   pub generic : reads (Key.block 0 BlockKind.Generic) ≡ genericReads
   pub prespecializations : reads (Key.block 0 BlockKind.Prespecializations) ≡ prespecializedReads
   pub invertible : reads (Key.block 0 BlockKind.InvertibleProtocolSet) ≡ prespecializedReads ++ (bytesTo 100 102 ∷ [])
@@ -118,9 +119,9 @@ pub record Worked : Type 0 where
   pub cut-91 : told (take 91 image) (Key.entry 0 EntryKind.prespecializations 1) ≡ none
   pub cut-123 : told (take 123 image) (Key.entry 0 EntryKind.defaultOverrides 1) ≡ none
 
-pub worked : Worked
+pub ash-worked : AshWorked
 unfolding run path bind bytesPlace within textOffset extent segmentsOf fileOffset decides inFile table following goesOn textAt textLength untilNul unsignedIn signedIn littleAt signedAt bytesAt littleEndian twosComplement relativeAddress relativePointer descriptor rowName slotRow mapReads item classBody bodyBytes body slotBody genericSize setBits rowAt below blockAt recordAt endAt passed reached blockIn block slotBlock slotInit slotPointer vector fieldOffsets slotOffsets entryAt upTo entry entryOfSlot kindOf
-worked =
+ash-worked =
     record {
       generic = refl;
       prespecializations = refl;

@@ -15,7 +15,7 @@ use Rattle.items.specs.Keys.{Sections}
 use Rattle.items.specs.Items.{rowOfSlot, bodyOfSlot, contextOfSlot}
 use Rattle.items.specs.Texts.{NameKey, recordName, recordTypeName, nameOf}
 
--- where the calls tell that it lies, in the image or in the string section: none where there is no text, or no item that it stands beside
+-- where the calls tell that it lies, in the image or in the string section: none where there is not a text, or no item that it stands beside
 unfoldable pub toldAt : List ℕ → List ℕ → List ℕ → ℕ → Sections → NameKey → Option NamePlace
 toldAt image segments strings start s (NameKey.descriptor i) = Option·map (λ (r : TypeRow). inImage (r .name)) (run image segments (rowOfSlot s i))
 toldAt image segments strings start s (NameKey.context i k) =

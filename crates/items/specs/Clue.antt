@@ -9,6 +9,7 @@ use mathlib.Core.Option.{Option, some, none}
 use lib.ListN.{take}
 use Rattle.utf8.specs.Table.{table}
 use Rattle.utf8.specs.Text.{following, goesOn, untilNul, textLength}
+use Rattle.util.specs.Letters.{letters}
 use Rattle.util.specs.LittleEndian.{littleEndian, bytesAt, littleAt, twosComplement, signedAt, unsignedIn, signedIn}
 use Rattle.util.specs.Pointer.{relativePointer, relativeAddress}
 use Rattle.segment.specs.Segments.{segmentsOf, fileOffset, decides, inFile}
@@ -25,51 +26,51 @@ abbrev head : List ℕ
 head = 17 ∷ 0 ∷ 0 ∷ 0 ∷ 0 ∷ 0 ∷ 0 ∷ 0 ∷ 20 ∷ 0 ∷ 0 ∷ 0 ∷ 0 ∷ 0 ∷ 0 ∷ 0 ∷ 0 ∷ 0 ∷ 0 ∷ 0 ∷ 0 ∷ 0 ∷ 0 ∷ 0 ∷ 0 ∷ 0 ∷ 0 ∷ 0 ∷ []
 
 -- then `Clue` and a NUL
-abbrev pub image : List ℕ
-image = head ++ (67 ∷ 108 ∷ 117 ∷ 101 ∷ 0 ∷ [])
+abbrev pub clueImage : List ℕ
+clueImage = head ++ (letters "Clue" ++ 0 ∷ [])
 
--- a name that starts well: 43 C0 80 is no text
+-- a name that starts well: 43 C0 80 is not a text
 abbrev pub broken : List ℕ
 broken = head ++ (67 ∷ 0xc0 ∷ 0x80 ∷ 0 ∷ [])
 
-abbrev pub segments : List ℕ
-segments = 0x1000 ∷ 33 ∷ 0 ∷ 33 ∷ []
+abbrev pub clueSegments : List ℕ
+clueSegments = 0x1000 ∷ 33 ∷ 0 ∷ 33 ∷ []
 
 -- types at 0x2000: one slot, whose offset is -0x1000; no fields
-abbrev pub sections : Sections
-sections = record { types = 0 ∷ 0xf0 ∷ 0xff ∷ 0xff ∷ []; typesStart = 0x2000; fields = []; fieldsStart = 0 }
+abbrev pub clueSections : Sections
+clueSections = record { types = 0 ∷ 0xf0 ∷ 0xff ∷ 0xff ∷ []; typesStart = 0x2000; fields = []; fieldsStart = 0 }
 
 abbrev told : List ℕ → Option Answer
-told i = run i segments (item sections (Key.row 0))
+told i = run i clueSegments (item clueSections (Key.row 0))
 
 -- a struct at 0x1000 whose name has these bytes, at offset 28
 abbrev named : List ℕ → ℕ → Option Answer
 named t n = some (Answer.row (record { address = 0x1000; flags = 17; parent = 0; name = place 28 n; nameBytes = t }))
 
-pub record Worked : Type 0 where
-  pub whole : told image ≡ named (67 ∷ 108 ∷ 117 ∷ 101 ∷ []) 4
+pub record ClueWorked : Type 0 where
+  pub whole : told clueImage ≡ named (letters "Clue") 4
   -- 20 bytes, and five of the name with its NUL
-  pub reads : path image segments (item sections (Key.row 0))
+  pub reads : path clueImage clueSegments (item clueSections (Key.row 0))
       ≡ record { from = 0; to = 20; isText = false } ∷ (record { from = 28; to = 33; isText = true } ∷ [])
   -- cut before the name starts, the row is gone
-  pub cut-27 : told (take 27 image) ≡ none
+  pub cut-27 : told (take 27 clueImage) ≡ none
   -- cut where it starts, there is a row with an empty name; then one with a piece of the name; the whole name without its NUL is a text too
-  pub cut-28 : told (take 28 image) ≡ named [] 0
-  pub cut-30 : told (take 30 image) ≡ named (67 ∷ 108 ∷ []) 2
-  pub cut-32 : told (take 32 image) ≡ named (67 ∷ 108 ∷ 117 ∷ 101 ∷ []) 4
+  pub cut-28 : told (take 28 clueImage) ≡ named [] 0
+  pub cut-30 : told (take 30 clueImage) ≡ named (letters "Cl") 2
+  pub cut-32 : told (take 32 clueImage) ≡ named (letters "Clue") 4
   -- a name that is not well-formed makes no row, and a piece of it may: texts that are looked up and not found count too
   pub ill-formed : told broken ≡ none
   pub ill-formed-cut : told (take 29 broken) ≡ named (67 ∷ []) 1
   -- the premise leaves out exactly the cuts from 28 to 32
-  pub clear-below : (c : ℕ) → c < 28 → All (Clear c) (path image segments (item sections (Key.row 0)))
-  pub clear-above : (c : ℕ) → 33 ≤ c → All (Clear c) (path image segments (item sections (Key.row 0)))
-  pub not-clear : (c : ℕ) → 28 ≤ c → c < 33 → All (Clear c) (path image segments (item sections (Key.row 0))) → ⊥
+  pub clear-below : (c : ℕ) → c < 28 → All (Clear c) (path clueImage clueSegments (item clueSections (Key.row 0)))
+  pub clear-above : (c : ℕ) → 33 ≤ c → All (Clear c) (path clueImage clueSegments (item clueSections (Key.row 0)))
+  pub not-clear : (c : ℕ) → 28 ≤ c → c < 33 → All (Clear c) (path clueImage clueSegments (item clueSections (Key.row 0))) → ⊥
   -- by the name's address as well
-  pub name-not-clear : (c : ℕ) → 28 ≤ c → c < 33 → ClearOf image segments sections c (NameKey.descriptor 0) → ⊥
+  pub name-not-clear : (c : ℕ) → 28 ≤ c → c < 33 → ClearOf clueImage clueSegments clueSections c (NameKey.descriptor 0) → ⊥
 
-pub worked : Worked
+pub clue-worked : ClueWorked
 unfolding run path bind bytesPlace within textOffset extent segmentsOf fileOffset decides inFile table following goesOn textAt textLength untilNul unsignedIn signedIn littleAt signedAt bytesAt littleEndian twosComplement relativeAddress relativePointer descriptor rowName slotRow descriptorName slotNameAddress nameOf mapReads item
-worked =
+clue-worked =
     record {
       whole = refl;
       reads = refl;

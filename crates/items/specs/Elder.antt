@@ -11,6 +11,7 @@ use lib.ListN.{take}
 use lib.Dec.{ltb}
 use Rattle.utf8.specs.Table.{table}
 use Rattle.utf8.specs.Text.{following, goesOn, untilNul, textLength}
+use Rattle.util.specs.Letters.{letters}
 use Rattle.util.specs.LittleEndian.{littleEndian, bytesAt, littleAt, twosComplement, signedAt, unsignedIn, signedIn}
 use Rattle.util.specs.Pointer.{relativePointer, relativeAddress}
 use Rattle.util.specs.Cstr.{place, textAt, partOf}
@@ -37,8 +38,8 @@ abbrev word : ℕ → List ℕ
 word n = n ∷ 0 ∷ 0 ∷ 0 ∷ []
 
 -- each line from the offset that it names
-abbrev pub image : List ℕ
-image =
+abbrev pub elderImage : List ℕ
+elderImage =
     -- 0: `A` and a NUL, and two bytes that nothing reads
     65 ∷ 0 ∷ 0 ∷ 0
     -- 4: the descriptor: a class; no parent; the name's offset -12 at 12
@@ -46,77 +47,77 @@ image =
     -- 24: the body: the offset 24 of the superclass's name
     ++ (word 24 ++ (word 0 ++ (word 0 ++ (word 0 ++ (word 0 ++ (word 0
     -- 48: `Su` and a NUL
-    ++ (83 ∷ 117 ∷ 0 ∷ []))))))))))))
+    ++ (letters "Su" ++ 0 ∷ []))))))))))))
 
 -- laid at 0x1000
-abbrev pub segments : List ℕ
-segments = 0x1000 ∷ 51 ∷ 0 ∷ 51 ∷ []
+abbrev pub elderSegments : List ℕ
+elderSegments = 0x1000 ∷ 51 ∷ 0 ∷ 51 ∷ []
 
 -- types at 0x2000: one slot, whose offset is 0x1004 - 0x2000; no fields
-abbrev pub sections : Sections
-sections = record { types = 0x04 ∷ 0xf0 ∷ 0xff ∷ 0xff ∷ []; typesStart = 0x2000; fields = []; fieldsStart = 0 }
+abbrev pub elderSections : Sections
+elderSections = record { types = 0x04 ∷ 0xf0 ∷ 0xff ∷ 0xff ∷ []; typesStart = 0x2000; fields = []; fieldsStart = 0 }
 
 abbrev told : List ℕ → Option Answer
-told i = run i segments (item sections (Key.body 0))
+told i = run i elderSegments (item elderSections (Key.body 0))
 
 -- the superclass's name, with no string section
 abbrev superclass : List ℕ → Option Beside
-superclass i = besideOf i segments [] 0 sections (NameKey.superclass 0)
+superclass i = besideOf i elderSegments [] 0 elderSections (NameKey.superclass 0)
 
 -- these bytes at offset 48
 abbrev named : List ℕ → ℕ → Option Beside
 named t n = some (record { place = inImage (place 48 n); bytes = t })
 
-pub record Worked : Type 0 where
-  pub whole-body : told image ≡ some (Answer.body (ofClass 0x1030 (fixed 0 0) 0 0 0))
-  pub whole-name : superclass image ≡ named (83 ∷ 117 ∷ []) 2
+pub record ElderWorked : Type 0 where
+  pub whole-body : told elderImage ≡ some (Answer.body (ofClass 0x1030 (fixed 0 0) 0 0 0))
+  pub whole-name : superclass elderImage ≡ named (letters "Su") 2
   -- the cut to 49 falls into no name of a descriptor, a context or a field record
-  pub descriptors : (i : ℕ) → ClearOf image segments sections 49 (NameKey.descriptor i)
-  pub contexts : (i k : ℕ) → ClearOf image segments sections 49 (NameKey.context i k)
-  pub fields : (j k : ℕ) → ClearOf image segments sections 49 (NameKey.field j k)
+  pub descriptors : (i : ℕ) → ClearOf elderImage elderSegments elderSections 49 (NameKey.descriptor i)
+  pub contexts : (i k : ℕ) → ClearOf elderImage elderSegments elderSections 49 (NameKey.context i k)
+  pub fields : (j k : ℕ) → ClearOf elderImage elderSegments elderSections 49 (NameKey.field j k)
   -- the body is there, and a piece of the superclass's name, which the whole image does not tell
-  pub cut-body : told (take 49 image) ≡ told image
-  pub cut-name : superclass (take 49 image) ≡ named (83 ∷ []) 1
+  pub cut-body : told (take 49 elderImage) ≡ told elderImage
+  pub cut-name : superclass (take 49 elderImage) ≡ named (83 ∷ []) 1
   -- the premise for the name itself leaves out the cuts from 48 to 50, and no other
-  pub below : (c : ℕ) → c < 48 → ClearOf image segments sections c (NameKey.superclass 0)
-  pub above : (c : ℕ) → 51 ≤ c → ClearOf image segments sections c (NameKey.superclass 0)
-  pub not-clear : (c : ℕ) → 48 ≤ c → c < 51 → ClearOf image segments sections c (NameKey.superclass 0) → ⊥
+  pub below : (c : ℕ) → c < 48 → ClearOf elderImage elderSegments elderSections c (NameKey.superclass 0)
+  pub above : (c : ℕ) → 51 ≤ c → ClearOf elderImage elderSegments elderSections c (NameKey.superclass 0)
+  pub not-clear : (c : ℕ) → 48 ≤ c → c < 51 → ClearOf elderImage elderSegments elderSections c (NameKey.superclass 0) → ⊥
 
 -- one slot
-no-slots : (i : ℕ) → run image segments (item sections (Key.row (suc i))) ≡ none
-no-slots i = no-slot image segments sections (suc i) (omega arith)
+no-slots : (i : ℕ) → run elderImage elderSegments (item elderSections (Key.row (suc i))) ≡ none
+no-slots i = no-slot elderImage elderSegments elderSections (suc i) (omega arith)
 
-no-contexts : (i k : ℕ) → run image segments (item sections (Key.context i k)) ≡ none
+no-contexts : (i k : ℕ) → run elderImage elderSegments (item elderSections (Key.context i k)) ≡ none
 unfolding run bind bytesPlace within textOffset segmentsOf fileOffset decides inFile table following goesOn textAt textLength untilNul unsignedIn signedIn littleAt signedAt bytesAt littleEndian twosComplement relativeAddress relativePointer descriptor rowName slotRow mapReads item header headerIn headerAt contextOfSlot
-no-contexts (suc i) k = no-row image segments sections (Key.context (suc i) k) (suc i) refl (no-slots i)
+no-contexts (suc i) k = no-row elderImage elderSegments elderSections (Key.context (suc i) k) (suc i) refl (no-slots i)
 no-contexts zero zero = refl
 no-contexts zero (suc k) = go (ltb (suc k) contextsMost)
   where
-    go : (b : Bool) → run image segments (mapReads Answer.context (cond b (bind (rowOfSlot sections 0) (λ r. headerAt (suc k) (r .parent))) nothing)) ≡ none
+    go : (b : Bool) → run elderImage elderSegments (mapReads Answer.context (cond b (bind (rowOfSlot elderSections 0) (λ r. headerAt (suc k) (r .parent))) nothing)) ≡ none
     go true = refl
     go false = refl
 
-no-fields : (j : ℕ) → run image segments (item sections (Key.fieldDescriptor j)) ≡ none
+no-fields : (j : ℕ) → run elderImage elderSegments (item elderSections (Key.fieldDescriptor j)) ≡ none
 unfolding run bind mapReads item fieldStep descriptorFrom descriptorAt
 no-fields zero = refl
 no-fields (suc j) = refl
 
-pub worked : Worked
+pub elder-worked : ElderWorked
 unfolding run path bind bytesPlace within textOffset textPlace extent segmentsOf fileOffset decides inFile table following goesOn textAt partOf textLength untilNul unsignedIn signedIn littleAt signedAt bytesAt littleEndian twosComplement relativeAddress relativePointer descriptor rowName slotRow descriptorName slotNameAddress nameOf mapReads item classBody bodyBytes body slotBody kindOf toldAt besideOf
-worked =
+elder-worked =
     record {
       whole-body = refl;
       whole-name = refl;
       descriptors = descriptor-clear;
-      contexts = λ i k. nowhere image segments sections 49 (NameKey.context i k) (no-item image segments sections (NameKey.context i k) (Key.context i k) refl (no-contexts i k));
-      fields = λ j k. nowhere image segments sections 49 (NameKey.field j k) (no-item image segments sections (NameKey.field j k) (Key.fieldRecord j k) refl (no-record image segments sections j k (no-fields j)));
+      contexts = λ i k. nowhere elderImage elderSegments elderSections 49 (NameKey.context i k) (no-item elderImage elderSegments elderSections (NameKey.context i k) (Key.context i k) refl (no-contexts i k));
+      fields = λ j k. nowhere elderImage elderSegments elderSections 49 (NameKey.field j k) (no-item elderImage elderSegments elderSections (NameKey.field j k) (Key.fieldRecord j k) refl (no-record elderImage elderSegments elderSections j k (no-fields j)));
       cut-body = refl;
       cut-name = refl;
-      below = λ c h. there image segments sections c (NameKey.superclass 0) 0x1030 48 refl refl (inl h);
-      above = λ c h. there image segments sections c (NameKey.superclass 0) 0x1030 48 refl refl (inr h);
-      not-clear = λ c h g w. ⊎-elim (λ l. omega arith) (λ l. omega arith) (asked image segments sections c (NameKey.superclass 0) 0x1030 48 refl refl w);
+      below = λ c h. there elderImage elderSegments elderSections c (NameKey.superclass 0) 0x1030 48 refl refl (inl h);
+      above = λ c h. there elderImage elderSegments elderSections c (NameKey.superclass 0) 0x1030 48 refl refl (inr h);
+      not-clear = λ c h g w. ⊎-elim (λ l. omega arith) (λ l. omega arith) (asked elderImage elderSegments elderSections c (NameKey.superclass 0) 0x1030 48 refl refl w);
     }
   where
-    descriptor-clear : (i : ℕ) → ClearOf image segments sections 49 (NameKey.descriptor i)
-    descriptor-clear zero = there image segments sections 49 (NameKey.descriptor 0) 0x1000 0 refl refl (inr (omega arith))
-    descriptor-clear (suc i) = no-slot-name image segments 49 sections (suc i) (omega arith)
+    descriptor-clear : (i : ℕ) → ClearOf elderImage elderSegments elderSections 49 (NameKey.descriptor i)
+    descriptor-clear zero = there elderImage elderSegments elderSections 49 (NameKey.descriptor 0) 0x1000 0 refl refl (inr (omega arith))
+    descriptor-clear (suc i) = no-slot-name elderImage elderSegments 49 elderSections (suc i) (omega arith)

@@ -8,6 +8,7 @@ use mathlib.Core.Option.{Option, some, none}
 use lib.ListN.{take}
 use Rattle.utf8.specs.Table.{table}
 use Rattle.utf8.specs.Text.{following, goesOn, untilNul, textLength}
+use Rattle.util.specs.Letters.{letters}
 use Rattle.util.specs.LittleEndian.{littleEndian, bytesAt, littleAt, twosComplement, signedAt, unsignedIn, signedIn}
 use Rattle.util.specs.Pointer.{relativePointer, relativeAddress}
 use Rattle.segment.specs.Segments.{segmentsOf, fileOffset, decides, inFile}
@@ -49,10 +50,10 @@ fieldBytes =
     ++ word 2 ++ word 52 ++ word 45 ++ word 0
 
 -- 163 bytes, each line from the offset that it names
-abbrev pub image : List ℕ
-image =
+abbrev pub elmImage : List ℕ
+elmImage =
     -- 0: `Elm` and a NUL
-    69 ∷ 108 ∷ 109 ∷ 0 ∷
+    letters "Elm" ++ 0 ∷
     -- 4: the descriptor: a struct with a singleton initialization (type flags 1) and a singleton pointer (8); the parent's offset to 120 at 8, the name's -12 at 12
     17 ∷ 0 ∷ 9 ∷ 0 ∷ word 112 ++ 0xf4 ∷ 0xff ∷ 0xff ∷ 0xff ∷ word 0 ++ word 52
     -- 24: the body: two fields, whose offsets start at word 2 of the metadata
@@ -65,26 +66,26 @@ image =
     ++ 0 ∷ 2 ∷ 0 ∷ 0 ∷ word 0 ++ 4 ∷ 0x10 ∷ 0 ∷ 0 ∷ word 0 ++ word 0 ++ word 8
     -- 72: the fields section
     ++ fieldBytes
-    -- 120: an anonymous context, the parent's offset to 132 at 124; the word behind its 8 bytes, which is no name of it, leads to 149
+    -- 120: an anonymous context, the parent's offset to 132 at 124; the word behind its 8 bytes, which is not a name of it, leads to 149
     ++ word 2 ++ word 8 ++ word 21
     -- 132: a module; no parent; the name's offset to 144 at 140
     ++ word 0 ++ word 0 ++ word 4
     -- 144: `Park`; 149: `ivy`, which no name leads to; 153: `age`; 157: `id`; 160: `Si`, the name of a type; each with a NUL
-    ++ 80 ∷ 97 ∷ 114 ∷ 107 ∷ 0 ∷ 105 ∷ 118 ∷ 121 ∷ 0 ∷ 97 ∷ 103 ∷ 101 ∷ 0 ∷ 105 ∷ 100 ∷ 0 ∷ 83 ∷ 105 ∷ 0 ∷ []
+    ++ letters "Park" ++ 0 ∷ letters "ivy" ++ 0 ∷ letters "age" ++ 0 ∷ letters "id" ++ 0 ∷ letters "Si" ++ 0 ∷ []
 
 -- laid at 0x1000
-abbrev pub segments : List ℕ
-segments = 0x1000 ∷ 163 ∷ 0 ∷ 163 ∷ []
+abbrev pub elmSegments : List ℕ
+elmSegments = 0x1000 ∷ 163 ∷ 0 ∷ 163 ∷ []
 
 -- types at 0x2000: one slot, whose offset is 0x1004 - 0x2000; fields at 0x1048
-abbrev pub sections : Sections
-sections = record { types = 0x04 ∷ 0xf0 ∷ 0xff ∷ 0xff ∷ []; typesStart = 0x2000; fields = fieldBytes; fieldsStart = 0x1048 }
+abbrev pub elmSections : Sections
+elmSections = record { types = 0x04 ∷ 0xf0 ∷ 0xff ∷ 0xff ∷ []; typesStart = 0x2000; fields = fieldBytes; fieldsStart = 0x1048 }
 
 abbrev reads : Key → List Range
-reads k = path image segments (item sections k)
+reads k = path elmImage elmSegments (item elmSections k)
 
 abbrev told : List ℕ → Key → Option Answer
-told i k = run i segments (item sections k)
+told i k = run i elmSegments (item elmSections k)
 
 -- bytes from an offset up to another
 abbrev bytesTo : ℕ → ℕ → Range
@@ -104,7 +105,7 @@ initializationAt a = record { kind = BlockKind.SingletonMetadataInit; body = Blo
 abbrev pointerAt : ℕ → Block
 pointerAt a = record { kind = BlockKind.SingletonMetadataPointer; body = BlockBody.At a }
 
-pub record Worked : Type 0 where
+pub record ElmWorked : Type 0 where
   pub row : reads (Key.row 0) ≡ rowReads
   pub body : reads (Key.body 0) ≡ bodyReads
   -- two blocks without a header: there is nothing to read, neither of their own nor of the one before
@@ -120,34 +121,34 @@ pub record Worked : Type 0 where
   pub field-descriptor : reads (Key.fieldDescriptor 0) ≡ []
   pub field-record-1 : reads (Key.fieldRecord 0 1) ≡ bytesTo 88 100 ∷ bytesTo 104 116 ∷ []
   -- what they say; nothing past the last
-  pub says-row : told image (Key.row 0) ≡ some (Answer.row (record { address = 0x1004; flags = 0x90011; parent = 0x1078; name = place 0 3; nameBytes = 69 ∷ 108 ∷ 109 ∷ [] }))
-  pub says-body : told image (Key.body 0) ≡ some (Answer.body (ofStruct 2 2))
-  pub says-block-initialization : told image (Key.block 0 BlockKind.SingletonMetadataInit) ≡ some (Answer.block (initializationAt 0x1020))
-  pub says-block-pointer : told image (Key.block 0 BlockKind.SingletonMetadataPointer) ≡ some (Answer.block (pointerAt 0x102c))
-  pub says-initialization : told image (Key.initialization 0) ≡ some (Answer.initialization (record { cache = 0; incomplete = 0x1030; completion = 0x1100 }))
-  pub says-pointer : told image (Key.pointer 0) ≡ some (Answer.pointer 0x1030)
-  pub says-offsets : told image (Key.offsets 0 0x1030) ≡ some (Answer.offsets (0 ∷ 8 ∷ []))
-  pub says-context-0 : told image (Key.context 0 0) ≡ some (Answer.context (record { address = 0x1078; flags = 2; parent = 0x1084 }))
-  pub says-context-1 : told image (Key.context 0 1) ≡ some (Answer.context (record { address = 0x1084; flags = 0; parent = 0 }))
-  pub no-context-2 : told image (Key.context 0 2) ≡ none
-  pub says-field-descriptor : told image (Key.fieldDescriptor 0)
+  pub says-row : told elmImage (Key.row 0) ≡ some (Answer.row (record { address = 0x1004; flags = 0x90011; parent = 0x1078; name = place 0 3; nameBytes = letters "Elm" }))
+  pub says-body : told elmImage (Key.body 0) ≡ some (Answer.body (ofStruct 2 2))
+  pub says-block-initialization : told elmImage (Key.block 0 BlockKind.SingletonMetadataInit) ≡ some (Answer.block (initializationAt 0x1020))
+  pub says-block-pointer : told elmImage (Key.block 0 BlockKind.SingletonMetadataPointer) ≡ some (Answer.block (pointerAt 0x102c))
+  pub says-initialization : told elmImage (Key.initialization 0) ≡ some (Answer.initialization (record { cache = 0; incomplete = 0x1030; completion = 0x1100 }))
+  pub says-pointer : told elmImage (Key.pointer 0) ≡ some (Answer.pointer 0x1030)
+  pub says-offsets : told elmImage (Key.offsets 0 0x1030) ≡ some (Answer.offsets (0 ∷ 8 ∷ []))
+  pub says-context-0 : told elmImage (Key.context 0 0) ≡ some (Answer.context (record { address = 0x1078; flags = 2; parent = 0x1084 }))
+  pub says-context-1 : told elmImage (Key.context 0 1) ≡ some (Answer.context (record { address = 0x1084; flags = 0; parent = 0 }))
+  pub no-context-2 : told elmImage (Key.context 0 2) ≡ none
+  pub says-field-descriptor : told elmImage (Key.fieldDescriptor 0)
       ≡ some (Answer.fieldDescriptor (record { address = 0x1048; «mangled_type_name_va» = 0; «superclass_va» = 0; kind = FieldDescriptorKind.Struct; «field_record_size» = 16; «num_fields» = 2 }))
-  pub no-field-descriptor-1 : told image (Key.fieldDescriptor 1) ≡ none
-  pub says-field-record-1 : told image (Key.fieldRecord 0 1) ≡ some (Answer.fieldRecord (record { address = 0x1068; words = 2 ∷ 0x10a0 ∷ 0x109d ∷ [] }))
-  pub no-field-record-2 : told image (Key.fieldRecord 0 2) ≡ none
+  pub no-field-descriptor-1 : told elmImage (Key.fieldDescriptor 1) ≡ none
+  pub says-field-record-1 : told elmImage (Key.fieldRecord 0 1) ≡ some (Answer.fieldRecord (record { address = 0x1068; words = 2 ∷ 0x10a0 ∷ 0x109d ∷ [] }))
+  pub no-field-record-2 : told elmImage (Key.fieldRecord 0 2) ≡ none
   -- each ends where its last range does: a cut there keeps it, and one a byte before does not
-  pub cut-44 : told (take 44 image) (Key.initialization 0) ≡ told image (Key.initialization 0)
-  pub cut-43 : told (take 43 image) (Key.initialization 0) ≡ none
-  pub cut-48 : told (take 48 image) (Key.pointer 0) ≡ told image (Key.pointer 0)
-  pub cut-47 : told (take 47 image) (Key.pointer 0) ≡ none
-  pub cut-72 : told (take 72 image) (Key.offsets 0 0x1030) ≡ told image (Key.offsets 0 0x1030)
-  pub cut-71 : told (take 71 image) (Key.offsets 0 0x1030) ≡ none
-  pub cut-116 : told (take 116 image) (Key.fieldRecord 0 1) ≡ told image (Key.fieldRecord 0 1)
-  pub cut-115 : told (take 115 image) (Key.fieldRecord 0 1) ≡ none
+  pub cut-44 : told (take 44 elmImage) (Key.initialization 0) ≡ told elmImage (Key.initialization 0)
+  pub cut-43 : told (take 43 elmImage) (Key.initialization 0) ≡ none
+  pub cut-48 : told (take 48 elmImage) (Key.pointer 0) ≡ told elmImage (Key.pointer 0)
+  pub cut-47 : told (take 47 elmImage) (Key.pointer 0) ≡ none
+  pub cut-72 : told (take 72 elmImage) (Key.offsets 0 0x1030) ≡ told elmImage (Key.offsets 0 0x1030)
+  pub cut-71 : told (take 71 elmImage) (Key.offsets 0 0x1030) ≡ none
+  pub cut-116 : told (take 116 elmImage) (Key.fieldRecord 0 1) ≡ told elmImage (Key.fieldRecord 0 1)
+  pub cut-115 : told (take 115 elmImage) (Key.fieldRecord 0 1) ≡ none
 
-pub worked : Worked
+pub elm-worked : ElmWorked
 unfolding run path bind bytesPlace within textOffset extent segmentsOf fileOffset decides inFile table following goesOn textAt textLength untilNul unsignedIn signedIn littleAt signedAt bytesAt littleEndian twosComplement relativeAddress relativePointer descriptor rowName slotRow mapReads item structBody bodyBytes body slotBody rowAt below blockAt recordAt endAt passed reached blockIn block slotBlock slotTarget targets singletonInit singletonPointer slotInit slotPointer vector u32s fieldOffsets slotOffsets entryAt upTo entry fieldStep descriptorFrom descriptorAt descriptorRecord headerIn header headerAt contextOfSlot kindOf fieldKind
-worked =
+elm-worked =
     record {
       row = refl;
       body = refl;

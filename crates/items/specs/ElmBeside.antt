@@ -4,12 +4,13 @@ use Prim.Native.Nat.{ℕ, zero, suc}
 use native.Mathlib.Omega.{arith}
 use mathlib.Core.Path.{_≡_, refl, ap, _∙_}
 use mathlib.Core.Logic.{inl, inr}
-use mathlib.Core.List.{List, [], _∷_}
+use mathlib.Core.List.{List, [], _∷_, _++_}
 use mathlib.Core.Option.{Option, some, none}
 use lib.ListN.{take, drop}
 use borrow.Author.Tests.{le-ltb}
 use Rattle.utf8.specs.Table.{table}
 use Rattle.utf8.specs.Text.{following, goesOn, untilNul, textLength}
+use Rattle.util.specs.Letters.{letters}
 use Rattle.util.specs.LittleEndian.{littleEndian, bytesAt, littleAt, twosComplement, signedAt, unsignedIn, signedIn}
 use Rattle.util.specs.Pointer.{relativePointer, relativeAddress}
 use Rattle.segment.specs.Segments.{segmentsOf, fileOffset, decides, inFile}
@@ -33,7 +34,7 @@ use Rattle.items.specs.Beside.{toldAt, Beside, besideOf}
 use Rattle.items.specs.ClearLaws.{nowhere, there}
 use Rattle.items.specs.TextsLaws.{besideKey, no-item}
 use Rattle.items.specs.ListedLaws.{no-slot, no-row, no-record}
-use Rattle.items.specs.Elm.{image, segments}
+use Rattle.items.specs.Elm.{elmImage, elmSegments}
 use Rattle.items.specs.Elm as Elm
 use Rattle.items.specs.ElmTexts as ElmTexts
 
@@ -41,66 +42,66 @@ use Rattle.items.specs.ElmTexts as ElmTexts
 abbrev named : Sections
 named =
     record {
-      types = Elm.sections .types;
-      typesStart = Elm.sections .typesStart;
-      fields = 0xb8 ∷ 0xff ∷ 0xff ∷ 0xff ∷ (84 ∷ 0 ∷ 0 ∷ 0 ∷ drop 8 (Elm.sections .fields));
-      fieldsStart = Elm.sections .fieldsStart;
+      types = Elm.elmSections .types;
+      typesStart = Elm.elmSections .typesStart;
+      fields = 0xb8 ∷ 0xff ∷ 0xff ∷ 0xff ∷ (84 ∷ 0 ∷ 0 ∷ 0 ∷ drop 8 (Elm.elmSections .fields));
+      fieldsStart = Elm.elmSections .fieldsStart;
     }
 
 -- the string section has `old` at the address of field 0's name
 abbrev strings : List ℕ
-strings = 111 ∷ 108 ∷ 100 ∷ 0 ∷ []
+strings = letters "old" ++ 0 ∷ []
 
 abbrev told : List ℕ → NameKey → Option Beside
-told i n = besideOf i segments strings 0x1099 named n
+told i n = besideOf i elmSegments strings 0x1099 named n
 
 -- these bytes at an offset of the image
 abbrev text : ℕ → ℕ → List ℕ → Option Beside
 text o n t = some (record { place = inImage (place o n); bytes = t })
 
 abbrev Clears : NameKey → Type 0
-Clears n = ClearOf image segments Elm.sections 152 n
+Clears n = ClearOf elmImage elmSegments Elm.elmSections 152 n
 
-pub record Worked : Type 0 where
+pub record ElmBesideWorked : Type 0 where
   -- the names of a row, of a module (an anonymous context has none) and of two fields
-  pub row : told image (NameKey.descriptor 0) ≡ text 0 3 (69 ∷ 108 ∷ 109 ∷ [])
-  pub anonymous : told image (NameKey.context 0 0) ≡ none
-  pub of-module : told image (NameKey.context 0 1) ≡ text 144 4 (80 ∷ 97 ∷ 114 ∷ 107 ∷ [])
-  pub field-0 : told image (NameKey.field 0 0) ≡ text 153 3 (97 ∷ 103 ∷ 101 ∷ [])
-  pub field-1 : told image (NameKey.field 0 1) ≡ text 157 2 (105 ∷ 100 ∷ [])
+  pub row : told elmImage (NameKey.descriptor 0) ≡ text 0 3 (letters "Elm")
+  pub anonymous : told elmImage (NameKey.context 0 0) ≡ none
+  pub of-module : told elmImage (NameKey.context 0 1) ≡ text 144 4 (letters "Park")
+  pub field-0 : told elmImage (NameKey.field 0 0) ≡ text 153 3 (letters "age")
+  pub field-1 : told elmImage (NameKey.field 0 1) ≡ text 157 2 (letters "id")
   -- and of other types; a struct has no superclass
-  pub field-type : told image (NameKey.fieldType 0 1) ≡ text 160 2 (83 ∷ 105 ∷ [])
-  pub descriptor-type : told image (NameKey.descriptorType 0) ≡ text 0 3 (69 ∷ 108 ∷ 109 ∷ [])
-  pub descriptor-superclass : told image (NameKey.descriptorSuperclass 0) ≡ text 160 2 (83 ∷ 105 ∷ [])
-  pub superclass : told image (NameKey.superclass 0) ≡ none
+  pub field-type : told elmImage (NameKey.fieldType 0 1) ≡ text 160 2 (letters "Si")
+  pub descriptor-type : told elmImage (NameKey.descriptorType 0) ≡ text 0 3 (letters "Elm")
+  pub descriptor-superclass : told elmImage (NameKey.descriptorSuperclass 0) ≡ text 160 2 (letters "Si")
+  pub superclass : told elmImage (NameKey.superclass 0) ≡ none
   -- cut to 152: the module's name is whole; the names of fields and types are lost, and one of them the string section has
-  pub cut-module : told (take 152 image) (NameKey.context 0 1) ≡ told image (NameKey.context 0 1)
-  pub cut-field-0 : told (take 152 image) (NameKey.field 0 0) ≡ some (record { place = inStrings (place 0 3); bytes = 111 ∷ 108 ∷ 100 ∷ [] })
-  pub cut-field-1 : told (take 152 image) (NameKey.field 0 1) ≡ none
-  pub cut-type : told (take 152 image) (NameKey.fieldType 0 1) ≡ none
+  pub cut-module : told (take 152 elmImage) (NameKey.context 0 1) ≡ told elmImage (NameKey.context 0 1)
+  pub cut-field-0 : told (take 152 elmImage) (NameKey.field 0 0) ≡ some (record { place = inStrings (place 0 3); bytes = letters "old" })
+  pub cut-field-1 : told (take 152 elmImage) (NameKey.field 0 1) ≡ none
+  pub cut-type : told (take 152 elmImage) (NameKey.fieldType 0 1) ≡ none
   -- cut to 143: the module is there without its name, though its offset arrived; cut to 115: field 1 and its name are gone
-  pub lost-name : told (take 143 image) (NameKey.context 0 1) ≡ none
-  pub lost-field : told (take 115 image) (NameKey.field 0 1) ≡ none
+  pub lost-name : told (take 143 elmImage) (NameKey.context 0 1) ≡ none
+  pub lost-field : told (take 115 elmImage) (NameKey.field 0 1) ≡ none
   -- the premise over all texts
   pub clear : (n : NameKey) → Clears n
 
 -- ---- texts beside items that are not there
 
-lost : (n : NameKey) (k : Key) → besideKey n ≡ some k → run image segments (item Elm.sections k) ≡ none → Clears n
-lost n k e f = nowhere image segments Elm.sections 152 n (no-item image segments Elm.sections n k e f)
+lost : (n : NameKey) (k : Key) → besideKey n ≡ some k → run elmImage elmSegments (item Elm.elmSections k) ≡ none → Clears n
+lost n k e f = nowhere elmImage elmSegments Elm.elmSections 152 n (no-item elmImage elmSegments Elm.elmSections n k e f)
 
-no-records : (k : ℕ) → run image segments (item Elm.sections (Key.fieldRecord 0 (suc (suc k)))) ≡ none
+no-records : (k : ℕ) → run elmImage elmSegments (item Elm.elmSections (Key.fieldRecord 0 (suc (suc k)))) ≡ none
 unfolding run bind unsignedIn signedIn littleAt signedAt bytesAt littleEndian twosComplement relativeAddress relativePointer entry fieldStep descriptorFrom descriptorAt descriptorRecord fieldKind mapReads item
 no-records k = rw (le-ltb (suc (suc k)) 2 (omega arith)) refl
 
-no-descriptors : (j : ℕ) → run image segments (item Elm.sections (Key.fieldDescriptor (suc j))) ≡ none
+no-descriptors : (j : ℕ) → run elmImage elmSegments (item Elm.elmSections (Key.fieldDescriptor (suc j))) ≡ none
 unfolding run bind unsignedIn signedIn littleAt signedAt bytesAt littleEndian twosComplement relativeAddress relativePointer fieldStep descriptorFrom descriptorAt fieldKind mapReads item
 no-descriptors zero = refl
 no-descriptors (suc j) = refl
 
-pub worked : Worked
+pub elm-beside-worked : ElmBesideWorked
 unfolding run bind bytesPlace within textOffset textPlace extent segmentsOf fileOffset decides inFile table following goesOn textAt partOf textLength untilNul unsignedIn signedIn littleAt signedAt bytesAt littleEndian twosComplement relativeAddress relativePointer descriptor rowName slotRow headerIn header name nameAt slotName contextName headerAt contextOfSlot kindOf contextNameAt structBody bodyBytes body slotBody entryAt upTo entry fieldStep descriptorFrom descriptorAt descriptorRecord fieldKind mapReads nameOf sectionText fieldName toldAt besideOf
-worked =
+elm-beside-worked =
     record {
       row = refl;
       anonymous = refl;
@@ -120,27 +121,27 @@ worked =
       clear = all;
     }
   where
-    type-at : (k : ℕ) → run image segments (nameOf Elm.sections (NameKey.fieldType 0 k)) ≡ some 0x10a0 → Clears (NameKey.fieldType 0 k)
-    type-at k e = there image segments Elm.sections 152 (NameKey.fieldType 0 k) 0x10a0 160 e refl (inl (omega arith))
+    type-at : (k : ℕ) → run elmImage elmSegments (nameOf Elm.elmSections (NameKey.fieldType 0 k)) ≡ some 0x10a0 → Clears (NameKey.fieldType 0 k)
+    type-at k e = there elmImage elmSegments Elm.elmSections 152 (NameKey.fieldType 0 k) 0x10a0 160 e refl (inl (omega arith))
 
     -- no text is looked up at address 0
-    at-zero : (n : NameKey) → run image segments (nameOf Elm.sections n) ≡ some 0 → Clears n
+    at-zero : (n : NameKey) → run elmImage elmSegments (nameOf Elm.elmSections n) ≡ some 0 → Clears n
     at-zero n e a f o g =
         let q : 0 ≡ a = cc in
-        let u : _≡_ {A = Option ℕ} none (some o) = ap (textOffset segments) q ∙ g in
+        let u : _≡_ {A = Option ℕ} none (some o) = ap (textOffset elmSegments) q ∙ g in
         let z : _≡_ {A = ℕ} 0 1 = cc in
         absurd (omega arith)
 
     all : (n : NameKey) → Clears n
-    all (NameKey.descriptor i) = ElmTexts.worked .rows-clear 152 (omega arith) i
-    all (NameKey.context i k) = ElmTexts.worked .contexts-clear 152 (inr (omega arith)) i k
-    all (NameKey.field j k) = ElmTexts.worked .fields-clear 152 (inl (omega arith)) j k
-    all (NameKey.superclass zero) = nowhere image segments Elm.sections 152 (NameKey.superclass 0) refl
-    all (NameKey.superclass (suc i)) = lost (NameKey.superclass (suc i)) (Key.body (suc i)) refl (no-row image segments Elm.sections (Key.body (suc i)) (suc i) refl (no-slot image segments Elm.sections (suc i) (omega arith)))
+    all (NameKey.descriptor i) = ElmTexts.elm-texts-worked .rows-clear 152 (omega arith) i
+    all (NameKey.context i k) = ElmTexts.elm-texts-worked .contexts-clear 152 (inr (omega arith)) i k
+    all (NameKey.field j k) = ElmTexts.elm-texts-worked .fields-clear 152 (inl (omega arith)) j k
+    all (NameKey.superclass zero) = nowhere elmImage elmSegments Elm.elmSections 152 (NameKey.superclass 0) refl
+    all (NameKey.superclass (suc i)) = lost (NameKey.superclass (suc i)) (Key.body (suc i)) refl (no-row elmImage elmSegments Elm.elmSections (Key.body (suc i)) (suc i) refl (no-slot elmImage elmSegments Elm.elmSections (suc i) (omega arith)))
     all (NameKey.fieldType zero zero) = type-at 0 refl
     all (NameKey.fieldType zero (suc zero)) = type-at 1 refl
     all (NameKey.fieldType zero (suc (suc k))) = lost (NameKey.fieldType 0 (suc (suc k))) (Key.fieldRecord 0 (suc (suc k))) refl (no-records k)
-    all (NameKey.fieldType (suc j) k) = lost (NameKey.fieldType (suc j) k) (Key.fieldRecord (suc j) k) refl (no-record image segments Elm.sections (suc j) k (no-descriptors j))
+    all (NameKey.fieldType (suc j) k) = lost (NameKey.fieldType (suc j) k) (Key.fieldRecord (suc j) k) refl (no-record elmImage elmSegments Elm.elmSections (suc j) k (no-descriptors j))
     all (NameKey.descriptorType zero) = at-zero (NameKey.descriptorType 0) refl
     all (NameKey.descriptorType (suc j)) = lost (NameKey.descriptorType (suc j)) (Key.fieldDescriptor (suc j)) refl (no-descriptors j)
     all (NameKey.descriptorSuperclass zero) = at-zero (NameKey.descriptorSuperclass 0) refl

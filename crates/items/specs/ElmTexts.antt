@@ -27,14 +27,14 @@ use Rattle.parent.specs.Chain.{contextsMost, headerAt}
 use Rattle.items.specs.Items.{mapReads, rowOfSlot, contextOfSlot}
 use Rattle.items.specs.Texts.{NameKey, descriptorName, slotNameAddress, contextNameAt, nameOf, ClearOf}
 use Rattle.items.specs.ClearLaws.{Outside, nowhere, there, asked}
-use Rattle.items.specs.Elm.{image, segments, sections}
+use Rattle.items.specs.Elm.{elmImage, elmSegments, elmSections}
 
 -- the premise for one name, and where the name is looked up
 abbrev Clears : ℕ → NameKey → Type 0
-Clears c n = ClearOf image segments sections c n
+Clears c n = ClearOf elmImage elmSegments elmSections c n
 
 abbrev named : NameKey → Option ℕ
-named n = run image segments (nameOf sections n)
+named n = run elmImage elmSegments (nameOf elmSections n)
 
 -- ---- names that are looked up nowhere
 
@@ -51,7 +51,7 @@ no-context : (k : ℕ) → named (NameKey.context 0 (suc (suc k))) ≡ none
 unfolding run bind bytesPlace within textOffset segmentsOf fileOffset decides inFile table following goesOn textAt textLength untilNul unsignedIn signedIn littleAt signedAt bytesAt littleEndian twosComplement relativeAddress relativePointer descriptor rowName slotRow headerIn header headerAt contextOfSlot kindOf contextNameAt nameOf
 no-context k = go (ltb (suc (suc k)) contextsMost) k
   where
-    go : (b : Bool) (k : ℕ) → run image segments (bind (cond b (bind (rowOfSlot sections 0) (λ r. headerAt (suc (suc k)) (r .parent))) nothing) contextNameAt) ≡ none
+    go : (b : Bool) (k : ℕ) → run elmImage elmSegments (bind (cond b (bind (rowOfSlot elmSections 0) (λ r. headerAt (suc (suc k)) (r .parent))) nothing) contextNameAt) ≡ none
     go true zero = refl
     go true (suc k) = refl
     go false k = refl
@@ -63,7 +63,7 @@ no-slot i k = rw (le-ltb (suc i) 1 (omega arith)) (go (ltb k contextsMost))
     lost : Reads Header
     lost = nothing
 
-    go : (b : Bool) → run image segments (bind (cond b nothing lost) contextNameAt) ≡ none
+    go : (b : Bool) → run elmImage elmSegments (bind (cond b nothing lost) contextNameAt) ≡ none
     go true = refl
     go false = refl
 
@@ -87,7 +87,7 @@ ofModule = NameKey.context 0 1
 abbrev ofField : ℕ → NameKey
 ofField k = NameKey.field 0 k
 
-pub record Worked : Type 0 where
+pub record ElmTextsWorked : Type 0 where
   -- `Elm`, `Park`, `age` and `id`, by their addresses
   pub row-at : named ofRow ≡ some 0x1000
   pub module-at : named ofModule ≡ some 0x1090
@@ -103,9 +103,9 @@ pub record Worked : Type 0 where
   pub field-0-not-clear : (c : ℕ) → 153 ≤ c → c < 157 → Clears c (ofField 0) → ⊥
   pub field-1-not-clear : (c : ℕ) → 157 ≤ c → c < 160 → Clears c (ofField 1) → ⊥
 
-pub worked : Worked
+pub elm-texts-worked : ElmTextsWorked
 unfolding run bind bytesPlace within textOffset extent segmentsOf fileOffset decides inFile table following goesOn textAt textLength untilNul unsignedIn signedIn littleAt signedAt bytesAt littleEndian twosComplement relativeAddress relativePointer descriptor rowName slotRow descriptorName slotNameAddress headerIn header headerAt contextOfSlot kindOf contextNameAt entryAt upTo entry fieldStep descriptorFrom descriptorAt descriptorRecord fieldKind mapReads nameOf
-worked =
+elm-texts-worked =
     record {
       row-at = refl;
       module-at = refl;
@@ -114,24 +114,24 @@ worked =
       rows-clear = rows;
       contexts-clear = contexts;
       fields-clear = fields;
-      row-not-clear = λ c h w. ⊎-elim (λ l. omega arith) (λ l. omega arith) (asked image segments sections c ofRow 0x1000 0 refl refl w);
-      module-not-clear = λ c h g w. ⊎-elim (λ l. omega arith) (λ l. omega arith) (asked image segments sections c ofModule 0x1090 144 refl refl w);
-      field-0-not-clear = λ c h g w. ⊎-elim (λ l. omega arith) (λ l. omega arith) (asked image segments sections c (ofField 0) 0x1099 153 refl refl w);
-      field-1-not-clear = λ c h g w. ⊎-elim (λ l. omega arith) (λ l. omega arith) (asked image segments sections c (ofField 1) 0x109d 157 refl refl w);
+      row-not-clear = λ c h w. ⊎-elim (λ l. omega arith) (λ l. omega arith) (asked elmImage elmSegments elmSections c ofRow 0x1000 0 refl refl w);
+      module-not-clear = λ c h g w. ⊎-elim (λ l. omega arith) (λ l. omega arith) (asked elmImage elmSegments elmSections c ofModule 0x1090 144 refl refl w);
+      field-0-not-clear = λ c h g w. ⊎-elim (λ l. omega arith) (λ l. omega arith) (asked elmImage elmSegments elmSections c (ofField 0) 0x1099 153 refl refl w);
+      field-1-not-clear = λ c h g w. ⊎-elim (λ l. omega arith) (λ l. omega arith) (asked elmImage elmSegments elmSections c (ofField 1) 0x109d 157 refl refl w);
     }
   where
     rows : (c : ℕ) → 4 ≤ c → (i : ℕ) → Clears c (NameKey.descriptor i)
-    rows c h zero = there image segments sections c ofRow 0x1000 0 refl refl (inr h)
-    rows c h (suc i) = nowhere image segments sections c (NameKey.descriptor (suc i)) (no-row i)
+    rows c h zero = there elmImage elmSegments elmSections c ofRow 0x1000 0 refl refl (inr h)
+    rows c h (suc i) = nowhere elmImage elmSegments elmSections c (NameKey.descriptor (suc i)) (no-row i)
 
     contexts : (c : ℕ) → Outside 144 149 c → (i k : ℕ) → Clears c (NameKey.context i k)
-    contexts c h zero zero = nowhere image segments sections c (NameKey.context 0 0) anonymous
-    contexts c h zero (suc zero) = there image segments sections c ofModule 0x1090 144 refl refl h
-    contexts c h zero (suc (suc k)) = nowhere image segments sections c (NameKey.context 0 (suc (suc k))) (no-context k)
-    contexts c h (suc i) k = nowhere image segments sections c (NameKey.context (suc i) k) (no-slot i k)
+    contexts c h zero zero = nowhere elmImage elmSegments elmSections c (NameKey.context 0 0) anonymous
+    contexts c h zero (suc zero) = there elmImage elmSegments elmSections c ofModule 0x1090 144 refl refl h
+    contexts c h zero (suc (suc k)) = nowhere elmImage elmSegments elmSections c (NameKey.context 0 (suc (suc k))) (no-context k)
+    contexts c h (suc i) k = nowhere elmImage elmSegments elmSections c (NameKey.context (suc i) k) (no-slot i k)
 
     fields : (c : ℕ) → Outside 153 160 c → (j k : ℕ) → Clears c (NameKey.field j k)
-    fields c h zero zero = there image segments sections c (ofField 0) 0x1099 153 refl refl (⊎-elim (λ l. inl l) (λ l. inr (omega arith)) h)
-    fields c h zero (suc zero) = there image segments sections c (ofField 1) 0x109d 157 refl refl (⊎-elim (λ l. inl (omega arith)) (λ l. inr l) h)
-    fields c h zero (suc (suc k)) = nowhere image segments sections c (NameKey.field 0 (suc (suc k))) (no-record k)
-    fields c h (suc j) k = nowhere image segments sections c (NameKey.field (suc j) k) (no-descriptor j k)
+    fields c h zero zero = there elmImage elmSegments elmSections c (ofField 0) 0x1099 153 refl refl (⊎-elim (λ l. inl l) (λ l. inr (omega arith)) h)
+    fields c h zero (suc zero) = there elmImage elmSegments elmSections c (ofField 1) 0x109d 157 refl refl (⊎-elim (λ l. inl (omega arith)) (λ l. inr l) h)
+    fields c h zero (suc (suc k)) = nowhere elmImage elmSegments elmSections c (NameKey.field 0 (suc (suc k))) (no-record k)
+    fields c h (suc j) k = nowhere elmImage elmSegments elmSections c (NameKey.field (suc j) k) (no-descriptor j k)

@@ -67,13 +67,13 @@ pub record Table : Type 0 where
   pub count : ℕ
   pub base : ℕ
 
-abbrev pub tableIn : BlockBody → Option Table
-tableIn (BlockBody.Table o n a) = some (record { count = n; base = a })
-tableIn (BlockBody.At a) = none
-tableIn (BlockBody.Set s n) = none
+abbrev pub bodyTable : BlockBody → Option Table
+bodyTable (BlockBody.Table o n a) = some (record { count = n; base = a })
+bodyTable (BlockBody.At a) = none
+bodyTable (BlockBody.Set s n) = none
 
 abbrev pub tableOf : Block → Option Table
-tableOf b = tableIn (b .body)
+tableOf b = bodyTable (b .body)
 
 -- an entry of a slot's table: the block, and the entries up to it
 unfoldable pub entryOfSlot : Sections → ℕ → EntryKind → ℕ → Reads Entry

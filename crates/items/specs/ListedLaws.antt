@@ -1,7 +1,7 @@
 -- The calls give the items. Stepping from a walk's start to its end gives the items of a kind, in order and with their keys, and nothing else: the rows of a types
 -- section (`rows-listed`), the blocks behind a body (`blocks-listed`), the entries of a block (`entries-listed`), the contexts around a row (`contexts-listed`,
 -- with their names `contexts-named`), the descriptors of a fields section (`descriptors-listed`) and their records (`records-listed`). What is read by one call is its item (`body-listed`, `block-listed`,
--- `init-listed`, `pointer-listed`, `offsets-listed`, `static-listed`). An item of a slot without a row is none (`no-row`).
+-- `init-listed`, `pointer-listed`, `offsets-listed`, `static-offsets-listed`). An item of a slot without a row is none (`no-row`).
 use Prim.Native.Nat.{ℕ, zero, suc, _+_, _*_, _^_, _≤_, _<_}
 use native.Mathlib.Decide.{decLt}
 use native.Mathlib.Omega.{arith}
@@ -16,13 +16,13 @@ use Rattle.runtime.specs.Reads.{Reads, done, nothing, andThen, run, bind}
 use Rattle.runtime.specs.ReadsLaws.{run-bind}
 use Rattle.runtime.specs.PathLaws.{bytes-read}
 use Rattle.classtrailers.specs.Blocks.{Trailing, placedBlock, tableBlock, Row, blockTable, rowAt, rowNumber, block, withBlock, blocksOf, blocks}
-use Rattle.classtrailers.specs.BlocksLaws.{stepped as steppedBlocks, stepped-blocks, RecordedAs, block-recorded}
+use Rattle.classtrailers.specs.BlocksLaws.{steppedBlocks, stepped-blocks, RecordedAs, block-recorded}
 use Rattle.classtrailers.specs.declared.block.Block.{Block}
 use Rattle.classtrailers.specs.declared.block.BlockKind.{BlockKind}
 use Rattle.typedescriptor.specs.Row.{TypeRow}
 use Rattle.typedescriptor.specs.Slots.{slots, Found, found, rowsFrom, rows}
 use Rattle.typedescriptor.specs.RowLaws.{past-slots}
-use Rattle.typedescriptor.specs.SlotsLaws.{stepped as steppedRows, stepped-rows}
+use Rattle.typedescriptor.specs.SlotsLaws.{steppedRows, stepped-rows}
 use Rattle.type_body.specs.Body.{Body, body, trailing, trailingStart}
 use Rattle.type_body.specs.Singleton.{needing, singletonInit, singletonPointer}
 use Rattle.type_body.specs.Items.{slotBlock, slotPointer, pointerOfBlock}
@@ -32,15 +32,15 @@ use Rattle.field_offsets.specs.Offsets.{fieldOffsets, Offsets, offsetsPlace, st
 use Rattle.field_offsets.specs.OffsetsLaws as Vector
 use Rattle.field_offsets.specs.OffsetsLaws.{offsetList}
 use Rattle.vtable.specs.Entries.{Layout, method, override, defaultOverride, prespecialization, Entry, entry, start}
-use Rattle.vtable.specs.ListLaws.{listed as listedEntries, listed-all}
+use Rattle.vtable.specs.ListLaws.{listed as listedEntries, entries-listed-all}
 use Rattle.field.specs.declared.iter.FieldDescriptor.{FieldDescriptor}
 use Rattle.field.specs.Fields.{descriptorAt}
-use Rattle.field.specs.FieldsLaws.{listed as listedDescriptors, listed-all as descriptors-all}
+use Rattle.field.specs.FieldsLaws.{listed as listedDescriptors, descriptors-listed-all as descriptors-all}
 use Rattle.field.specs.Records.{recordsOf, descriptorRecord}
 use Rattle.field.specs.RecordsLaws.{listed as steppedRecords, listed-records}
 use Rattle.parent.specs.Context.{Header, Context, name, contextName, withName}
 use Rattle.parent.specs.Chain.{contextsMost, headerAt, contextAt, chain}
-use Rattle.parent.specs.ChainLaws.{chain-at, stepped as steppedContexts, stepped-all}
+use Rattle.parent.specs.ChainLaws.{chain-at, steppedChain as steppedContexts, stepped-chain-all}
 use Rattle.parent.specs.PathLaws.{chain-length}
 use Rattle.items.specs.Keys.{Sections, EntryKind, Key, Answer, slotOf}
 use Rattle.items.specs.Items.{rowOfSlot, bodyOfSlot, blockOfSlot, initOfSlot, pointerOfSlot, offsetsOfSlot, tableKind, entryLayout, Table, tableOf, entryOfSlot, contextOfSlot, item}
@@ -128,11 +128,11 @@ abbrev pub blockKeys : ℕ → List BlockKind → List Key
 blockKeys i [] = []
 blockKeys i (k ∷ ks) = Key.block i k ∷ blockKeys i ks
 
-abbrev pub kinds : List BlockKind
-kinds = map (λ (r : Row). r .kind) blockTable
+abbrev pub blockKinds : List BlockKind
+blockKinds = map (λ (r : Row). r .kind) blockTable
 
 -- each kind is one of them
-pub kind-in : (k : BlockKind) → getElem? kinds (rowNumber k) ≡ some k
+pub kind-in : (k : BlockKind) → getElem? blockKinds (rowNumber k) ≡ some k
 kind-in BlockKind.Generic = refl
 kind-in BlockKind.ResilientSuperclass = refl
 kind-in BlockKind.ForeignMetadataInit = refl
@@ -200,9 +200,9 @@ module _ (image segments : List ℕ) (s : Sections) (i : ℕ) (r : TypeRow) (is-
     -- a walk that starts behind the body: as many steps as there are kinds, or more, give the blocks of all kinds
     pub blocks-listed : (n : ℕ) → 11 ≤ n
         → map (blockItem i) (steppedBlocks image segments n (record { trailing = trailing (r .flags) b; row = 0; address = trailingStart (r .address) b }))
-        ≡ itemsOf image segments s (blockKeys i kinds)
+        ≡ itemsOf image segments s (blockKeys i blockKinds)
     unfolding blocks
-    blocks-listed n h = rw (stepped-blocks image segments (trailing (r .flags) b) (trailingStart (r .address) b) n h) (blocks-items kinds)
+    blocks-listed n h = rw (stepped-blocks image segments (trailing (r .flags) b) (trailingStart (r .address) b) n h) (blocks-items blockKinds)
 
     -- the offsets by the descriptor's own singleton pointer are those for the metadata address that it gives, and without one there are none
     static-by : staticPlace image segments (r .address) (r .flags) ≡ andThen (run image segments (pointerOfSlot s i)) (offsetsPlace image segments (some b))
@@ -215,10 +215,10 @@ module _ (image segments : List ℕ) (s : Sections) (i : ℕ) (r : TypeRow) (is-
         (sym (run-bind image segments pointerOfBlock (blockOfSlot s i BlockKind.SingletonMetadataPointer))) in
         rw (its, metadata)
 
-    pub static-listed : (m : ℕ) → run image segments (item s (Key.pointer i)) ≡ some (Answer.pointer m)
+    pub static-offsets-listed : (m : ℕ) → run image segments (item s (Key.pointer i)) ≡ some (Answer.pointer m)
         → staticPlace image segments (r .address) (r .flags) ≡ offsetsPlace image segments (some b) m
     unfolding item
-    static-listed m is-pointer = static-by ∙ rw (un-map image segments Answer.pointer (pointerOfSlot s i) m (λ a e. cc) is-pointer)
+    static-offsets-listed m is-pointer = static-by ∙ rw (un-map image segments Answer.pointer (pointerOfSlot s i) m (λ a e. cc) is-pointer)
 
     pub no-static : run image segments (item s (Key.pointer i)) ≡ none → staticPlace image segments (r .address) (r .flags) ≡ none
     unfolding item
@@ -236,7 +236,7 @@ module _ (image segments : List ℕ) (s : Sections) (i : ℕ) (r : TypeRow) (is-
       → Option·map (λ (c : Context). Answer.context (c .header)) (getElem? (steppedContexts image segments n (r .parent) 0) k) ≡ run image segments (item s (Key.context i k))
   unfolding item contextOfSlot run contextAt withName
   contexts-listed n k h =
-      rw (stepped-all image segments n (r .parent) h) (go (decLt k contextsMost) ∙ sym (run-map image segments Answer.context (contextOfSlot s i k)))
+      rw (stepped-chain-all image segments n (r .parent) h) (go (decLt k contextsMost) ∙ sym (run-map image segments Answer.context (contextOfSlot s i k)))
     where
       header : (x : Option Header) → Option·map (λ (c : Context). Answer.context (c .header)) (Option·map (withName image segments) x) ≡ Option·map Answer.context x
       header none = refl
@@ -258,7 +258,7 @@ module _ (image segments : List ℕ) (s : Sections) (i : ℕ) (r : TypeRow) (is-
       → Option·map ofName (andThen (getElem? (steppedContexts image segments n (r .parent) 0) k) (λ c. c .name)) ≡ besideOf image segments strings start s (NameKey.context i k)
   unfolding contextOfSlot run contextAt withName contextName
   contexts-named strings start n k h =
-      rw (stepped-all image segments n (r .parent) h)
+      rw (stepped-chain-all image segments n (r .parent) h)
       (ap (Option·map ofName) (go (decLt k contextsMost))
       ∙ sym (beside-read image segments strings start s (NameKey.context i k) refl ∙ ap (Option·map ofName) its-run))
     where
@@ -339,7 +339,7 @@ module _ (image segments : List ℕ) (s : Sections) (i : ℕ) where
           let p : Block → Reads Entry = λ b. needing (tableOf b) (λ t. entry (entryLayout e) (t .base) (t .count) k) in
           let its : run image segments (entryOfSlot s i e k) ≡ run image segments (entry (entryLayout e) (t .base) (t .count) k)
           = run-bind image segments p (blockOfSlot s i (tableKind e)) ∙ rw (entries-block, is-table) in
-          ap (Option·map Answer.entry) (listed-all image segments (entryLayout e) (t .base) (t .count) n k h ∙ sym its)
+          ap (Option·map Answer.entry) (entries-listed-all image segments (entryLayout e) (t .base) (t .count) n k h ∙ sym its)
           ∙ sym (run-map image segments Answer.entry (entryOfSlot s i e k))
 
   -- by the four kinds: the calls that step, and what they are given

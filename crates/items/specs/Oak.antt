@@ -10,6 +10,7 @@ use mathlib.Core.Option.{Option, some, none}
 use lib.ListN.{take}
 use Rattle.utf8.specs.Table.{table}
 use Rattle.utf8.specs.Text.{following, goesOn, untilNul, textLength}
+use Rattle.util.specs.Letters.{letters}
 use Rattle.util.specs.LittleEndian.{littleEndian, bytesAt, littleAt, twosComplement, signedAt, unsignedIn, signedIn}
 use Rattle.util.specs.Pointer.{relativePointer, relativeAddress}
 use Rattle.segment.specs.Segments.{segmentsOf, fileOffset, decides, inFile}
@@ -34,10 +35,10 @@ abbrev word : ℕ → List ℕ
 word n = n ∷ 0 ∷ 0 ∷ 0 ∷ []
 
 -- 113 bytes, each line from the offset that it names
-abbrev pub image : List ℕ
-image =
+abbrev pub oakImage : List ℕ
+oakImage =
     -- 0: `Oak` and a NUL
-    79 ∷ 97 ∷ 107 ∷ 0 ∷
+    letters "Oak" ++ 0 ∷
     -- 4: the descriptor: a class with a vtable and an override table; the parent's offset 80 at 8, the name's -12 at 12
     16 ∷ 0 ∷ 0 ∷ 0xc0 ∷ (word 80 ++ (0xf4 ∷ 0xff ∷ 0xff ∷ 0xff ∷ (word 0 ++ (word 0
     -- 24: the body
@@ -51,21 +52,21 @@ image =
     -- 96: a module; no parent; the name's offset 4 at 104
     ++ (word 0 ++ (word 0 ++ (word 4
     -- 108: `Wood` and a NUL
-    ++ (87 ∷ 111 ∷ 111 ∷ 100 ∷ 0 ∷ []))))))))))))))))))))))))))
+    ++ (letters "Wood" ++ 0 ∷ []))))))))))))))))))))))))))
 
 -- laid at 0x1000
-abbrev pub segments : List ℕ
-segments = 0x1000 ∷ 113 ∷ 0 ∷ 113 ∷ []
+abbrev pub oakSegments : List ℕ
+oakSegments = 0x1000 ∷ 113 ∷ 0 ∷ 113 ∷ []
 
 -- types at 0x2000: one slot, whose offset is 0x1004 - 0x2000; no fields
-abbrev pub sections : Sections
-sections = record { types = 0x04 ∷ 0xf0 ∷ 0xff ∷ 0xff ∷ []; typesStart = 0x2000; fields = []; fieldsStart = 0 }
+abbrev pub oakSections : Sections
+oakSections = record { types = 0x04 ∷ 0xf0 ∷ 0xff ∷ 0xff ∷ []; typesStart = 0x2000; fields = []; fieldsStart = 0 }
 
 abbrev reads : Key → List Range
-reads k = path image segments (item sections k)
+reads k = path oakImage oakSegments (item oakSections k)
 
 abbrev told : List ℕ → Key → Option Answer
-told i k = run i segments (item sections k)
+told i k = run i oakSegments (item oakSections k)
 
 -- bytes from an offset up to another
 abbrev bytesTo : ℕ → ℕ → Range
@@ -75,7 +76,7 @@ bytesTo o e = record { from = o; to = e; isText = false }
 abbrev rowReads : List Range
 rowReads = bytesTo 4 24 ∷ record { from = 0; to = 4; isText = true } ∷ []
 
-pub record Worked : Type 0 where
+pub record OakWorked : Type 0 where
   pub row : reads (Key.row 0) ≡ rowReads
   -- the body's 24 bytes
   pub body : reads (Key.body 0) ≡ rowReads ++ (bytesTo 24 48 ∷ [])
@@ -88,22 +89,22 @@ pub record Worked : Type 0 where
   -- context 1: the row's, and the 8 bytes of contexts 0 and 1
   pub context-1 : reads (Key.context 0 1) ≡ rowReads ++ (bytesTo 88 96 ∷ bytesTo 96 104 ∷ [])
   -- what they say
-  pub says-vtable : told image (Key.block 0 BlockKind.VTable) ≡ some (Answer.block (tableBlock BlockKind.VTable 0 2 0x1038))
-  pub says-overrides : told image (Key.block 0 BlockKind.OverrideTable) ≡ some (Answer.block (tableBlock BlockKind.OverrideTable 0 1 0x104c))
-  pub says-method : told image (Key.entry 0 EntryKind.methods 1) ≡ some (Answer.entry (record { address = 0x1040; words = 17 ∷ 0 ∷ [] }))
-  pub says-context : told image (Key.context 0 1) ≡ some (Answer.context (record { address = 0x1060; flags = 0; parent = 0 }))
+  pub says-vtable : told oakImage (Key.block 0 BlockKind.VTable) ≡ some (Answer.block (tableBlock BlockKind.VTable 0 2 0x1038))
+  pub says-overrides : told oakImage (Key.block 0 BlockKind.OverrideTable) ≡ some (Answer.block (tableBlock BlockKind.OverrideTable 0 1 0x104c))
+  pub says-method : told oakImage (Key.entry 0 EntryKind.methods 1) ≡ some (Answer.entry (record { address = 0x1040; words = 17 ∷ 0 ∷ [] }))
+  pub says-context : told oakImage (Key.context 0 1) ≡ some (Answer.context (record { address = 0x1060; flags = 0; parent = 0 }))
   -- the name is the only text, and stands first
   pub clear : (c : ℕ) → 4 ≤ c → All (Clear c) (reads (Key.row 0))
   -- method 1 ends at 72: a cut there keeps it, and one a byte before does not; the claim says so of both; the override table's header is behind it
-  pub cut-72 : told (take 72 image) (Key.entry 0 EntryKind.methods 1) ≡ told image (Key.entry 0 EntryKind.methods 1)
-  pub cut-71 : told (take 71 image) (Key.entry 0 EntryKind.methods 1) ≡ none
-  pub claim-72 : Claim image segments sections 72 (Key.entry 0 EntryKind.methods 1)
-  pub claim-71 : Claim image segments sections 71 (Key.entry 0 EntryKind.methods 1)
-  pub cut-75 : told (take 75 image) (Key.block 0 BlockKind.OverrideTable) ≡ none
+  pub cut-72 : told (take 72 oakImage) (Key.entry 0 EntryKind.methods 1) ≡ told oakImage (Key.entry 0 EntryKind.methods 1)
+  pub cut-71 : told (take 71 oakImage) (Key.entry 0 EntryKind.methods 1) ≡ none
+  pub claim-72 : Claim oakImage oakSegments oakSections 72 (Key.entry 0 EntryKind.methods 1)
+  pub claim-71 : Claim oakImage oakSegments oakSections 71 (Key.entry 0 EntryKind.methods 1)
+  pub cut-75 : told (take 75 oakImage) (Key.block 0 BlockKind.OverrideTable) ≡ none
 
-pub worked : Worked
+pub oak-worked : OakWorked
 unfolding run path bind bytesPlace within textOffset extent segmentsOf fileOffset decides inFile table following goesOn textAt textLength untilNul unsignedIn signedIn littleAt signedAt bytesAt littleEndian twosComplement relativeAddress relativePointer descriptor rowName slotRow mapReads item classBody bodyBytes body slotBody rowAt below blockAt recordAt endAt passed reached blockIn block slotBlock entryAt upTo entry entryOfSlot headerIn header headerAt contextOfSlot kindOf
-worked =
+oak-worked =
     record {
       row = refl;
       body = refl;

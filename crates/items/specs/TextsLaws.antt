@@ -121,7 +121,7 @@ module _ (image segments strings : List ℕ) (start : ℕ) where
         go none = refl
         go (some a) = refl
 
-    -- so of a text that is no field's name it is what the program of the name answers
+    -- so of a text that is not a field's name it is what the program of the name answers
     pub beside-read : (n : NameKey) → isField n ≡ false → besideOf image segments strings start s n ≡ Option·map ofName (run image segments (readName s n))
     unfolding readName
     beside-read n e = beside-by n ∙ rw (run-bind image segments lookup (nameOf s n)) (go (isField n) e (run image segments (nameOf s n)))

@@ -1,4 +1,4 @@
--- The records of a field descriptor with both names, ten numbers each in a lent list: docs/SPECIFICATION.md, "Named records".
+-- The records of a field descriptor with both names, ten numbers each in the caller's list: docs/SPECIFICATION.md, "Named records".
 use Prim.Native.Nat.{ℕ, _/_}
 use mathlib.Core.List.{List, _++_}
 use lib.ListN.{length, getD}
@@ -30,10 +30,10 @@ abbrev pub namedTable : List ℕ → List ℕ → List ℕ → ℕ → FieldReco
 namedTable image segments strings start c n =
     tableBy (namedNumbers image segments strings start) image segments (recordLayout (c .«entry_size»)) n (entriesOf c)
 
--- as a lent list of so many numbers holds them
+-- as a caller's list of so many numbers holds them
 abbrev pub namedIn : List ℕ → List ℕ → List ℕ → ℕ → FieldRecordIter → ℕ → WholeTable
 namedIn image segments strings start c n = namedTable image segments strings start c (n / 10)
 
--- the same for a lent list, unless the segments' numbers are refused
+-- the same for the caller's list, unless the segments' numbers are refused
 abbrev pub guardedNamed : List ℕ → List ℕ → List ℕ → ℕ → FieldRecordIter → List ℕ → Guarded WholeTable
 guardedNamed image segments strings start c buffer = guarded segments (answered (namedIn image segments strings start c (length buffer)))

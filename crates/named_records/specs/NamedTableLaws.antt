@@ -1,6 +1,6 @@
 -- What a table of records with names says: it has as many records as the table without names, for the same reason no more (`named-counts`), in the
 -- order in which stepping gives them (`named-listed`); each has that table's four numbers and, at the addresses among them, the names that the calls
--- for one name give (`named-record`); and a table worked through by hand (`worked`).
+-- for one name give (`named-record`); and a table worked through by hand (`named-worked`).
 use Prim.Native.Nat.{ℕ, zero, suc, _+_, _*_, _<_}
 use native.Mathlib.Nat.{mul-suc}
 use native.Mathlib.Omega.{arith}
@@ -11,6 +11,7 @@ use lib.ListN.{length, take, drop, getD, length-append}
 use lib.Seq.{drop-drop, drop-at}
 use Rattle.utf8.specs.Table.{table}
 use Rattle.utf8.specs.Text.{following, goesOn, untilNul, textLength}
+use Rattle.util.specs.Letters.{letters}
 use Rattle.util.specs.LittleEndian.{littleEndian, bytesAt, littleAt, twosComplement, signedAt, unsignedIn, signedIn}
 use Rattle.util.specs.Pointer.{relativePointer, relativeAddress}
 use Rattle.util.specs.Cstr.{Place, textAt}
@@ -23,7 +24,7 @@ use Rattle.vtable.specs.ListLaws.{listed}
 use Rattle.field.specs.declared.record.FieldRecordIter.{FieldRecordIter}
 use Rattle.field.specs.Records.{recordLayout, entriesOf}
 use Rattle.entry_tables.specs.Tables.{entryNumbers, WholeTable, counts, tableBy, tableFrom}
-use Rattle.entry_tables.specs.TablesLaws.{numbersIn, table-listed, same-counts, Whole, listed-words}
+use Rattle.entry_tables.specs.TablesLaws.{numbersOfAll, table-listed, same-counts, Whole, listed-words}
 use Rattle.named_records.specs.NamedRecords.{namedNumbers, namedTable}
 use Rattle.named_records.specs.NamedRecordsLaws.{text-long, name-long}
 
@@ -86,11 +87,11 @@ module _ (image segments strings : List ℕ) (start : ℕ) where
     abbrev layout : Layout
     layout = recordLayout (c .«entry_size»)
 
-    in-list : (es : List Entry) → Whole image segments layout es → (k : ℕ) → k < length es → Named (drop (10 * k) (numbersIn all es)) (drop (4 * k) (numbersIn entryNumbers es))
+    in-list : (es : List Entry) → Whole image segments layout es → (k : ℕ) → k < length es → Named (drop (10 * k) (numbersOfAll all es)) (drop (4 * k) (numbersOfAll entryNumbers es))
     in-list [] w k h = absurd (omega arith)
-    in-list (e ∷ es) w zero h = named-entry e (w .0) (numbersIn all es) (numbersIn entryNumbers es)
+    in-list (e ∷ es) w zero h = named-entry e (w .0) (numbersOfAll all es) (numbersOfAll entryNumbers es)
     in-list (e ∷ es) w (suc k) h =
-        rw (past 10 k (all e) (numbersIn all es) (all-long e (w .0)), past 4 k (entryNumbers e) (numbersIn entryNumbers es) (ap suc (w .0))) (in-list es (w .1) k (omega arith))
+        rw (past 10 k (all e) (numbersOfAll all es) (all-long e (w .0)), past 4 k (entryNumbers e) (numbersOfAll entryNumbers es) (ap suc (w .0))) (in-list es (w .1) k (omega arith))
 
     module _ (n : ℕ) where
       abbrev named : WholeTable
@@ -102,7 +103,7 @@ module _ (image segments strings : List ℕ) (start : ℕ) where
       pub named-counts : counts named ≡ counts own
       named-counts = same-counts all image segments layout entryNumbers n (entriesOf c)
 
-      pub named-listed : (named .numbers ≡ numbersIn all (listed image segments layout n (entriesOf c))) × (named .entries ≡ length (listed image segments layout n (entriesOf c)))
+      pub named-listed : (named .numbers ≡ numbersOfAll all (listed image segments layout n (entriesOf c))) × (named .entries ≡ length (listed image segments layout n (entriesOf c)))
       named-listed = table-listed all image segments layout n (entriesOf c)
 
       -- record `k` of the table
@@ -115,7 +116,7 @@ module _ (image segments strings : List ℕ) (start : ℕ) where
 
 -- an image at 4096: a record with flags 2, its type's name 8 bytes behind its slot, and its field's so many (below 2^16); then the text "Si"
 abbrev sample : ℕ → ℕ → List ℕ
-sample low high = 2 ∷ 0 ∷ 0 ∷ 0 ∷ 8 ∷ 0 ∷ 0 ∷ 0 ∷ low ∷ high ∷ 0 ∷ 0 ∷ 83 ∷ 105 ∷ 0 ∷ []
+sample low high = 2 ∷ 0 ∷ 0 ∷ 0 ∷ 8 ∷ 0 ∷ 0 ∷ 0 ∷ low ∷ high ∷ 0 ∷ 0 ∷ letters "Si" ++ 0 ∷ []
 
 -- its records, of a list that says to have two, with the text "x" in a string section at an address; the second cannot be read
 abbrev listedFrom : ℕ → ℕ → ℕ → ℕ → WholeTable
@@ -125,7 +126,7 @@ listedFrom low high start n =
 abbrev one : List ℕ → WholeTable
 one l = record { numbers = l; entries = 1; stop = 2 }
 
-pub record Worked : Type 0 where
+pub record NamedWorked : Type 0 where
   -- the field's name in the string section
   pub strings : listedFrom 248 15 8192 5 ≡ one (4096 ∷ 2 ∷ 4108 ∷ 8192 ∷ 1 ∷ 12 ∷ 2 ∷ 2 ∷ 0 ∷ 1 ∷ [])
   -- in both: the image's
@@ -137,6 +138,6 @@ pub record Worked : Type 0 where
   pub full : listedFrom 0 0 0 1 ≡ record { numbers = 4096 ∷ 2 ∷ 4108 ∷ 0 ∷ 1 ∷ 12 ∷ 2 ∷ 0 ∷ 0 ∷ 0 ∷ []; entries = 1; stop = 1 }
   pub no-room : listedFrom 0 0 0 0 ≡ record { numbers = []; entries = 0; stop = 1 }
 
-pub worked : Worked
+pub named-worked : NamedWorked
 unfolding tableBy entryStep entryAt run bytesPlace within segmentsOf fileOffset decides inFile unsignedIn signedIn littleAt signedAt bytesAt littleEndian twosComplement relativeAddress relativePointer textPlace textOffset textAt fieldName sectionText table following goesOn textLength untilNul
-worked = record { strings = refl; image = refl; neither = refl; nameless = refl; full = refl; no-room = refl }
+named-worked = record { strings = refl; image = refl; neither = refl; nameless = refl; full = refl; no-room = refl }

@@ -49,28 +49,28 @@ module _ (image segments : List ℕ) where
   -- ---- stepping
 
   -- the contexts that at most `n` steps from an address on give, `g` having been given before
-  unfoldable pub stepped : ℕ → ℕ → ℕ → List Context
-  stepped zero a g = []
-  stepped (suc n) a g = elim (chainStep image segments a g) [ none ↦ [] | some s ↦ s .context ∷ stepped n (s .next) (s .given) ]
+  unfoldable pub steppedChain : ℕ → ℕ → ℕ → List Context
+  steppedChain zero a g = []
+  steppedChain (suc n) a g = elim (chainStep image segments a g) [ none ↦ [] | some s ↦ s .context ∷ steppedChain n (s .next) (s .given) ]
 
   step-by : (n a g : ℕ) (x : Option Step) → chainStep image segments a g ≡ x
-      → stepped (suc n) a g ≡ (elim x as (λ _. List Context) [ none ↦ [] | some s ↦ s .context ∷ stepped n (s .next) (s .given) ])
-  unfolding stepped
-  step-by n a g x e = rw (stepped, e)
+      → steppedChain (suc n) a g ≡ (elim x as (λ _. List Context) [ none ↦ [] | some s ↦ s .context ∷ steppedChain n (s .next) (s .given) ])
+  unfolding steppedChain
+  step-by n a g x e = rw (steppedChain, e)
 
   -- as many contexts of the chain as steps, and 256 at most
-  pub stepped-chain : (n a g : ℕ) → stepped n a g ≡ chain image segments (min n (contextsMost - g)) a
-  unfolding stepped chain
+  pub stepped-chain : (n a g : ℕ) → steppedChain n a g ≡ chain image segments (min n (contextsMost - g)) a
+  unfolding steppedChain chain
   stepped-chain zero a g = let z : 0 ≡ min 0 (contextsMost - g) = omega arith in ap (λ (k : ℕ). chain image segments k a) z
   stepped-chain (suc n) a g = by (decLe contextsMost g) (λ b f. stepped-chain n b f)
     where
-      by : Dec (contextsMost ≤ g) → ((b f : ℕ) → stepped n b f ≡ chain image segments (min n (contextsMost - f)) b) → stepped (suc n) a g ≡ chain image segments (min (suc n) (contextsMost - g)) a
+      by : Dec (contextsMost ≤ g) → ((b f : ℕ) → steppedChain n b f ≡ chain image segments (min n (contextsMost - f)) b) → steppedChain (suc n) a g ≡ chain image segments (min (suc n) (contextsMost - g)) a
       by (yes h) ih = step-by n a g none (sym (chain-full image segments a g h)) ∙ (let z : 0 ≡ min (suc n) (contextsMost - g) = omega arith in ap (λ (k : ℕ). chain image segments k a) z)
       by (no h) ih =
           let few : min (suc n) (contextsMost - g) ≡ suc (min n (contextsMost - (g + 1))) = omega arith in
           rw few (go (contextRead image segments a) refl)
         where
-          go : (x : Option Context) → contextRead image segments a ≡ x → stepped (suc n) a g ≡ chain image segments (suc (min n (contextsMost - (g + 1)))) a
+          go : (x : Option Context) → contextRead image segments a ≡ x → steppedChain (suc n) a g ≡ chain image segments (suc (min n (contextsMost - (g + 1)))) a
           go none e = step-by n a g none (sym (chain-ends image segments a g (sym e) (omega arith))) ∙ rw (chain, e)
           go (some c) e =
               step-by n a g _ (sym (chain-goes-on image segments a g c (sym e) (omega arith)))
@@ -78,5 +78,5 @@ module _ (image segments : List ℕ) where
               ∙ rw (chain, e)
 
   -- a walk from its start gives the first 256 contexts, and then nothing more
-  pub stepped-all : (n a : ℕ) → contextsMost ≤ n → stepped n a 0 ≡ chain image segments contextsMost a
-  stepped-all n a h = stepped-chain n a 0 ∙ ap (λ (k : ℕ). chain image segments k a) (omega arith)
+  pub stepped-chain-all : (n a : ℕ) → contextsMost ≤ n → steppedChain n a 0 ≡ chain image segments contextsMost a
+  stepped-chain-all n a h = stepped-chain n a 0 ∙ ap (λ (k : ℕ). chain image segments k a) (omega arith)

@@ -33,11 +33,11 @@ headerIn a h =
     cond (leb (2 ^ 64) (a + 4)) nothing
     (done (record { address = a; flags = unsignedIn 4 h 0; parent = relativeAddress (a + 4) (signedIn 4 h 4) }))
 
--- address 0 is no context
+-- address 0 is not a context
 unfoldable pub header : ℕ → Reads Header
 header a = cond (eqb a 0) nothing (bytes a 8 (headerIn a))
 
--- the name's offset is a read of its own, at the address + 8; offset 0 is no name
+-- the name's offset is a read of its own, at the address + 8; offset 0 is not a name
 unfoldable pub slotName : ℕ → List ℕ → Reads Name
 slotName v h =
     cond (eqb (unsignedIn 4 h 0) 0) nothing

@@ -112,38 +112,38 @@ module _ (image segments : List ℕ) (a : ℕ) where
 -- ---- the chain
 
 -- the 8 bytes at a file offset
-abbrev pub headerRange : Option ℕ → List Range
-headerRange none = []
-headerRange (some o) = record { from = o; to = o + 8; isText = false } ∷ []
+abbrev pub contextRange : Option ℕ → List Range
+contextRange none = []
+contextRange (some o) = record { from = o; to = o + 8; isText = false } ∷ []
 
 -- the 8 bytes of each context
-abbrev pub headerRanges : List ℕ → List Context → List Range
-headerRanges segments [] = []
-headerRanges segments (c ∷ cs) = headerRange (fileOffset (segmentsOf segments) (c .header .address)) ++ headerRanges segments cs
+abbrev pub contextRanges : List ℕ → List Context → List Range
+contextRanges segments [] = []
+contextRanges segments (c ∷ cs) = contextRange (fileOffset (segmentsOf segments) (c .header .address)) ++ contextRanges segments cs
 
 module _ (image segments : List ℕ) where
   header-range : (a : ℕ) (h : Header) → run image segments (header a) ≡ some h
-      → path image segments (header a) ≡ headerRange (fileOffset (segmentsOf segments) (h .address))
+      → path image segments (header a) ≡ contextRange (fileOffset (segmentsOf segments) (h .address))
   header-range a h e =
       let w = header-found image segments a h e in
-      w .reads ∙ ap headerRange (sym (w .at) ∙ ap (fileOffset (segmentsOf segments)) (sym (w .address)))
+      w .reads ∙ ap contextRange (sym (w .at) ∙ ap (fileOffset (segmentsOf segments)) (sym (w .address)))
 
   -- the first context's, and then those of the chain from its parent on
   chain-ranges : (n a : ℕ) (h : Header) → run image segments (header a) ≡ some h
-      → headerRanges segments (chain image segments (suc n) a) ≡ path image segments (header a) ++ headerRanges segments (chain image segments n (h .parent))
+      → contextRanges segments (chain image segments (suc n) a) ≡ path image segments (header a) ++ contextRanges segments (chain image segments n (h .parent))
   unfolding withName
   chain-ranges n a h e = rw (chain-by image segments n a (some h) e, header-range a h e)
 
   -- context `k`: the 8 bytes of each context of the chain up to it
   pub context-path : (k a : ℕ) (h : Header) → run image segments (headerAt k a) ≡ some h
-      → path image segments (headerAt k a) ≡ headerRanges segments (chain image segments (suc k) a)
+      → path image segments (headerAt k a) ≡ contextRanges segments (chain image segments (suc k) a)
   unfolding headerAt chain
   context-path zero a h e = sym (chain-ranges 0 a h e ∙ append-nil _)
   context-path (suc k) a h e = go (run image segments (header a)) refl (λ b. context-path k b h)
     where
       go : (x : Option Header) → run image segments (header a) ≡ x
-          → ((b : ℕ) → run image segments (headerAt k b) ≡ some h → path image segments (headerAt k b) ≡ headerRanges segments (chain image segments (suc k) b))
-          → path image segments (headerAt (suc k) a) ≡ headerRanges segments (chain image segments (suc (suc k)) a)
+          → ((b : ℕ) → run image segments (headerAt k b) ≡ some h → path image segments (headerAt k b) ≡ contextRanges segments (chain image segments (suc k) b))
+          → path image segments (headerAt (suc k) a) ≡ contextRanges segments (chain image segments (suc (suc k)) a)
       go none f ih =
           let g : none ≡ some h = sym (next-by image segments k a none f) ∙ e in
           let z : _≡_ {A = ℕ} 0 1 = cc in

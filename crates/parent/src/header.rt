@@ -58,7 +58,7 @@ pub fn has_name(flags: u32) -> bool
     ContextDescriptorFlags(flags).kind().has_name()
 }
 
-// The name that the word after the context's header refers to. An offset of 0 is no name.
+// The name that the word after the context's header refers to. An offset of 0 is not a name.
 pub fn read_context_name(
     image: &[u8],
     segments: &[u64],

@@ -64,7 +64,7 @@ pub record Block (image segments : List ℕ) (left a rest : ℕ) (places lengths
   pub few : count ≤ 8
   pub fewer : count + left′ ≤ left
 
--- there is no context after those of the names
+-- there is not a context after those of the names
 pub record Last (image segments : List ℕ) (left a rest : ℕ) (places lengths : List ℕ) (count rest′ : ℕ) : Type 0 where
   pub hops : before image segments left a ≡ gathered image places lengths count
   pub deep : deeper image segments left a ≡ false

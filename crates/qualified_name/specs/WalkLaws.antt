@@ -213,7 +213,7 @@ module _ (image segments : List ℕ) (left a rest : ℕ) (places lengths : List 
   pub last-filled : (t t′ : List ℕ) (n : ℕ) → Put t 0 (gathered image places lengths count) n t′ → t′ ≡ filled (answered n) (before image segments left a) t
   last-filled t t′ n w = rw (b .hops) (from-start t (gathered image places lengths count) t′ n w)
 
--- where there is no context
+-- where there is not a context
 module _ (image segments : List ℕ) (left a : ℕ) (e : none ≡ contextRead image segments a) where
   pub none-long : (rest size : ℕ) → size < rest → rest < 2 ^ 64 → size < 2 ^ 64 - 1 → refused 3 ≡ hopsAnswer image segments left a rest size
   none-long rest size h hr hs = last-long image segments left a rest [] [] 0 rest (no-names image segments left a rest e hr) size h hs

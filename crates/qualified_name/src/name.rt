@@ -45,7 +45,7 @@ pub enum Walk {
     TooDeep,
 }
 
-// What is in the file around the context at an address. Where that is nothing, there is no context.
+// What is in the file around the context at an address. Where that is nothing, there is not a context.
 fn locate_context(segments: &[u64], descriptor_va: u64) -> Around
     ensures { λ r. ⌜ ContextLocated (now (segments .entry)) «descriptor_va» r ⌝ }
 {

@@ -3,11 +3,11 @@ ghost use mathlib.Core.Path.{_≡_};
 ghost use Rattle.refusal.specs.Refusal.{refusalNumber};
 
 pub enum Refusal {
-    // A count of segment numbers that is no multiple of four.
+    // A count of segment numbers that is not a multiple of four.
     RaggedSegments,
     // A bundle that breaks a rule of its format.
     BrokenBundle,
-    // A joined name that is longer than the buffer lent to it.
+    // A joined name that is longer than the caller's buffer.
     LongName,
     // The joined name of a type around which a 257th context can be read.
     DeepContexts,

@@ -42,7 +42,7 @@ fn turn(vmaddr: u64, vmsize: u64, fileoff: u64, filesize: u64, offset: u64) -> T
     Turned::Answer(VmAddress::At(vmaddr + delta))
 }
 
-// The address of a file offset. A last piece of fewer than four numbers is no segment.
+// The address of a file offset. A last piece of fewer than four numbers is not a segment.
 pub fn file_offset_to_vm_in(segments: &[u64], offset: u64) -> VmAddress
     ensures { λ r. ⌜ addressOf r ≡ vmAddress (segmentsOf (now (segments .entry))) offset ⌝ }
 {

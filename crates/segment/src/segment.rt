@@ -1,4 +1,4 @@
-// From an address to a file offset, by the segments: a lent list of numbers, four to a segment.
+// From an address to a file offset, by the segments: the caller's list of numbers, four to a segment.
 ghost use mathlib.Core.Path.{_≡_};
 ghost use mathlib.Core.Bool.{true};
 ghost use Prim.Native.Nat.{_+_, _≤_, _<_, _^_, min, max};
@@ -41,7 +41,7 @@ fn look_up(vmaddr: u64, vmsize: u64, fileoff: u64, filesize: u64, address: u64) 
     Lookup::Answer(FileOffset::At(fileoff + delta))
 }
 
-// The file offset of an address. A last piece of fewer than four numbers is no segment.
+// The file offset of an address. A last piece of fewer than four numbers is not a segment.
 pub fn vm_to_file_offset_in(segments: &[u64], vmaddr: u64) -> FileOffset
     ensures { λ r. ⌜ offsetOf r ≡ fileOffset (segmentsOf (now (segments .entry))) vmaddr ⌝ }
 {

@@ -1,4 +1,4 @@
-// The public calls over an image, its segments and its types section. Each refuses a list of segment numbers that is no multiple of
+// The public calls over an image, its segments and its types section. Each refuses a list of segment numbers that is not a multiple of
 // four, before all else (refusal 1), and owes its caller nothing.
 ghost use mathlib.Core.Path.{_≡_};
 ghost use lib.ListN.{length};

@@ -1,7 +1,7 @@
 // The entries of a class's tables and of the prespecializations, one step after the other.
 ghost use mathlib.Core.Path.{_≡_};
 ghost use Rattle.refusal.specs.Refusal.{answered};
-ghost use Rattle.vtable.specs.Entries.{method, layoutOf, entryStep, stepAnswer};
+ghost use Rattle.vtable.specs.Entries.{method, kindLayout, entryStep, stepAnswer};
 ghost use Rattle.refusal.specs.Guarded.{guarded};
 ghost use Rattle.steps.specs.Entries.{entryAnswer};
 use refusal::Refusal;
@@ -16,7 +16,7 @@ pub enum NextEntry {
 
 // The next entry of a table of a kind, from where the walk stands.
 pub fn next_entry(image: &[u8], segments: &[u64], cursor: EntryIter, kind: EntryKind) -> NextEntry
-    ensures { λ r. ⌜ entryAnswer r ≡ guarded (now (segments .entry)) (answered (stepAnswer (entryStep (now (image .entry)) (now (segments .entry)) (layoutOf kind) cursor))) ⌝ }
+    ensures { λ r. ⌜ entryAnswer r ≡ guarded (now (segments .entry)) (answered (stepAnswer (entryStep (now (image .entry)) (now (segments .entry)) (kindLayout kind) cursor))) ⌝ }
 {
     if segments.len() % 4 != 0 {
         return NextEntry::Refused(Refusal::RaggedSegments);

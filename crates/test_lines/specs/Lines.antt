@@ -18,8 +18,8 @@ unfoldable pub findFrom : List ℕ → ℕ → ℕ → ℕ
 findFrom s at stop = at + span stop (drop at s)
 
 -- the line that starts at `at`, up to the next newline (10), and where the line after it starts: nowhere before the end where there is none
-unfoldable pub lineAt : List ℕ → ℕ → List ℕ
-lineAt s at = take (span 10 (drop at s)) (drop at s)
+unfoldable pub lineAtOffset : List ℕ → ℕ → List ℕ
+lineAtOffset s at = take (span 10 (drop at s)) (drop at s)
 
 unfoldable pub afterLine : List ℕ → ℕ → ℕ
 afterLine s at = cond (ltb (findFrom s at 10) (length s)) (findFrom s at 10 + 1) (findFrom s at 10)
@@ -75,21 +75,21 @@ unfoldable pub fitting : List ℕ → Option (List ℕ) → Option (List ℕ)
 fitting out none = none
 fitting out (some t) = cond (leb (length t) (length out)) (some t) none
 
--- the numbers of the fields `from`, `from` + `step` and so on, at most `n`: up to the first that is no number
-unfoldable pub numbersIn : List ℕ → ℕ → ℕ → ℕ → List ℕ
-numbersIn s from step zero = []
-numbersIn s from step (suc n) = elim (hexNumber (fieldOf s from)) [ none ↦ [] | some v ↦ v ∷ numbersIn s (from + step) step n ]
+-- the numbers of the fields `from`, `from` + `step` and so on, at most `n`: up to the first that is not a number
+unfoldable pub numbersOfFields : List ℕ → ℕ → ℕ → ℕ → List ℕ
+numbersOfFields s from step zero = []
+numbersOfFields s from step (suc n) = elim (hexNumber (fieldOf s from)) [ none ↦ [] | some v ↦ v ∷ numbersOfFields s (from + step) step n ]
 
 -- a list's count is in the field `from`, and its numbers are in the fields after that: those that are written to a list of `room` numbers, and their
 -- count, if there are so many
 unfoldable pub listNumbers : List ℕ → ℕ → ℕ → List ℕ
-listNumbers s from room = elim (hexNumber (fieldOf s from)) [ none ↦ [] | some n ↦ cond (leb n room) (numbersIn s (from + 1) 1 n) [] ]
+listNumbers s from room = elim (hexNumber (fieldOf s from)) [ none ↦ [] | some n ↦ cond (leb n room) (numbersOfFields s (from + 1) 1 n) [] ]
 
 unfoldable pub listCount : List ℕ → ℕ → ℕ → Option ℕ
 listCount s from room =
     elim (hexNumber (fieldOf s from)) [
       | none ↦ none
-      | some n ↦ cond (leb n room && eqb (length (numbersIn s (from + 1) 1 n)) n) (some n) none
+      | some n ↦ cond (leb n room && eqb (length (numbersOfFields s (from + 1) 1 n)) n) (some n) none
     ]
 
 -- what an answer tells: the number that was read, or how many bytes or numbers were

@@ -12,7 +12,7 @@ use lib.ListN.{length, take, drop, getD, set, length-drop, length-set, take-appe
 use lib.Seq.{drop-cons, drop-drop, length-take-le, paste-suc, take-length}
 use lib.Dec.{leb, ltb, eqb}
 use borrow.Author.Tests.{le-leb, lt-leb, lt-ltb, le-ltb, ltb-true, eq-eqb, ne-eqb, eqb-true}
-use Rattle.test_lines.specs.Lines.{span, findFrom, lineAt, afterLine, fieldOf, firstOf, equals, digitOf, allDigits, hexValue, hexNumber, digitPairs, hexBytes, fitting, numbersIn, listNumbers, listCount}
+use Rattle.test_lines.specs.Lines.{span, findFrom, lineAtOffset, afterLine, fieldOf, firstOf, equals, digitOf, allDigits, hexValue, hexNumber, digitPairs, hexBytes, fitting, numbersOfFields, listNumbers, listCount}
 use Rattle.util.specs.Buffer.{overwritten}
 
 span-most : (stop : ℕ) (s : List ℕ) → span stop s ≤ length s
@@ -44,12 +44,12 @@ module _ (s : List ℕ) (i stop : ℕ) where
 
 -- the line at a place, and the one after it
 module _ (s : List ℕ) (at : ℕ) where
-  pub line-past : length s < at → [] ≡ lineAt s at
-  unfolding lineAt span
+  pub line-past : length s < at → [] ≡ lineAtOffset s at
+  unfolding lineAtOffset span
   line-past h = rw (drop-of-length-le s {i = at} (omega arith))
 
-  pub line-here : (e : ℕ) → e ≡ findFrom s at 10 → take (e - at) (drop at s) ≡ lineAt s at
-  unfolding lineAt findFrom
+  pub line-here : (e : ℕ) → e ≡ findFrom s at 10 → take (e - at) (drop at s) ≡ lineAtOffset s at
+  unfolding lineAtOffset findFrom
   line-here e f = let n : e - at ≡ span 10 (drop at s) = omega arith in rw n
 
   pub after-found : (e : ℕ) → e ≡ findFrom s at 10 → e < length s → e + 1 ≡ afterLine s at
@@ -303,21 +303,21 @@ number-within s n v e = go (decLe n (length s))
 
 -- the numbers from a field on, where it is known what the field is
 numbers-by : (s : List ℕ) (at step m : ℕ) (x : Option ℕ) → x ≡ hexNumber (fieldOf s at)
-    → numbersIn s at step (suc m) ≡ (elim x as (λ _. List ℕ) [ none ↦ [] | some v ↦ v ∷ numbersIn s (at + step) step m ])
-unfolding numbersIn
-numbers-by s at step m x e = ap (λ (y : Option ℕ). elim y as (λ _. List ℕ) [ none ↦ [] | some v ↦ v ∷ numbersIn s (at + step) step m ]) (sym e)
+    → numbersOfFields s at step (suc m) ≡ (elim x as (λ _. List ℕ) [ none ↦ [] | some v ↦ v ∷ numbersOfFields s (at + step) step m ])
+unfolding numbersOfFields
+numbers-by s at step m x e = ap (λ (y : Option ℕ). elim y as (λ _. List ℕ) [ none ↦ [] | some v ↦ v ∷ numbersOfFields s (at + step) step m ]) (sym e)
 
 -- `n` of the numbers `l` are written to the list `out₀`, and field `at` is read next
 pub record Reading (s : List ℕ) (step : ℕ) (l out₀ out : List ℕ) (at n : ℕ) : Type 0 where
   pub given : n ≤ length l
   pub fits : n ≤ length out₀
   pub long : length out ≡ length out₀
-  pub rest : drop n l ≡ numbersIn s at step (length out₀ - n)
+  pub rest : drop n l ≡ numbersOfFields s at step (length out₀ - n)
   pub written : out ≡ take n l ++ drop n out₀
 
-pub reading-starts : (s : List ℕ) (from step : ℕ) (out : List ℕ) → Reading s step (numbersIn s from step (length out)) out out from 0
+pub reading-starts : (s : List ℕ) (from step : ℕ) (out : List ℕ) → Reading s step (numbersOfFields s from step (length out)) out out from 0
 reading-starts s from step out =
-    record { given = omega arith; fits = omega arith; long = refl; rest = ap (numbersIn s from step) (omega arith); written = refl }
+    record { given = omega arith; fits = omega arith; long = refl; rest = ap (numbersOfFields s from step) (omega arith); written = refl }
 
 module _ (s : List ℕ) (step : ℕ) (l out₀ out : List ℕ) (at n : ℕ) (g : Reading s step l out₀ out at n) where
   all-given : drop n l ≡ [] → n ≡ length l
@@ -327,7 +327,7 @@ module _ (s : List ℕ) (step : ℕ) (l out₀ out : List ℕ) (at n : ℕ) (g :
   all-written e = g .written ∙ rw (e, take-length)
 
   pub reading-ends : length out₀ ≤ n → (true ≡ eqb (length l) (length out₀)) × (out ≡ l ++ drop (length l) out₀)
-  unfolding numbersIn
+  unfolding numbersOfFields
   reading-ends h =
       let z : length out₀ - n ≡ 0 = omega arith in
       let e : n ≡ length l = all-given (g .rest ∙ rw z) in
@@ -344,12 +344,12 @@ module _ (s : List ℕ) (step : ℕ) (l out₀ out : List ℕ) (at n : ℕ) (g :
 
     pub reading-next : (v : ℕ) → some v ≡ hexNumber (fieldOf s at) → Reading s step l out₀ (set out n v) (at + step) (n + 1)
     reading-next v f =
-        let r : drop n l ≡ v ∷ numbersIn s (at + step) step (length out₀ - (n + 1)) = g .rest ∙ rw split (numbers-by s at step (length out₀ - (n + 1)) (some v) f) in
+        let r : drop n l ≡ v ∷ numbersOfFields s (at + step) step (length out₀ - (n + 1)) = g .rest ∙ rw split (numbers-by s at step (length out₀ - (n + 1)) (some v) f) in
         let size : n < length l = omega (arith, rw length-drop at (ap length r)) in
-        let cons : getD l n 0 ∷ drop (suc n) l ≡ v ∷ numbersIn s (at + step) step (length out₀ - (n + 1)) = sym (drop-cons l n 0 size) ∙ r in
+        let cons : getD l n 0 ∷ drop (suc n) l ≡ v ∷ numbersOfFields s (at + step) step (length out₀ - (n + 1)) = sym (drop-cons l n 0 size) ∙ r in
         let one : n + 1 ≡ suc n = omega arith in
         let value : v ≡ getD l n 0 = cc in
-        let left : drop (suc n) l ≡ numbersIn s (at + step) step (length out₀ - (n + 1)) = cc in
+        let left : drop (suc n) l ≡ numbersOfFields s (at + step) step (length out₀ - (n + 1)) = cc in
         let turn : set (take n l ++ drop n out₀) n (getD l n 0) ≡ take (suc n) l ++ drop (suc n) out₀ = simp zero-add at (paste-suc out₀ 0 l n 0 (omega arith) size) in
         record {
           given = omega arith;
@@ -361,13 +361,13 @@ module _ (s : List ℕ) (step : ℕ) (l out₀ out : List ℕ) (at n : ℕ) (g :
 
 -- ---- lists
 
-numbers-most : (s : List ℕ) (at step n : ℕ) → length (numbersIn s at step n) ≤ n
-unfolding numbersIn
+numbers-most : (s : List ℕ) (at step n : ℕ) → length (numbersOfFields s at step n) ≤ n
+unfolding numbersOfFields
 numbers-most s at step zero = omega arith
 numbers-most s at step (suc n) = go (hexNumber (fieldOf s at)) (numbers-most s (at + step) step n)
   where
-    go : (x : Option ℕ) → length (numbersIn s (at + step) step n) ≤ n
-        → length {A = ℕ} (elim x as (λ _. List ℕ) [ none ↦ [] | some v ↦ v ∷ numbersIn s (at + step) step n ]) ≤ suc n
+    go : (x : Option ℕ) → length (numbersOfFields s (at + step) step n) ≤ n
+        → length {A = ℕ} (elim x as (λ _. List ℕ) [ none ↦ [] | some v ↦ v ∷ numbersOfFields s (at + step) step n ]) ≤ suc n
     go none h = omega arith
     go (some v) h = omega arith
 
@@ -387,11 +387,11 @@ module _ (s : List ℕ) (from : ℕ) (out : List ℕ) where
   countBy x =
       elim x as (λ _. Option ℕ) [
         | none ↦ none
-        | some n ↦ cond (leb n (length out) && eqb (length (numbersIn s (from + 1) 1 n)) n) (some n) none
+        | some n ↦ cond (leb n (length out) && eqb (length (numbersOfFields s (from + 1) 1 n)) n) (some n) none
       ]
 
   abbrev numbersBy : Option ℕ → List ℕ
-  numbersBy x = elim x as (λ _. List ℕ) [ none ↦ [] | some n ↦ cond (leb n (length out)) (numbersIn s (from + 1) 1 n) [] ]
+  numbersBy x = elim x as (λ _. List ℕ) [ none ↦ [] | some n ↦ cond (leb n (length out)) (numbersOfFields s (from + 1) 1 n) [] ]
 
   listed-by : (x y : Option ℕ) (out′ : List ℕ) → x ≡ hexNumber (fieldOf s from) → y ≡ countBy x
       → out′ ≡ numbersBy x ++ drop (length (numbersBy x)) out → Listed y out′
@@ -405,7 +405,7 @@ module _ (s : List ℕ) (from : ℕ) (out : List ℕ) where
     pub list-long : length out < n → Listed none out
     list-long h = listed-by (some n) none out e (simp (lt-leb n (length out) h)) (simp (lt-leb n (length out) h))
 
-    module _ (h : n ≤ length out) (b l : List ℕ) (el : l ≡ numbersIn s (from + 1) 1 (length (take n out))) (eb : b ≡ l ++ drop (length l) (take n out)) where
+    module _ (h : n ≤ length out) (b l : List ℕ) (el : l ≡ numbersOfFields s (from + 1) 1 (length (take n out))) (eb : b ≡ l ++ drop (length l) (take n out)) where
       pub part-long : n ≡ length (take n out)
       part-long = sym (length-take-le n out h)
 
@@ -415,8 +415,8 @@ module _ (s : List ℕ) (from : ℕ) (out : List ℕ) where
       whole : b ++ drop n out ≡ l ++ drop (length l) out
       whole = rw (eb, append-assoc l (drop (length l) (take n out)) (drop n out), part-rest (length l) n out few)
 
-      is-list : l ≡ numbersIn s (from + 1) 1 n
-      is-list = el ∙ ap (numbersIn s (from + 1) 1) (sym part-long)
+      is-list : l ≡ numbersOfFields s (from + 1) 1 n
+      is-list = el ∙ ap (numbersOfFields s (from + 1) 1) (sym part-long)
 
       pub list-all : true ≡ eqb (length l) (length (take n out)) → Listed (some n) (b ++ drop n out)
       list-all t = listed-by (some n) (some n) _ e (simp (le-leb n (length out) h) (rw (← is-list, part-long) (rw (← t)))) (simp (le-leb n (length out) h) (rw (← is-list) whole))

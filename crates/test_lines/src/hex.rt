@@ -5,7 +5,7 @@ ghost use mathlib.Core.Bool.{true};
 ghost use mathlib.Core.Option.{some, Option·map};
 ghost use lib.Dec.{eqb};
 ghost use lib.ListN.{length};
-ghost use Rattle.test_lines.specs.Lines.{digitOf, allDigits, hexNumber, digitPairs, hexBytes, fitting, numbersIn, listNumbers, listCount, numberOf, countOf};
+ghost use Rattle.test_lines.specs.Lines.{digitOf, allDigits, hexNumber, digitPairs, hexBytes, fitting, numbersOfFields, listNumbers, listCount, numberOf, countOf};
 ghost use Rattle.util.specs.Buffer.{overwritten};
 use crate::line::field;
 use crate::line::same;
@@ -16,7 +16,7 @@ pub enum Number {
     Bad,
 }
 
-// How many bytes or numbers a lent buffer got.
+// How many bytes or numbers the caller's buffer got.
 pub enum Count {
     Of(usize),
     Bad,
@@ -117,11 +117,11 @@ pub fn parse_bytes(s: &[u8], out: &mut [u8]) -> Count
     Count::Of(count)
 }
 
-// Reads the numbers of the fields `from`, `from` + `step` and so on, as many as the list is long, and gives back whether all are numbers. Those
+// Reads the numbers of the fields `from`, `from` + `step` and so on, as many as the list is long, and returns whether all are numbers. Those
 // before the first that is none are written.
 pub fn parse_numbers(line: &[u8], from: usize, step: u32, out: &mut [u64]) -> bool
-    ensures { λ r. ⌜ r ≡ eqb (length (numbersIn (now (line .entry)) from step (length (now (out .entry))))) (length (now (out .entry))) ⌝ }
-    ensures { λ _. ⌜ now (out .exit) ≡ overwritten (now (out .entry)) (some (numbersIn (now (line .entry)) from step (length (now (out .entry))))) ⌝ }
+    ensures { λ r. ⌜ r ≡ eqb (length (numbersOfFields (now (line .entry)) from step (length (now (out .entry))))) (length (now (out .entry))) ⌝ }
+    ensures { λ _. ⌜ now (out .exit) ≡ overwritten (now (out .entry)) (some (numbersOfFields (now (line .entry)) from step (length (now (out .entry))))) ⌝ }
 {
     let mut at = from;
     let mut n = 0;

@@ -1,6 +1,6 @@
 // Lines and their fields.
 ghost use mathlib.Core.Path.{_≡_};
-ghost use Rattle.test_lines.specs.Lines.{findFrom, lineAt, afterLine, fieldOf, firstOf, equals};
+ghost use Rattle.test_lines.specs.Lines.{findFrom, lineAtOffset, afterLine, fieldOf, firstOf, equals};
 
 // The first place of `stop` from `at` on, or the slice's length; `at` itself where it is past the end.
 pub fn find(s: &[u8], at: usize, stop: u8) -> usize
@@ -18,7 +18,7 @@ pub fn find(s: &[u8], at: usize, stop: u8) -> usize
 
 // The line that starts at `at`, without its newline: empty where `at` is past the end.
 pub fn line_at(s: &[u8], at: usize) -> &[u8]
-    ensures { λ r. ⌜ now r ≡ lineAt (now (s .entry)) at ⌝ }
+    ensures { λ r. ⌜ now r ≡ lineAtOffset (now (s .entry)) at ⌝ }
 {
     if s.len() < at {
         return &s[..0];

@@ -5,13 +5,13 @@ use mathlib.Core.Bool.{cond}
 use mathlib.Core.Option.{some, none}
 use lib.ListN.{length}
 use lib.Dec.{eqb}
-use Rattle.typedescriptor.specs.SlotsLaws.{stepped}
+use Rattle.typedescriptor.specs.SlotsLaws.{steppedRows}
 use Rattle.field.specs.Fields.{fieldStep}
 
 -- how many rows: those of at most 4,096 steps, and none where the segments are refused
 unfoldable pub rowsShown : List ℕ → List ℕ → List ℕ → ℕ → ℕ
 rowsShown image segments types start =
-    cond (eqb (length segments % 4) 0) (length (stepped image segments types start 4096 0)) 0
+    cond (eqb (length segments % 4) 0) (length (steppedRows image segments types start 4096 0)) 0
 
 -- where a walk over a fields section stands after the first step that gives no descriptor, or after so many steps
 unfoldable pub walkEnd : List ℕ → ℕ → ℕ → ℕ → ℕ

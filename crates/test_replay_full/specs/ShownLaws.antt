@@ -11,14 +11,14 @@ use Rattle.refusal.specs.Refusal.{Guarded, answered, refused}
 use Rattle.refusal.specs.Guarded.{guarded}
 use Rattle.refusal.specs.GuardedLaws.{answered-is, never-refused, ragged}
 use Rattle.typedescriptor.specs.Slots.{Found, nextRow}
-use Rattle.typedescriptor.specs.SlotsLaws.{stepped}
+use Rattle.typedescriptor.specs.SlotsLaws.{steppedRows}
 use Rattle.field.specs.Fields.{Step, fieldStep}
 use Rattle.field.specs.declared.iter.FieldDescriptor.{FieldDescriptor}
 use Rattle.test_replay_full.specs.Shown.{rowsShown, walkEnd}
 
 module _ (image segments types : List ℕ) (start : ℕ) where
   abbrev left : ℕ → ℕ → ℕ
-  left n i = length (stepped image segments types start n i)
+  left n i = length (steppedRows image segments types start n i)
 
   -- `n` rows are shown, and the walk stands at slot `i`
   abbrev pub Showing : ℕ → ℕ → Type 0
@@ -51,22 +51,22 @@ module _ (image segments types : List ℕ) (start : ℕ) where
     one-left = omega arith
 
     pub row-shown : (f : Found) → answered (some f) ≡ guarded segments (answered (nextRow image segments types start i)) → Showing (n + 1) (f .next)
-    unfolding stepped
+    unfolding steppedRows
     row-shown f e =
         let q : some f ≡ nextRow image segments types start i = answered-is segments (nextRow image segments types start i) (some f) e in
-        let more : left (4096 - n) i ≡ suc (left (4096 - (n + 1)) (f .next)) = rw (one-left, stepped, ← q) in
+        let more : left (4096 - n) i ≡ suc (left (4096 - (n + 1)) (f .next)) = rw (one-left, steppedRows, ← q) in
         omega arith
 
     pub rows-ended : answered none ≡ guarded segments (answered (nextRow image segments types start i)) → n ≡ rowsShown image segments types start
-    unfolding stepped
+    unfolding steppedRows
     rows-ended e =
         let q : none ≡ nextRow image segments types start i = answered-is segments (nextRow image segments types start i) none e in
-        let over : left (4096 - n) i ≡ 0 = rw (one-left, stepped, ← q) in
+        let over : left (4096 - n) i ≡ 0 = rw (one-left, steppedRows, ← q) in
         omega (arith, shown-whole (nextRow image segments types start i) none e)
 
   -- as many as may be
   pub rows-all : (n i : ℕ) → Showing n i → n ≡ 4096 → Whole → n ≡ rowsShown image segments types start
-  unfolding stepped
+  unfolding steppedRows
   rows-all n i g h w =
       let out : 4096 - n ≡ 0 = omega arith in
       let none-left : left (4096 - n) i ≡ 0 = rw out in

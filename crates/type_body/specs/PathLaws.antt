@@ -177,10 +177,10 @@ module _ (image segments types : List ℕ) (start i : ℕ) (row : TypeRow) (er :
       slot-block = run-bind image segments _ (slotRow types start i) ∙ rw er (run-bind image segments _ (body (row .address) (row .flags)) ∙ rw its-body)
 
       -- and read the body's path, and their own
-      pub block-path : path image segments (slotBlock types start i k)
+      pub slot-block-path : path image segments (slotBlock types start i k)
           ≡ path image segments (slotBody types start i) ++ path image segments (block (trailing (row .flags) b) (trailingStart (row .address) b) k)
       unfolding slotBlock
-      block-path =
+      slot-block-path =
           path-bind image segments _ (slotRow types start i)
           ∙ rw (er, slot-body-reads, append-assoc)
           (ap (λ (l : List Range). path image segments (slotRow types start i) ++ l) (path-bind image segments _ (body (row .address) (row .flags)) ∙ rw its-body))

@@ -149,7 +149,7 @@ fn decode_enum_body(image: &[u8], segments: &[u64], mapping: Mapping, address: u
     TypeBody::Enum(enum_in(header))
 }
 
-// The body of the descriptor at an address, which has these flags: nothing where it is no class, struct or enum, where its bytes are
+// The body of the descriptor at an address, which has these flags: nothing where it is not a class, struct or enum, where its bytes are
 // not in the image, and where its end reaches 2^64. The mapping is asked before the segments: one that is true of them changes no answer.
 pub fn decode_body_near(
     image: &[u8],

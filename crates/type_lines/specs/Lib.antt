@@ -1,5 +1,4 @@
 pub mod Digits
 pub mod DigitsLaws
-pub mod Letters
 pub mod Lines
 pub mod LinesLaws

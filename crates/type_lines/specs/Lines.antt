@@ -10,7 +10,7 @@ use Rattle.typedescriptor.specs.Row.{TypeRow}
 use Rattle.typedescriptor.specs.Slots.{Found, nextRow, rows}
 use Rattle.qualified_name.specs.Name.{nameAnswer}
 use Rattle.type_lines.specs.Digits.{hex, decimal}
-use Rattle.type_lines.specs.Letters.{letters}
+use Rattle.util.specs.Letters.{letters}
 use Rattle.type_lines.specs.declared.lines.LineIter.{LineIter}
 use Rattle.type_lines.specs.declared.lines.NextLine.{NextLine}
 

@@ -73,7 +73,7 @@ module _ (b : List ℕ) (at k : ℕ) (fits : at + k ≤ length b) where
   window-length : length (take k (drop at b)) ≡ k
   window-length = length-take-le k (drop at b) (simp length-drop (omega arith))
 
--- a refused answer is no length
+-- a refused answer is not a length
 refused-is : (x : ℕ) (g : Guarded (List ℕ)) → refused x ≡ mapped length g → g ≡ refused x
 refused-is x (answered t) e = let z : _≡_ {A = ℕ} 0 1 = cc in absurd (omega arith)
 refused-is x (refused n) e = let f : x ≡ n = cc in ap refused (sym f)

@@ -1,4 +1,4 @@
-// The lines of the printed listing, one after the other into a lent buffer.
+// The lines of the printed listing, one after the other into the caller's buffer.
 ghost use mathlib.Core.Path.{_≡_};
 ghost use Prim.Native.Nat.{_+_, _≤_, _<_};
 ghost use mathlib.Core.List.{[], _∷_, _++_};

@@ -1,5 +1,5 @@
 -- The types section: docs/SPECIFICATION.md, "Type rows": a list of slots of four bytes, each the offset of a descriptor from the slot's own
--- address; a short last slot is no slot. The address of a slot is the section's plus 4 for each slot before it, modulo 2^64.
+-- address; a short last slot is not a slot. The address of a slot is the section's plus 4 for each slot before it, modulo 2^64.
 use Prim.Native.Nat.{ℕ, zero, suc, _+_, _-_, _*_, _/_, _%_, _^_}
 use mathlib.Core.List.{List, [], _∷_}
 use mathlib.Core.Bool.{cond}

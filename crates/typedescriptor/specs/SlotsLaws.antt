@@ -1,5 +1,5 @@
 -- The rows of the definition are those of the slots that have one (`row-in`, `in-rows`), and stepping gives them: `n` steps give the first `n`
--- (`stepped-take`), as many steps as there are slots give them all (`stepped-all`, `stepped-rows`), and then none is left (`stepped-end`).
+-- (`stepped-rows-take`), as many steps as there are slots give them all (`stepped-rows-all`, `stepped-rows`), and then none is left (`stepped-rows-end`).
 use Prim.Native.Nat.{ℕ, zero, suc, _+_, _-_, _≤_, _<_}
 use native.Mathlib.Nat.{sub-eq-zero-of-le}
 use native.Mathlib.Decide.{decLt}
@@ -17,16 +17,16 @@ use Rattle.typedescriptor.specs.Slots.{slots, slotRow, Found, found, fir
 use Rattle.typedescriptor.specs.RowLaws.{past-slots, rows-end}
 
 -- the rows that at most `n` steps from slot `i` on give, each step from where the one before it left off
-unfoldable pub stepped : List ℕ → List ℕ → List ℕ → ℕ → ℕ → ℕ → List Found
-stepped image segments types start zero i = []
-stepped image segments types start (suc n) i =
-    elim (nextRow image segments types start i) [ none ↦ [] | some f ↦ f ∷ stepped image segments types start n (f .next) ]
+unfoldable pub steppedRows : List ℕ → List ℕ → List ℕ → ℕ → ℕ → ℕ → List Found
+steppedRows image segments types start zero i = []
+steppedRows image segments types start (suc n) i =
+    elim (nextRow image segments types start i) [ none ↦ [] | some f ↦ f ∷ steppedRows image segments types start n (f .next) ]
 
 -- and the slot at which they leave off
-unfoldable pub steppedTo : List ℕ → List ℕ → List ℕ → ℕ → ℕ → ℕ → ℕ
-steppedTo image segments types start zero i = i
-steppedTo image segments types start (suc n) i =
-    elim (nextRow image segments types start i) [ none ↦ i | some f ↦ steppedTo image segments types start n (f .next) ]
+unfoldable pub steppedRowsTo : List ℕ → List ℕ → List ℕ → ℕ → ℕ → ℕ → ℕ
+steppedRowsTo image segments types start zero i = i
+steppedRowsTo image segments types start (suc n) i =
+    elim (nextRow image segments types start i) [ none ↦ i | some f ↦ steppedRowsTo image segments types start n (f .next) ]
 
 module _ (image segments types : List ℕ) (start : ℕ) where
   -- ---- the first row of some slots, and those after it
@@ -157,30 +157,30 @@ module _ (image segments types : List ℕ) (start : ℕ) where
 
   -- ---- stepping
 
-  pub stepped-take : (n i : ℕ) → stepped image segments types start n i ≡ take n (rowsFrom image segments types start (slots types - i) i)
-  unfolding stepped
-  stepped-take zero i = refl
-  stepped-take (suc n) i = go (λ j. stepped-take n j) (nextRow image segments types start i) refl
+  pub stepped-rows-take : (n i : ℕ) → steppedRows image segments types start n i ≡ take n (rowsFrom image segments types start (slots types - i) i)
+  unfolding steppedRows
+  stepped-rows-take zero i = refl
+  stepped-rows-take (suc n) i = go (λ j. stepped-rows-take n j) (nextRow image segments types start i) refl
     where
-      go : ((j : ℕ) → stepped image segments types start n j ≡ take n (rowsFrom image segments types start (slots types - j) j))
+      go : ((j : ℕ) → steppedRows image segments types start n j ≡ take n (rowsFrom image segments types start (slots types - j) j))
           → (x : Option Found) → nextRow image segments types start i ≡ x
-          → stepped image segments types start (suc n) i ≡ take (suc n) (rowsFrom image segments types start (slots types - i) i)
-      go further none t = rw (stepped, t, none-left i (sym t))
-      go further (some f) t = rw (stepped, t, row-left i f (sym t) .0) (ap (λ (l : List Found). f ∷ l) (further (f .next)))
+          → steppedRows image segments types start (suc n) i ≡ take (suc n) (rowsFrom image segments types start (slots types - i) i)
+      go further none t = rw (steppedRows, t, none-left i (sym t))
+      go further (some f) t = rw (steppedRows, t, row-left i f (sym t) .0) (ap (λ (l : List Found). f ∷ l) (further (f .next)))
 
-  pub stepped-all : (n i : ℕ) → slots types - i ≤ n → stepped image segments types start n i ≡ rowsFrom image segments types start (slots types - i) i
-  stepped-all n i h = stepped-take n i ∙ take-all n _ (omega (arith, rows-few (slots types - i) i))
+  pub stepped-rows-all : (n i : ℕ) → slots types - i ≤ n → steppedRows image segments types start n i ≡ rowsFrom image segments types start (slots types - i) i
+  stepped-rows-all n i h = stepped-rows-take n i ∙ take-all n _ (omega (arith, rows-few (slots types - i) i))
 
-  pub stepped-rows : (n : ℕ) → slots types ≤ n → stepped image segments types start n 0 ≡ rows image segments types start
-  stepped-rows n h = stepped-all n 0 (omega arith) ∙ sym rows-start
+  pub stepped-rows : (n : ℕ) → slots types ≤ n → steppedRows image segments types start n 0 ≡ rows image segments types start
+  stepped-rows n h = stepped-rows-all n 0 (omega arith) ∙ sym rows-start
 
-  pub stepped-end : (n i : ℕ) → slots types - i ≤ n → none ≡ nextRow image segments types start (steppedTo image segments types start n i)
-  unfolding steppedTo
-  stepped-end zero i h = rows-end image segments types start i (omega arith)
-  stepped-end (suc n) i h = go (λ j k. stepped-end n j k) (nextRow image segments types start i) refl
+  pub stepped-rows-end : (n i : ℕ) → slots types - i ≤ n → none ≡ nextRow image segments types start (steppedRowsTo image segments types start n i)
+  unfolding steppedRowsTo
+  stepped-rows-end zero i h = rows-end image segments types start i (omega arith)
+  stepped-rows-end (suc n) i h = go (λ j k. stepped-rows-end n j k) (nextRow image segments types start i) refl
     where
-      go : ((j : ℕ) → slots types - j ≤ n → none ≡ nextRow image segments types start (steppedTo image segments types start n j))
+      go : ((j : ℕ) → slots types - j ≤ n → none ≡ nextRow image segments types start (steppedRowsTo image segments types start n j))
           → (x : Option Found) → nextRow image segments types start i ≡ x
-          → none ≡ nextRow image segments types start (steppedTo image segments types start (suc n) i)
-      go further none t = rw (steppedTo, t) (sym t)
-      go further (some f) t = rw (steppedTo, t) (further (f .next) (omega (arith, row-left i f (sym t))))
+          → none ≡ nextRow image segments types start (steppedRowsTo image segments types start (suc n) i)
+      go further none t = rw (steppedRowsTo, t) (sym t)
+      go further (some f) t = rw (steppedRowsTo, t) (further (f .next) (omega (arith, row-left i f (sym t))))

@@ -21,7 +21,7 @@ following ([] ∷ rows) b = following rows b
 following ((r ∷ rs) ∷ rows) b = elim (inRange r b) [ true ↦ some rs | false ↦ following rows b ]
 
 -- whether bytes that have to start in the pending ranges, and then go on with whole sequences, do so.
--- `Utf8Laws.sound` and `Utf8Laws.complete` say that with nothing pending this is `WellFormed`.
+-- `Utf8Laws.utf8-sound` and `Utf8Laws.utf8-complete` say that with nothing pending this is `WellFormed`.
 unfoldable pub goesOn : List ℕ → List ByteRange → Bool
 goesOn [] [] = true
 goesOn [] (r ∷ rs) = false

@@ -1,4 +1,4 @@
--- What `wellFormed` accepts is well-formed by Table 3-7 (`sound`), and what is well-formed it accepts (`complete`).
+-- What `wellFormed` accepts is well-formed by Table 3-7 (`utf8-sound`), and what is well-formed it accepts (`utf8-complete`).
 -- What `lead_limits` promises fixes its answer (`leads-injective`). And which bytes `untilNul` and `textLength` speak of. Assumes nothing.
 use Prim.Native.Nat.{ℕ, zero, suc, _≤_}
 use native.Mathlib.Omega.{arith}
@@ -114,8 +114,8 @@ split (b ∷ bs) (r ∷ rs) e =
       rest = l .rest;
     }
 
-pub sound : (s : List ℕ) → wellFormed s ≡ true → WellFormed s
-sound s e = let l = split s [] e in go (l .sequence) (l .rest) (l .whole)
+pub utf8-sound : (s : List ℕ) → wellFormed s ≡ true → WellFormed s
+utf8-sound s e = let l = split s [] e in go (l .sequence) (l .rest) (l .whole)
   where
     go : {t u : List ℕ} → Sequence [] t → WellFormed u → t ++ u ≡ s → WellFormed s
     go Sequence.none w e = subst WellFormed e w
@@ -125,10 +125,10 @@ unfolding goesOn
 goes-on t Sequence.none e = e
 goes-on t (Sequence.byte l h q) e = rw (within-true _ _ l h) (goes-on t q e)
 
-pub complete : (s : List ℕ) → WellFormed s → wellFormed s ≡ true
+pub utf8-complete : (s : List ℕ) → WellFormed s → wellFormed s ≡ true
 unfolding goesOn
-complete _ WellFormed.empty = refl
-complete _ (WellFormed.sequence {t = t} m q w) = go m q (complete t w)
+utf8-complete _ WellFormed.empty = refl
+utf8-complete _ (WellFormed.sequence {t = t} m q w) = go m q (utf8-complete t w)
   where
     go : {row : List ByteRange} {s : List ℕ} → List·Memᴰ row table → Sequence row s → wellFormed t ≡ true → wellFormed (s ++ t) ≡ true
     go m Sequence.none e = e
@@ -181,4 +181,4 @@ pub text-bytes : (s : List ℕ) (n : ℕ) → textLength s ≡ some n → take n
 text-bytes s n e = rw (text-length s n e .0) (take-until-nul s)
 
 pub text-well-formed : (s : List ℕ) (n : ℕ) → textLength s ≡ some n → WellFormed (take n s)
-text-well-formed s n e = rw (text-bytes s n e) (sound _ (text-length s n e .1))
+text-well-formed s n e = rw (text-bytes s n e) (utf8-sound _ (text-length s n e .1))

@@ -5,6 +5,7 @@ pub mod Buffer
 pub mod BufferLaws
 pub mod Cstr
 pub mod CstrLaws
+pub mod Letters
 pub mod LittleEndian
 pub mod LittleEndianLaws
 pub mod Pointer

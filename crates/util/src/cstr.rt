@@ -54,7 +54,7 @@ pub fn cstr_at(data: &[u8], off: usize) -> &[u8]
     text_part(data, read_cstr_at(data, off))
 }
 
-// The text of a field of fixed size: the empty one where it is no well-formed UTF-8.
+// The text of a field of fixed size: the empty one where it is not well-formed UTF-8.
 pub fn cstr_from_fixed(bytes: &[u8]) -> &[u8]
     ensures { λ r. ⌜ now r ≡ fixedText (now (bytes .entry)) ⌝ }
 {

@@ -40,20 +40,20 @@ wordsOf EntryKind.Override = pointer ∷ pointer ∷ pointer ∷ []
 wordsOf EntryKind.DefaultOverride = pointer ∷ pointer ∷ []
 wordsOf EntryKind.Prespecialization = pointer ∷ []
 
-abbrev pub layoutOf : EntryKind → Layout
-layoutOf k = packed (wordsOf k)
+abbrev pub kindLayout : EntryKind → Layout
+kindLayout k = packed (wordsOf k)
 
 abbrev pub method : Layout
-method = layoutOf EntryKind.Method
+method = kindLayout EntryKind.Method
 
 abbrev pub override : Layout
-override = layoutOf EntryKind.Override
+override = kindLayout EntryKind.Override
 
 abbrev pub defaultOverride : Layout
-defaultOverride = layoutOf EntryKind.DefaultOverride
+defaultOverride = kindLayout EntryKind.DefaultOverride
 
 abbrev pub prespecialization : Layout
-prespecialization = layoutOf EntryKind.Prespecialization
+prespecialization = kindLayout EntryKind.Prespecialization
 
 abbrev pub entrySize : Layout → ℕ
 entrySize layout = 4 * length (layout .words)
@@ -130,5 +130,5 @@ stepAnswer none = EntryStep.End
 stepAnswer (some s) = foundAnswer (s .found) (s .next)
 
 -- the walk that holds the image and the segments
-abbrev pub walkFrom : EntryIter → RefT (List ℕ) → RefT (List ℕ) → MethodWalk
-walkFrom c image segments = record { cursor = c; image = image; segments = segments }
+abbrev pub methodWalkFrom : EntryIter → RefT (List ℕ) → RefT (List ℕ) → MethodWalk
+methodWalkFrom c image segments = record { cursor = c; image = image; segments = segments }

@@ -21,7 +21,7 @@ use Rattle.vtable.specs.declared.entry.EntryKind.{EntryKind}
 use Rattle.vtable.specs.declared.entry.TableEntry.{TableEntry}
 use Rattle.vtable.specs.declared.iter.EntryIter.{EntryIter}
 use Rattle.vtable.specs.declared.iter.EntryStep.{EntryStep}
-use Rattle.vtable.specs.Entries.{Word, pointer, Layout, wordsOf, layoutOf, entrySize, wordAt, wordsFrom, Entry, entryOf, entryAddress, entryAt, moved, entryStep, entryBytes, tableEntry, stepAnswer}
+use Rattle.vtable.specs.Entries.{Word, pointer, Layout, wordsOf, kindLayout, entrySize, wordAt, wordsFrom, Entry, entryOf, entryAddress, entryAt, moved, entryStep, entryBytes, tableEntry, stepAnswer}
 
 -- two numbers of 32 bits have a product of 64
 pub product : {a b : ℕ} → a < 2 ^ 32 → b < 2 ^ 32 → a * b < 2 ^ 64
@@ -162,40 +162,40 @@ some-words EntryKind.Prespecialization = omega arith
 
 -- an entry's value has its words, in their order
 pub words-in : (kind : EntryKind) (a : ℕ) (h : List ℕ)
-    → take (length (wordsOf kind)) (tableEntry (entryOf (layoutOf kind) a h) .first ∷ (tableEntry (entryOf (layoutOf kind) a h) .second ∷ (tableEntry (entryOf (layoutOf kind) a h) .third ∷ [])))
-    ≡ entryOf (layoutOf kind) a h .words
+    → take (length (wordsOf kind)) (tableEntry (entryOf (kindLayout kind) a h) .first ∷ (tableEntry (entryOf (kindLayout kind) a h) .second ∷ (tableEntry (entryOf (kindLayout kind) a h) .third ∷ [])))
+    ≡ entryOf (kindLayout kind) a h .words
 words-in EntryKind.Method a h = refl
 words-in EntryKind.Override a h = refl
 words-in EntryKind.DefaultOverride a h = refl
 words-in EntryKind.Prespecialization a h = refl
 
 -- what the words of an entry of a kind say
-pub told-words : (kind k : EntryKind) (a : ℕ) (h xs : List ℕ) → kind ≡ k → Says (wordsOf k) a 0 h xs → tableEntry (record { address = a; words = xs }) ≡ tableEntry (entryOf (layoutOf kind) a h)
-told-words kind k a h xs e s = ap tableEntry (entry-of (layoutOf k) a h xs s ∙ ap (λ (j : EntryKind). entryOf (layoutOf j) a h) (sym e))
+pub told-words : (kind k : EntryKind) (a : ℕ) (h xs : List ℕ) → kind ≡ k → Says (wordsOf k) a 0 h xs → tableEntry (record { address = a; words = xs }) ≡ tableEntry (entryOf (kindLayout kind) a h)
+told-words kind k a h xs e s = ap tableEntry (entry-of (kindLayout k) a h xs s ∙ ap (λ (j : EntryKind). entryOf (kindLayout j) a h) (sym e))
 
 module _ (image segments : List ℕ) (kind : EntryKind) (c : EntryIter) where
   abbrev answer : EntryStep
-  answer = stepAnswer (entryStep image segments (layoutOf kind) c)
+  answer = stepAnswer (entryStep image segments (kindLayout kind) c)
 
   pub kind-end : c .count ≤ c .next → EntryStep.End ≡ answer
-  kind-end h = ap stepAnswer (step-end image segments (layoutOf kind) c h)
+  kind-end h = ap stepAnswer (step-end image segments (kindLayout kind) c h)
 
-  module _ (size : ℕ) (es : size ≡ entrySize (layoutOf kind)) (m : Mapping) (em : Mapped segments m) (h : List ℕ) (eh : h ≡ entryBytes image (withMapping m segments) size size (c .«base_va») (c .next)) where
-    bytes-sized : h ≡ entryBytes image segments (entrySize (layoutOf kind)) (entrySize (layoutOf kind)) (c .«base_va») (c .next)
+  module _ (size : ℕ) (es : size ≡ entrySize (kindLayout kind)) (m : Mapping) (em : Mapped segments m) (h : List ℕ) (eh : h ≡ entryBytes image (withMapping m segments) size size (c .«base_va») (c .next)) where
+    bytes-sized : h ≡ entryBytes image segments (entrySize (kindLayout kind)) (entrySize (kindLayout kind)) (c .«base_va») (c .next)
     bytes-sized = eh ∙ bytes-mapped image segments size size (c .«base_va») (c .next) m em ∙ ap (λ (s : ℕ). entryBytes image segments s s (c .«base_va») (c .next)) es
 
-    at-sized : (a : ℕ) → a ≡ (c .«base_va» + size * c .next) % 2 ^ 64 → a ≡ entryAddress (layoutOf kind) (c .«base_va») (c .next) % 2 ^ 64
+    at-sized : (a : ℕ) → a ≡ (c .«base_va» + size * c .next) % 2 ^ 64 → a ≡ entryAddress (kindLayout kind) (c .«base_va») (c .next) % 2 ^ 64
     at-sized a ea = ea ∙ ap (λ (s : ℕ). (c .«base_va» + s * c .next) % 2 ^ 64) es
 
-    pub kind-below : (length h ≡ 0 → ⊥) → (a : ℕ) → a ≡ (c .«base_va» + size * c .next) % 2 ^ 64 → a + (entrySize (layoutOf kind) - 4) < 2 ^ 64
-    kind-below n a ea = slots-below image segments (layoutOf kind) (c .«base_va») (c .next) (some-words kind) h bytes-sized n a (at-sized a ea)
+    pub kind-below : (length h ≡ 0 → ⊥) → (a : ℕ) → a ≡ (c .«base_va» + size * c .next) % 2 ^ 64 → a + (entrySize (kindLayout kind) - 4) < 2 ^ 64
+    kind-below n a ea = slots-below image segments (kindLayout kind) (c .«base_va») (c .next) (some-words kind) h bytes-sized n a (at-sized a ea)
 
     module _ (n : EntryIter) (en : n ≡ moved c) (l : c .next < c .count) where
       pub kind-unreadable : length h ≡ 0 → EntryStep.Unreadable n ≡ answer
-      kind-unreadable z = ap stepAnswer (step-moves image segments (layoutOf kind) c none n (no-entry image segments (layoutOf kind) (c .«base_va») (c .next) (some-words kind) h bytes-sized z) en l)
+      kind-unreadable z = ap stepAnswer (step-moves image segments (kindLayout kind) c none n (no-entry image segments (kindLayout kind) (c .«base_va») (c .next) (some-words kind) h bytes-sized z) en l)
 
-      pub kind-entry : (length h ≡ 0 → ⊥) → (a : ℕ) (x : TableEntry) → a ≡ (c .«base_va» + size * c .next) % 2 ^ 64 → x ≡ tableEntry (entryOf (layoutOf kind) a h)
+      pub kind-entry : (length h ≡ 0 → ⊥) → (a : ℕ) (x : TableEntry) → a ≡ (c .«base_va» + size * c .next) % 2 ^ 64 → x ≡ tableEntry (entryOf (kindLayout kind) a h)
           → EntryStep.Entry x n ≡ answer
       kind-entry z a x ea ex =
           ap (λ (y : TableEntry). EntryStep.Entry y n) ex
-          ∙ ap stepAnswer (step-moves image segments (layoutOf kind) c (some (entryOf (layoutOf kind) a h)) n (an-entry image segments (layoutOf kind) (c .«base_va») (c .next) (some-words kind) h bytes-sized z a _ (at-sized a ea) refl) en l)
+          ∙ ap stepAnswer (step-moves image segments (kindLayout kind) c (some (entryOf (kindLayout kind) a h)) n (an-entry image segments (kindLayout kind) (c .«base_va») (c .next) (some-words kind) h bytes-sized z a _ (at-sized a ea) refl) en l)

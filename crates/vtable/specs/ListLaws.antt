@@ -1,6 +1,6 @@
 -- What stepping gives, for every layout at once: the step after `k` steps from the start gives what the program of entry `k` gives, as long as no
 -- earlier entry is unreadable (`stepped-entry`); and the list of a caller who steps until an entry is unreadable or the end is there has the
--- entries whose programs answer, in order, and no others (`listed-all`).
+-- entries whose programs answer, in order, and no others (`entries-listed-all`).
 use Prim.Native.Nat.{ℕ, zero, suc, _+_, _≤_, _<_}
 use native.Mathlib.Decide.{decLt}
 use native.Mathlib.Numerals.{add-one}
@@ -19,8 +19,8 @@ use Rattle.vtable.specs.Entries.{Layout, Entry, entryAt, upTo, entry, st
 use Rattle.vtable.specs.EntriesLaws.{step-end, step-gives}
 
 -- a walk over the same table at entry `k`
-abbrev pub walkAt : ℕ → ℕ → ℕ → EntryIter
-walkAt base count k = record { «base_va» = base; count = count; next = k }
+abbrev pub iterAt : ℕ → ℕ → ℕ → EntryIter
+iterAt base count k = record { «base_va» = base; count = count; next = k }
 
 module _ (image segments : List ℕ) (layout : Layout) where
   -- ---- by number
@@ -36,20 +36,20 @@ module _ (image segments : List ℕ) (layout : Layout) where
   after-by n c x e = rw (stepAfter, e)
 
   module _ (base count : ℕ) where
-    pub step-after : (n k : ℕ) → stepAfter n (walkAt base count k) ≡ entryStep image segments layout (walkAt base count (n + k))
+    pub step-after : (n k : ℕ) → stepAfter n (iterAt base count k) ≡ entryStep image segments layout (iterAt base count (n + k))
     unfolding stepAfter
-    step-after zero k = ap (λ (j : ℕ). entryStep image segments layout (walkAt base count j)) (omega arith)
+    step-after zero k = ap (λ (j : ℕ). entryStep image segments layout (iterAt base count j)) (omega arith)
     step-after (suc n) k = go (step-after n) (decLt k count)
       where
-        go : ((j : ℕ) → stepAfter n (walkAt base count j) ≡ entryStep image segments layout (walkAt base count (n + j))) → Dec (k < count)
-            → stepAfter (suc n) (walkAt base count k) ≡ entryStep image segments layout (walkAt base count (suc n + k))
+        go : ((j : ℕ) → stepAfter n (iterAt base count j) ≡ entryStep image segments layout (iterAt base count (n + j))) → Dec (k < count)
+            → stepAfter (suc n) (iterAt base count k) ≡ entryStep image segments layout (iterAt base count (suc n + k))
         go ih (yes l) =
-            after-by n (walkAt base count k) _ (sym (step-gives image segments layout (walkAt base count k) _ refl l))
+            after-by n (iterAt base count k) _ (sym (step-gives image segments layout (iterAt base count k) _ refl l))
             ∙ ih (k + 1)
-            ∙ ap (λ (j : ℕ). entryStep image segments layout (walkAt base count j)) (omega arith)
+            ∙ ap (λ (j : ℕ). entryStep image segments layout (iterAt base count j)) (omega arith)
         go ih (no l) =
-            after-by n (walkAt base count k) none (sym (step-end image segments layout (walkAt base count k) (omega arith)))
-            ∙ step-end image segments layout (walkAt base count (suc n + k)) (omega arith)
+            after-by n (iterAt base count k) none (sym (step-end image segments layout (iterAt base count k) (omega arith)))
+            ∙ step-end image segments layout (iterAt base count (suc n + k)) (omega arith)
 
     -- no earlier entry is unreadable
     abbrev pub Readable : ℕ → Type 0
@@ -66,16 +66,16 @@ module _ (image segments : List ℕ) (layout : Layout) where
 
     -- stepping k + 1 times gives what the program of entry k gives
     pub stepped-entry : (k : ℕ) → k < count → Readable k
-        → stepAfter k (start base count) ≡ some (record { found = run image segments (entry layout base count k); next = walkAt base count (k + 1) })
+        → stepAfter k (start base count) ≡ some (record { found = run image segments (entry layout base count k); next = iterAt base count (k + 1) })
     unfolding entry
     stepped-entry k l r =
         step-after k 0
-        ∙ ap (λ (j : ℕ). entryStep image segments layout (walkAt base count j)) (omega arith)
-        ∙ sym (step-gives image segments layout (walkAt base count k) _ (simp (lt-ltb k count l) (up-to-run k r)) l)
+        ∙ ap (λ (j : ℕ). entryStep image segments layout (iterAt base count j)) (omega arith)
+        ∙ sym (step-gives image segments layout (iterAt base count k) _ (simp (lt-ltb k count l) (up-to-run k r)) l)
 
     -- and past the last entry the end
-    pub stepped-end : (k : ℕ) → count ≤ k → stepAfter k (start base count) ≡ none
-    stepped-end k l = step-after k 0 ∙ sym (step-end image segments layout (walkAt base count (k + 0)) (omega arith))
+    pub stepped-entries-end : (k : ℕ) → count ≤ k → stepAfter k (start base count) ≡ none
+    stepped-entries-end k l = step-after k 0 ∙ sym (step-end image segments layout (iterAt base count (k + 0)) (omega arith))
 
   -- ---- as a list
 
@@ -116,14 +116,14 @@ module _ (image segments : List ℕ) (layout : Layout) where
         ∙ sym (run-bind image segments (λ _. entryAt layout base (suc k)) (upTo layout base k))
 
     listed-by : (n i : ℕ) → i < count → (x : Option Entry) → run image segments (entryAt layout base i) ≡ x
-        → listed (suc n) (walkAt base count i) ≡ (elim x as (λ _. List Entry) [ none ↦ [] | some e ↦ e ∷ listed n (walkAt base count (i + 1)) ])
+        → listed (suc n) (iterAt base count i) ≡ (elim x as (λ _. List Entry) [ none ↦ [] | some e ↦ e ∷ listed n (iterAt base count (i + 1)) ])
     unfolding listed
-    listed-by n i l x e = rw (listed, sym (step-gives image segments layout (walkAt base count i) x (sym e) l))
+    listed-by n i l x e = rw (listed, sym (step-gives image segments layout (iterAt base count i) x (sym e) l))
 
-    listed-none : (n i : ℕ) → count ≤ i → listed n (walkAt base count i) ≡ []
+    listed-none : (n i : ℕ) → count ≤ i → listed n (iterAt base count i) ≡ []
     unfolding listed
     listed-none zero i l = refl
-    listed-none (suc n) i l = rw (listed, sym (step-end image segments layout (walkAt base count i) l))
+    listed-none (suc n) i l = rw (listed, sym (step-end image segments layout (iterAt base count i) l))
 
     from-none : (i k : ℕ) → run image segments (entryAt layout base i) ≡ none → from i k ≡ none
     unfolding from
@@ -157,19 +157,19 @@ module _ (image segments : List ℕ) (layout : Layout) where
     place-past : (i k : ℕ) → count ≤ i → place i k ≡ none
     place-past i k l = let j : count ≤ k + i = omega arith in simp (le-ltb (k + i) count j)
 
-    listed-at : (n i k : ℕ) → k < n → getElem? (listed n (walkAt base count i)) k ≡ place i k
+    listed-at : (n i k : ℕ) → k < n → getElem? (listed n (iterAt base count i)) k ≡ place i k
     listed-at zero i k l = absurd (omega arith)
     listed-at (suc n) i k l = go (listed-at n (i + 1)) (decLt i count)
       where
-        with-first : ((j : ℕ) → j < n → getElem? (listed n (walkAt base count (i + 1))) j ≡ place (i + 1) j) → i < count
+        with-first : ((j : ℕ) → j < n → getElem? (listed n (iterAt base count (i + 1))) j ≡ place (i + 1) j) → i < count
             → (x : Option Entry) → run image segments (entryAt layout base i) ≡ x → (k : ℕ) → k < suc n
-            → getElem? (elim x as (λ _. List Entry) [ none ↦ [] | some e ↦ e ∷ listed n (walkAt base count (i + 1)) ]) k ≡ place i k
+            → getElem? (elim x as (λ _. List Entry) [ none ↦ [] | some e ↦ e ∷ listed n (iterAt base count (i + 1)) ]) k ≡ place i k
         with-first ih h none e k l = sym (place-none i k e)
         with-first ih h (some a) e zero l = sym (place-first i a h e)
         with-first ih h (some a) e (suc k) l = ih k (omega arith) ∙ sym (place-some i k a e)
 
-        go : ((j : ℕ) → j < n → getElem? (listed n (walkAt base count (i + 1))) j ≡ place (i + 1) j) → Dec (i < count)
-            → getElem? (listed (suc n) (walkAt base count i)) k ≡ place i k
+        go : ((j : ℕ) → j < n → getElem? (listed n (iterAt base count (i + 1))) j ≡ place (i + 1) j) → Dec (i < count)
+            → getElem? (listed (suc n) (iterAt base count i)) k ≡ place i k
         go ih (yes h) = rw (listed-by n i h (run image segments (entryAt layout base i)) refl) (with-first ih h (run image segments (entryAt layout base i)) refl k l)
         go ih (no h) = rw (listed-none (suc n) i (omega arith)) (sym (place-past i k (omega arith)))
 
@@ -182,17 +182,17 @@ module _ (image segments : List ℕ) (layout : Layout) where
         go true = refl
         go false = refl
 
-    few : (n i : ℕ) → length (listed n (walkAt base count i)) ≤ n
+    few : (n i : ℕ) → length (listed n (iterAt base count i)) ≤ n
     unfolding listed
     few zero i = omega arith
     few (suc n) i = go (few n (i + 1)) (decLt i count)
       where
-        with-first : length (listed n (walkAt base count (i + 1))) ≤ n → (x : Option Entry)
-            → length {A = Entry} (elim x as (λ _. List Entry) [ none ↦ [] | some e ↦ e ∷ listed n (walkAt base count (i + 1)) ]) ≤ suc n
+        with-first : length (listed n (iterAt base count (i + 1))) ≤ n → (x : Option Entry)
+            → length {A = Entry} (elim x as (λ _. List Entry) [ none ↦ [] | some e ↦ e ∷ listed n (iterAt base count (i + 1)) ]) ≤ suc n
         with-first ih none = omega arith
         with-first ih (some a) = omega arith
 
-        go : length (listed n (walkAt base count (i + 1))) ≤ n → Dec (i < count) → length (listed (suc n) (walkAt base count i)) ≤ suc n
+        go : length (listed n (iterAt base count (i + 1))) ≤ n → Dec (i < count) → length (listed (suc n) (iterAt base count i)) ≤ suc n
         go ih (yes h) = rw (listed-by n i h (run image segments (entryAt layout base i)) refl) (with-first ih (run image segments (entryAt layout base i)))
         go ih (no h) = rw (listed-none (suc n) i (omega arith)) (omega arith)
 
@@ -203,9 +203,9 @@ module _ (image segments : List ℕ) (layout : Layout) where
     past-end (a ∷ l) (suc k) h = past-end l k (omega arith)
 
     -- the list of a caller who steps to the end: its entry `k` is what the program of entry `k` reads, for every `k`
-    pub listed-all : (n k : ℕ) → count ≤ n → getElem? (listed n (start base count)) k ≡ run image segments (entry layout base count k)
+    pub entries-listed-all : (n k : ℕ) → count ≤ n → getElem? (listed n (start base count)) k ≡ run image segments (entry layout base count k)
     unfolding entry run
-    listed-all n k c = go (decLt k n)
+    entries-listed-all n k c = go (decLt k n)
       where
         go : Dec (k < n) → getElem? (listed n (start base count)) k ≡ run image segments (entry layout base count k)
         go (yes l) = listed-entry n k l

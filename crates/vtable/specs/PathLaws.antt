@@ -16,18 +16,18 @@ use Rattle.runtime.specs.PathLaws.{path-bytes, bytes-read}
 use Rattle.vtable.specs.Entries.{Layout, method, override, defaultOverride, prespecialization, entrySize, Entry, entryOf, entryAddress, entryAt, upTo, entry}
 
 -- where an address lies in the file, 0 where it does not
-abbrev pub offsetIn : List ℕ → ℕ → ℕ
-offsetIn segments a = Option·getD (fileOffset (segmentsOf segments) a) 0
+abbrev pub offsetOrZero : List ℕ → ℕ → ℕ
+offsetOrZero segments a = Option·getD (fileOffset (segmentsOf segments) a) 0
 
 -- the bytes of the entries 0 to `k` in the file, one range to an entry
 unfoldable pub ranges : List ℕ → Layout → ℕ → ℕ → List Range
-ranges segments layout base zero = bytesRange (offsetIn segments (entryAddress layout base 0)) (entrySize layout) ∷ []
-ranges segments layout base (suc k) = ranges segments layout base k ++ (bytesRange (offsetIn segments (entryAddress layout base (suc k))) (entrySize layout) ∷ [])
+ranges segments layout base zero = bytesRange (offsetOrZero segments (entryAddress layout base 0)) (entrySize layout) ∷ []
+ranges segments layout base (suc k) = ranges segments layout base k ++ (bytesRange (offsetOrZero segments (entryAddress layout base (suc k))) (entrySize layout) ∷ [])
 
 -- an entry's bytes lie in the image, at the offset of its address
 pub record Placed (image segments : List ℕ) (layout : Layout) (base k : ℕ) : Type 0 where
-  pub at : fileOffset (segmentsOf segments) (entryAddress layout base k) ≡ some (offsetIn segments (entryAddress layout base k))
-  pub inside : offsetIn segments (entryAddress layout base k) + entrySize layout ≤ length image
+  pub at : fileOffset (segmentsOf segments) (entryAddress layout base k) ≡ some (offsetOrZero segments (entryAddress layout base k))
+  pub inside : offsetOrZero segments (entryAddress layout base k) + entrySize layout ≤ length image
   pub below : entryAddress layout base k + (entrySize layout - 4) < 2 ^ 64
 
 module _ (image segments : List ℕ) (layout : Layout) (base : ℕ) where
@@ -58,19 +58,19 @@ module _ (image segments : List ℕ) (layout : Layout) (base : ℕ) where
     pub placed : Placed image segments layout base k
     placed =
         let w = bytes-read image segments (entryAddress layout base k) e (entrySize layout) says (rw program at there) in
-        let q : offsetIn segments (entryAddress layout base k) ≡ w .offset = ap (λ (x : Option ℕ). Option·getD x 0) (w .at) in
+        let q : offsetOrZero segments (entryAddress layout base k) ≡ w .offset = ap (λ (x : Option ℕ). Option·getD x 0) (w .at) in
         record { at = w .at ∙ ap some (sym q); inside = omega (arith, w .inside); below = last-below }
 
-    own-path : path image segments (entryAt layout base k) ≡ bytesRange (offsetIn segments (entryAddress layout base k)) (entrySize layout) ∷ []
+    own-path : path image segments (entryAt layout base k) ≡ bytesRange (offsetOrZero segments (entryAddress layout base k)) (entrySize layout) ∷ []
     unfolding path
     own-path = ap (path image segments) program ∙ path-bytes image segments (entryAddress layout base k) (entrySize layout) says _ (placed .at) (placed .inside)
 
     -- and it is what these bytes say
-    pub own-words : e ≡ entryOf layout (entryAddress layout base k) (take (entrySize layout) (drop (offsetIn segments (entryAddress layout base k)) image))
+    pub own-words : e ≡ entryOf layout (entryAddress layout base k) (take (entrySize layout) (drop (offsetOrZero segments (entryAddress layout base k)) image))
     unfolding run
     own-words =
         let w = bytes-read image segments (entryAddress layout base k) e (entrySize layout) says (rw program at there) in
-        let q : offsetIn segments (entryAddress layout base k) ≡ w .offset = ap (λ (x : Option ℕ). Option·getD x 0) (w .at) in
+        let q : offsetOrZero segments (entryAddress layout base k) ≡ w .offset = ap (λ (x : Option ℕ). Option·getD x 0) (w .at) in
         let f : some (entryOf layout (entryAddress layout base k) (take (entrySize layout) (drop (w .offset) image))) ≡ some e = w .goes in
         let g : e ≡ entryOf layout (entryAddress layout base k) (take (entrySize layout) (drop (w .offset) image)) = cc in
         rw q g
@@ -141,7 +141,7 @@ module _ (image segments : List ℕ) (layout : Layout) (base : ℕ) where
     entry-placed = up-to-placed k e (rw (is-program .1) at there)
 
     -- and the entry is what its own bytes say
-    pub entry-words : e ≡ entryOf layout (entryAddress layout base k) (take (entrySize layout) (drop (offsetIn segments (entryAddress layout base k)) image))
+    pub entry-words : e ≡ entryOf layout (entryAddress layout base k) (take (entrySize layout) (drop (offsetOrZero segments (entryAddress layout base k)) image))
     entry-words = own-words k e (up-to-own k e (rw (is-program .1) at there))
 
 -- ---- the words, by examples
@@ -167,7 +167,7 @@ sample layout count k = run sampleImage sampleSegments (entry layout 4096 count 
 abbrev high : Layout → ℕ → Option Entry
 high layout base = run sampleImage highSegments (entry layout base 1 0)
 
-pub record Worked : Type 0 where
+pub record EntryPathsWorked : Type 0 where
   pub sizes : (entrySize method ≡ 8) × (entrySize override ≡ 12) × (entrySize defaultOverride ≡ 8) × (entrySize prespecialization ≡ 4)
   -- flags 16; the implementation's offset -4 counts from its own slot at 4100
   pub method-0 : sample method 3 0 ≡ answered 4096 (16 ∷ (4096 ∷ []))
@@ -192,9 +192,9 @@ pub record Worked : Type 0 where
   pub no-method : run (sampleImage ++ sampleImage) highSegments (entry method 18446744073709551612 1 0) ≡ none
   pub high-special : high prespecialization 18446744073709551612 ≡ answered 18446744073709551612 (252 ∷ [])
 
-pub worked : Worked
+pub entry-paths-worked : EntryPathsWorked
 unfolding run bytesPlace within segmentsOf fileOffset decides inFile entry upTo entryAt bind unsignedIn signedIn littleAt signedAt bytesAt littleEndian twosComplement relativeAddress relativePointer
-worked =
+entry-paths-worked =
     record {
       sizes = (refl, refl, refl, refl);
       method-0 = refl;

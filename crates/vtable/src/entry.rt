@@ -1,7 +1,7 @@
 ghost use mathlib.Core.Path.{_≡_};
 ghost use Prim.Native.Nat.{_+_, _*_, _%_, _^_};
 ghost use Rattle.segment.specs.Mapping.{withMapping};
-ghost use Rattle.vtable.specs.Entries.{layoutOf, entrySize, entryBytes};
+ghost use Rattle.vtable.specs.Entries.{kindLayout, entrySize, entryBytes};
 use segment::Mapping;
 
 // The kinds of tables.
@@ -15,7 +15,7 @@ pub enum EntryKind {
 impl EntryKind {
     // How many bytes an entry has.
     pub fn size(self) -> u32
-        ensures { λ r. ⌜ r ≡ entrySize (layoutOf self) ⌝ }
+        ensures { λ r. ⌜ r ≡ entrySize (kindLayout self) ⌝ }
     {
         match self {
             EntryKind::Method => 8,

@@ -1,7 +1,7 @@
 // Walks over the entries of a table: by value, each step hands the walk back.
 ghost use mathlib.Core.Path.{_≡_};
 ghost use Prim.Native.Nat.{_+_, _-_, _^_, _<_};
-ghost use Rattle.vtable.specs.Entries.{method, layoutOf, entrySize, entryOf, start, moved, entryStep, tableEntry, stepAnswer};
+ghost use Rattle.vtable.specs.Entries.{method, kindLayout, entrySize, entryOf, start, moved, entryStep, tableEntry, stepAnswer};
 use crate::entry::EntryKind;
 use crate::entry::TableEntry;
 use crate::entry::entry_address;
@@ -24,8 +24,8 @@ pub enum EntryStep {
 
 // What an entry's bytes say. Its words lie below 2^64.
 fn table_entry(kind: EntryKind, bytes: &[u8], address: u64) -> TableEntry
-    requires { ⌜ address + (entrySize (layoutOf kind) - 4) < 2 ^ 64 ⌝ }
-    ensures { λ r. ⌜ r ≡ tableEntry (entryOf (layoutOf kind) address (now (bytes .entry))) ⌝ }
+    requires { ⌜ address + (entrySize (kindLayout kind) - 4) < 2 ^ 64 ⌝ }
+    ensures { λ r. ⌜ r ≡ tableEntry (entryOf (kindLayout kind) address (now (bytes .entry))) ⌝ }
 {
     match kind {
         EntryKind::Method => TableEntry {
@@ -80,7 +80,7 @@ impl EntryIter {
 
     // The next entry of a table of a kind.
     pub fn next(self, image: &[u8], segments: &[u64], kind: EntryKind) -> EntryStep
-        ensures { λ r. ⌜ r ≡ stepAnswer (entryStep (now (image .entry)) (now (segments .entry)) (layoutOf kind) self) ⌝ }
+        ensures { λ r. ⌜ r ≡ stepAnswer (entryStep (now (image .entry)) (now (segments .entry)) (kindLayout kind) self) ⌝ }
     {
         if self.count <= self.next {
             return EntryStep::End;

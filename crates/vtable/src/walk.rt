@@ -1,7 +1,7 @@
 // A walk over methods as one value that carries the image, the segments and the next entry's number. What it does is done by the step on
 // slices and numbers; each function here makes such a value or takes it apart.
 ghost use mathlib.Core.Path.{_≡_};
-ghost use Rattle.vtable.specs.Entries.{method, entryStep, stepAnswer, walkFrom};
+ghost use Rattle.vtable.specs.Entries.{method, entryStep, stepAnswer, methodWalkFrom};
 use crate::iter::EntryIter;
 use crate::iter::EntryStep;
 
@@ -16,7 +16,7 @@ pub fn method_walk<'a, 'b>(
     image: &'a [u8],
     segments: &'b [u64],
 ) -> MethodWalk<'a, 'b>
-    ensures { λ r. ⌜ r ≡ walkFrom cursor (image .entry) (segments .entry) ⌝ }
+    ensures { λ r. ⌜ r ≡ methodWalkFrom cursor (image .entry) (segments .entry) ⌝ }
 {
     MethodWalk {
         cursor,

@@ -7,7 +7,7 @@ use Rattle.util.specs.AnswersLaws.{told}
 use Rattle.refusal.specs.GuardedLaws.{answered-is, never-refused}
 use Rattle.bundle_lines.specs.Printed.{linesMost, pendingOf, printAnswer}
 use Rattle.bundle_lines.specs.PrintedLaws.{step-part}
-use Rattle.bundle_lines.specs.PrintsLaws.{Going, going-start, going-on, going-end, going-full}
+use Rattle.bundle_lines.specs.PrintsLaws.{Going, going-start, lines-going-on, going-end, going-full}
 use borrow.Author.Needs.{needs}
 use Rattle.list.proofs.print_lines.Statement.{statement}
 use Rattle.list.proofs.print_lines.Tie as tie
@@ -40,7 +40,7 @@ loop-less : tie.Need-loop-less Inv-loop μ-loop
 loop-less c = search needs
 
 loop-again : tie.Need-loop-again Inv-loop μ-loop
-loop-again c = going-on _ _ _ _ _ _ (c .before .before .before .before .before .before .before .loop .inv) (sym (answered-is _ _ _ (told (printAnswer _) (c .before .before .before .before .next-line .ensures .0) (c .before .before .length .given .1)))) (omega arith)
+loop-again c = lines-going-on _ _ _ _ _ _ (c .before .before .before .before .before .before .before .loop .inv) (sym (answered-is _ _ _ (told (printAnswer _) (c .before .before .before .before .next-line .ensures .0) (c .before .before .length .given .1)))) (omega arith)
 
 enum-told : tie.Need-enum-told Inv-loop μ-loop
 enum-told c = search needs

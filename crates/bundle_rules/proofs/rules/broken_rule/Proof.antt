@@ -5,12 +5,12 @@ use native.Mathlib.Omega.{arith}
 use mathlib.Core.Path.{sym, _∙_}
 use lib.ListN.{length}
 use borrow.Author.Needs.{needs}
-use Rattle.bundle_rules.specs.RuleLaws.{too-long-whole, Walked, walked-none, walked-breaks, walked-keeps, walked-whole, walked-missing, seen-image, seen-other, kept}
+use Rattle.bundle_rules.specs.RuleLaws.{too-long-whole, RulesWalked, walked-none, walked-breaks, walked-keeps, walked-whole, walked-missing, seen-image, seen-other, kept-by-check}
 use Rattle.bundle_rules.proofs.rules.broken_rule.Statement.{statement}
 use Rattle.bundle_rules.proofs.rules.broken_rule.Tie as tie
 
 abbrev Inv-loop : tie.InvT-loop
-Inv-loop bytes image₀ last₀ at₀ image last at = Walked bytes image last at
+Inv-loop bytes image₀ last₀ at₀ image last at = RulesWalked bytes image last at
 
 abbrev μ-loop : tie.MeasureT-loop
 μ-loop bytes image₀ last₀ at₀ image last at = length bytes - at
@@ -34,13 +34,13 @@ enum-known-kind : tie.Need-enum-known-kind Inv-loop μ-loop
 enum-known-kind c = search needs
 
 loop-less : tie.Need-loop-less Inv-loop μ-loop
-loop-less c = omega (arith, kept _ _ _ _ _ (sym (c .before .before .kind .given .1) ∙ c .before .before .before .before .check-record .ensures) .next)
+loop-less c = omega (arith, kept-by-check _ _ _ _ _ (sym (c .before .before .kind .given .1) ∙ c .before .before .before .before .check-record .ensures) .next)
 
 loop-again : tie.Need-loop-again Inv-loop μ-loop
 loop-again c = seen-image _ _ _ _ (c .if2 .taken) (walked-keeps _ _ _ _ _ _ (c .before .before .before .before .before .before .loop .inv) (omega arith) (sym (c .before .before .kind .given .1) ∙ c .before .before .before .before .check-record .ensures))
 
 loop-less-2 : tie.Need-loop-less-2 Inv-loop μ-loop
-loop-less-2 c = omega (arith, kept _ _ _ _ _ (sym (c .before .before .kind .given .1) ∙ c .before .before .before .before .check-record .ensures) .next)
+loop-less-2 c = omega (arith, kept-by-check _ _ _ _ _ (sym (c .before .before .kind .given .1) ∙ c .before .before .before .before .check-record .ensures) .next)
 
 loop-again-2 : tie.Need-loop-again-2 Inv-loop μ-loop
 loop-again-2 c = seen-other _ _ _ _ (c .if2 .left) (walked-keeps _ _ _ _ _ _ (c .before .before .before .before .before .before .loop .inv) (omega arith) (sym (c .before .before .kind .given .1) ∙ c .before .before .before .before .check-record .ensures))

@@ -1,7 +1,7 @@
 -- `class_methods::vtables::table_in` meets its contract.
 -- Assumes nothing.
 use mathlib.Core.Path.{sym, ap}
-use Rattle.items.specs.Items.{tableIn}
+use Rattle.items.specs.Items.{bodyTable}
 use borrow.Author.Needs.{needs}
 use Rattle.class_methods.proofs.vtables.table_in.Statement.{statement}
 use Rattle.class_methods.proofs.vtables.table_in.Tie as tie
@@ -16,13 +16,13 @@ enum-told-2 : tie.Need-enum-told-2
 enum-told-2 c = search needs
 
 returns : tie.Need-returns
-returns c = ap tableIn (sym (c .enum-told .given .1))
+returns c = ap bodyTable (sym (c .enum-told .given .1))
 
 returns-2 : tie.Need-returns-2
-returns-2 c = ap tableIn (sym (c .before .body .given .1))
+returns-2 c = ap bodyTable (sym (c .before .body .given .1))
 
 returns-3 : tie.Need-returns-3
-returns-3 c = ap tableIn (sym (c .enum-told2 .given .1))
+returns-3 c = ap bodyTable (sym (c .enum-told2 .given .1))
 
 pub table-in-spec : {M : Type 1} → statement M
 table-in-spec =

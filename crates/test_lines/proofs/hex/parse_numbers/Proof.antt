@@ -6,14 +6,14 @@ use mathlib.Core.Path.{_∙_, ap}
 use denote.Ref.{now}
 use lib.ListN.{length}
 use Rattle.util.specs.AnswersLaws.{told}
-use Rattle.test_lines.specs.Lines.{hexNumber, numbersIn, numberOf}
+use Rattle.test_lines.specs.Lines.{hexNumber, numbersOfFields, numberOf}
 use Rattle.test_lines.specs.LinesLaws.{number-within, Reading, reading-starts, reading-next, reading-stops, reading-ends}
 use borrow.Author.Needs.{needs}
 use Rattle.test_lines.proofs.hex.parse_numbers.Statement.{statement}
 use Rattle.test_lines.proofs.hex.parse_numbers.Tie as tie
 
 abbrev Inv-loop : tie.InvT-loop
-Inv-loop line from step out₀ at₀ n₀ out at n = Reading line step (numbersIn line from step (length out₀)) out₀ out at n
+Inv-loop line from step out₀ at₀ n₀ out at n = Reading line step (numbersOfFields line from step (length out₀)) out₀ out at n
 
 abbrev μ-loop : tie.MeasureT-loop
 μ-loop line from step out₀ at₀ n₀ out at n = length out₀ - n

@@ -5,7 +5,7 @@ use native.Mathlib.Omega.{arith}
 use mathlib.Core.List.{[], _∷_}
 use Rattle.util.specs.AnswersLaws.{case}
 use Rattle.vtable.specs.declared.entry.EntryKind.{EntryKind}
-use Rattle.vtable.specs.Entries.{layoutOf, entrySize}
+use Rattle.vtable.specs.Entries.{kindLayout, entrySize}
 use Rattle.vtable.specs.EntriesLaws.{first-word, told-words}
 use borrow.Author.Needs.{needs}
 use Rattle.vtable.proofs.iter.table_entry.Statement.{statement}
@@ -22,7 +22,7 @@ cast-t6 c = search needs
 
 add-address-in : tie.Need-add-address-in
 add-address-in c =
-    let f : c .before .before .before .before .args .address + (entrySize (layoutOf EntryKind.Method) - 4) < 2 ^ 64 = case (λ (k : EntryKind). c .before .before .before .before .args .address + (entrySize (layoutOf k) - 4) < 2 ^ 64) (c .before .before .before .before .pre) (c .before .enum-told .given .1) in
+    let f : c .before .before .before .before .args .address + (entrySize (kindLayout EntryKind.Method) - 4) < 2 ^ 64 = case (λ (k : EntryKind). c .before .before .before .before .args .address + (entrySize (kindLayout k) - 4) < 2 ^ 64) (c .before .before .before .before .pre) (c .before .enum-told .given .1) in
     record { fits = omega arith }
 
 address-in-requires : tie.Need-address-in-requires
@@ -36,7 +36,7 @@ address-in-requires-2 c κs = search needs
 
 add-address-in-2 : tie.Need-add-address-in-2
 add-address-in-2 c =
-    let f : c .before .before .before .before .args .address + (entrySize (layoutOf EntryKind.Override) - 4) < 2 ^ 64 = case (λ (k : EntryKind). c .before .before .before .before .args .address + (entrySize (layoutOf k) - 4) < 2 ^ 64) (c .before .before .before .before .pre) (c .before .enum-told2 .given .1) in
+    let f : c .before .before .before .before .args .address + (entrySize (kindLayout EntryKind.Override) - 4) < 2 ^ 64 = case (λ (k : EntryKind). c .before .before .before .before .args .address + (entrySize (kindLayout k) - 4) < 2 ^ 64) (c .before .before .before .before .pre) (c .before .enum-told2 .given .1) in
     record { fits = omega arith }
 
 address-in-requires-3 : tie.Need-address-in-requires-3
@@ -44,7 +44,7 @@ address-in-requires-3 c κs = search needs
 
 add-address-in-3 : tie.Need-add-address-in-3
 add-address-in-3 c =
-    let f : c .before .before .before .before .before .args .address + (entrySize (layoutOf EntryKind.Override) - 4) < 2 ^ 64 = case (λ (k : EntryKind). c .before .before .before .before .before .args .address + (entrySize (layoutOf k) - 4) < 2 ^ 64) (c .before .before .before .before .before .pre) (c .before .before .enum-told2 .given .1) in
+    let f : c .before .before .before .before .before .args .address + (entrySize (kindLayout EntryKind.Override) - 4) < 2 ^ 64 = case (λ (k : EntryKind). c .before .before .before .before .before .args .address + (entrySize (kindLayout k) - 4) < 2 ^ 64) (c .before .before .before .before .before .pre) (c .before .before .enum-told2 .given .1) in
     record { fits = omega arith }
 
 address-in-requires-4 : tie.Need-address-in-requires-4
@@ -58,7 +58,7 @@ address-in-requires-5 c κs = search needs
 
 add-address-in-4 : tie.Need-add-address-in-4
 add-address-in-4 c =
-    let f : c .before .before .before .before .args .address + (entrySize (layoutOf EntryKind.DefaultOverride) - 4) < 2 ^ 64 = case (λ (k : EntryKind). c .before .before .before .before .args .address + (entrySize (layoutOf k) - 4) < 2 ^ 64) (c .before .before .before .before .pre) (c .before .enum-told3 .given .1) in
+    let f : c .before .before .before .before .args .address + (entrySize (kindLayout EntryKind.DefaultOverride) - 4) < 2 ^ 64 = case (λ (k : EntryKind). c .before .before .before .before .args .address + (entrySize (kindLayout k) - 4) < 2 ^ 64) (c .before .before .before .before .pre) (c .before .enum-told3 .given .1) in
     record { fits = omega arith }
 
 address-in-requires-6 : tie.Need-address-in-requires-6

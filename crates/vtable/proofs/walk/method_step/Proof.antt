@@ -36,7 +36,7 @@ use denote.Triple.Table.{entered, cited}
 use denote.Triple.Walked.{says, Stays, stay-none, stay-none-slice, walkOf, goes-none, goes-none-slice, Walks, ends-at, walked, walk-meets}
 use denote.Exit.{yes}
 use denote.Triple.Clauses.{ensured, lasts}
-use Rattle.vtable.specs.Entries.{method, entryStep, stepAnswer, walkFrom}
+use Rattle.vtable.specs.Entries.{method, entryStep, stepAnswer, methodWalkFrom}
 use Rattle.vtable.specs.declared.iter.EntryIter.{EntryIter}
 use Rattle.vtable.specs.declared.iter.EntryStep.{EntryStep}
 use Rattle.vtable.specs.declared.walk.MethodWalk.{MethodWalk}
@@ -86,10 +86,10 @@ module _ {M : Type 1} (𝓤 : URA M) (H : Heap 𝓤) (A : Atoms 𝓤) (W : Given
   gives w = stepAnswer (entryStep (now (w .image)) (now (w .segments)) method (w .cursor))
 
   abbrev found : EntryStep
-  found = gives (walkFrom c s t)
+  found = gives (methodWalkFrom c s t)
 
   abbrev Holds : MethodWalk → Type 0
-  Holds w = w ≡ walkFrom c s t
+  Holds w = w ≡ methodWalkFrom c s t
 
   -- the struct's lifetimes as a local of a body has them
   abbrev α : NamedLft
