@@ -9,32 +9,11 @@ use borrow.Author.Needs.{needs}
 use Rattle.c_full_rows.proofs.hodrupec_full_rows.Statement.{statement}
 use Rattle.c_full_rows.proofs.hodrupec_full_rows.Tie as tie
 
-full-rows-requires : tie.Need-full-rows-requires
-full-rows-requires c κs = search needs
-
-enum-known-given : tie.Need-enum-known-given
-enum-known-given c = search needs
-
-flag-requires : tie.Need-flag-requires
-flag-requires c κs = search needs
-
-enum-known-refusal : tie.Need-enum-known-refusal
-enum-known-refusal c = search needs
-
-number-requires : tie.Need-number-requires
-number-requires c κs = search needs
-
-same-length : tie.Need-same-length
-same-length c = search needs
-
 returns : tie.Need-returns
 returns c = (
   tells-as givenNumbers _ _ _ _ (told fullRowsAnswer (c .before .before .before .before .before .before .before .full-rows .ensures .0) (c .before .before .before .given .given .1)) (flag-known (c .before .before .before .given .given .0 .0) _ (c .before .flag .ensures)),
   c .before .before .before .before .before .before .before .full-rows .ensures .1,
 )
-
-same-length-2 : tie.Need-same-length-2
-same-length-2 c = search needs
 
 returns-2 : tie.Need-returns-2
 returns-2 c = (refuses givenNumbers _ _ _ _ (told fullRowsAnswer (c .before .before .before .before .before .before .full-rows .ensures .0) (c .before .before .refusal .given .1)) (c .number .ensures), c .before .before .before .before .before .before .full-rows .ensures .1)
@@ -43,12 +22,5 @@ pub hodrupec-full-rows-spec : {M : Type 1} → statement M
 hodrupec-full-rows-spec =
     tie.close
     (tie.spec
-    full-rows-requires
-    enum-known-given
-    flag-requires
-    enum-known-refusal
-    number-requires
-    same-length
-    returns
-    same-length-2
-    returns-2)
+    (λ c κs. search needs) (λ c. search needs) (λ c κs. search needs) (λ c. search needs) (λ c κs. search needs) (λ c. search needs) returns
+    (λ c. search needs) returns-2)

@@ -21,35 +21,14 @@ abbrev μ-loop : tie.MeasureT-loop
 loop-holds : tie.Need-loop-holds Inv-loop μ-loop
 loop-holds c = going-start _ _ _
 
-next-line-requires : tie.Need-next-line-requires Inv-loop μ-loop
-next-line-requires c κs = search needs
-
-enum-known-length : tie.Need-enum-known-length Inv-loop μ-loop
-enum-known-length c = search needs
-
-line-part-requires : tie.Need-line-part-requires Inv-loop μ-loop
-line-part-requires c κs = search needs
-
 write-line-requires : tie.Need-write-line-requires Inv-loop μ-loop
 write-line-requires c κs = step-part _ _ _ _ _ _ _ (answered-is _ _ _ (told (printAnswer _) (c .before .before .before .before .before .before .next-line .ensures .0) (c .before .before .before .before .length .given .1))) (c .line-part .ensures)
-
-add-lines : tie.Need-add-lines Inv-loop μ-loop
-add-lines c = search needs
-
-loop-less : tie.Need-loop-less Inv-loop μ-loop
-loop-less c = search needs
 
 loop-again : tie.Need-loop-again Inv-loop μ-loop
 loop-again c = lines-going-on _ _ _ _ _ _ (c .before .before .before .before .before .before .before .loop .inv) (sym (answered-is _ _ _ (told (printAnswer _) (c .before .before .before .before .next-line .ensures .0) (c .before .before .length .given .1)))) (omega arith)
 
-enum-told : tie.Need-enum-told Inv-loop μ-loop
-enum-told c = search needs
-
 returns : tie.Need-returns Inv-loop μ-loop
 returns c = going-end _ _ _ _ _ (c .before .before .before .before .before .loop .inv) (sym (answered-is _ _ _ (told (printAnswer _) (c .before .before .next-line .ensures .0) (c .enum-told .given .1))))
-
-enum-told-2 : tie.Need-enum-told-2 Inv-loop μ-loop
-enum-told-2 c = search needs
 
 returns-2 : tie.Need-returns-2 Inv-loop μ-loop
 returns-2 c = absurd (never-refused _ _ _ (told (printAnswer _) (c .before .before .next-line .ensures .0) (c .enum-told2 .given .1)) (c .before .before .before .before .before .before .before .before .pre))
@@ -61,18 +40,5 @@ pub print-lines-spec : {M : Type 1} → statement M
 print-lines-spec =
     tie.close
     (tie.spec
-    Inv-loop
-    μ-loop
-    loop-holds
-    next-line-requires
-    enum-known-length
-    line-part-requires
-    write-line-requires
-    add-lines
-    loop-less
-    loop-again
-    enum-told
-    returns
-    enum-told-2
-    returns-2
-    returns-3)
+    Inv-loop μ-loop loop-holds (λ c κs. search needs) (λ c. search needs) (λ c κs. search needs) write-line-requires (λ c. search needs)
+    (λ c. search needs) loop-again (λ c. search needs) returns (λ c. search needs) returns-2 returns-3)

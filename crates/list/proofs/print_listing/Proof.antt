@@ -13,12 +13,6 @@ use borrow.Author.Needs.{needs}
 use Rattle.list.proofs.print_listing.Statement.{statement}
 use Rattle.list.proofs.print_listing.Tie as tie
 
-start-requires : tie.Need-start-requires
-start-requires c κs = search needs
-
-segments-requires : tie.Need-segments-requires
-segments-requires c κs = search needs
-
 array-share-prefix-numbers : tie.Need-array-share-prefix-numbers
 array-share-prefix-numbers c = numbers-fit (now (c .before .before .before .before .args .bytes)) (pendingOf (c .before .before .start .result)) (c .segments .result) (replicate segmentNumbersMost 0) (c .segments .last .1 .1 .0) (c .segments .ensures .0) (c .segments .ensures .1)
 
@@ -35,9 +29,4 @@ pub print-listing-spec : {M : Type 1} → statement M
 print-listing-spec =
     tie.close
     (tie.spec
-    start-requires
-    segments-requires
-    array-share-prefix-numbers
-    slice-aggregate-print-lines
-    print-lines-requires
-    returns)
+    (λ c κs. search needs) (λ c κs. search needs) array-share-prefix-numbers slice-aggregate-print-lines print-lines-requires returns)

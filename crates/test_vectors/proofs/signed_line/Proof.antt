@@ -7,15 +7,6 @@ use Rattle.test_vectors.proofs.signed_line.Tie as tie
 cast-number-line : tie.Need-cast-number-line
 cast-number-line c = forward-cast _ (c .before .fits .n) (c .if1 .taken)
 
-number-line-requires : tie.Need-number-line-requires
-number-line-requires c κs = search needs
-
-slice-aggregate-write-all : tie.Need-slice-aggregate-write-all
-slice-aggregate-write-all c = search needs
-
-write-all-requires : tie.Need-write-all-requires
-write-all-requires c κs = search needs
-
 cast-number-line-2 : tie.Need-cast-number-line-2
 cast-number-line-2 c = widened _ (c .before .before .before .fits .n)
 
@@ -25,26 +16,9 @@ sub-number-line c = negated-fits _ (c .before .before .before .fits .n) (c .befo
 cast-number-line-3 : tie.Need-cast-number-line-3
 cast-number-line-3 c = back-cast _ (c .before .before .before .fits .n) (c .before .before .if1 .left)
 
-number-line-requires-2 : tie.Need-number-line-requires-2
-number-line-requires-2 c κs = search needs
-
-returns : tie.Need-returns
-returns c = search needs
-
-returns-2 : tie.Need-returns-2
-returns-2 c = search needs
-
 pub signed-line-spec : {M : Type 1} → statement M
 signed-line-spec =
     tie.close
     (tie.spec
-    cast-number-line
-    number-line-requires
-    slice-aggregate-write-all
-    write-all-requires
-    cast-number-line-2
-    sub-number-line
-    cast-number-line-3
-    number-line-requires-2
-    returns
-    returns-2)
+    cast-number-line (λ c κs. search needs) (λ c. search needs) (λ c κs. search needs) cast-number-line-2 sub-number-line cast-number-line-3
+    (λ c κs. search needs) (λ c. search needs) (λ c. search needs))

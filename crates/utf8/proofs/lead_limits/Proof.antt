@@ -18,26 +18,8 @@ returns-3 : tie.Need-returns-3
 unfolding table
 returns-3 c = in-row 1 table _ (omega arith)
 
-three-bytes-requires : tie.Need-three-bytes-requires
-three-bytes-requires c κs = search needs
-
-returns-4 : tie.Need-returns-4
-returns-4 c = search needs
-
-four-bytes-requires : tie.Need-four-bytes-requires
-four-bytes-requires c κs = search needs
-
-returns-5 : tie.Need-returns-5
-returns-5 c = search needs
-
 pub lead-limits-spec : {M : Type 1} → statement M
 lead-limits-spec =
     tie.close
     (tie.spec
-    returns
-    returns-2
-    returns-3
-    three-bytes-requires
-    returns-4
-    four-bytes-requires
-    returns-5)
+    returns returns-2 returns-3 (λ c κs. search needs) (λ c. search needs) (λ c κs. search needs) (λ c. search needs))

@@ -27,28 +27,10 @@ Inv-scan s i₀ formed₀ i formed = (i ≤ length s) × (formed ≡ true) × Wa
 abbrev μ-scan : tie.MeasureT-scan
 μ-scan s i₀ formed₀ i formed = length s - i
 
-plain-prefix-requires : tie.Need-plain-prefix-requires Inv-loop μ-loop Inv-scan μ-scan
-plain-prefix-requires c κs = search needs
-
 scan-holds : tie.Need-scan-holds Inv-loop μ-loop Inv-scan μ-scan
 scan-holds c =
     let p = c .plain-prefix .ensures in
     (p .0, refl, plain-walk _ _ (p .1) (p .0))
-
-shared-slice-read-b : tie.Need-shared-slice-read-b Inv-loop μ-loop Inv-scan μ-scan
-shared-slice-read-b c = search needs
-
-add-i : tie.Need-add-i Inv-loop μ-loop Inv-scan μ-scan
-add-i c = search needs
-
-lead-limits-requires : tie.Need-lead-limits-requires Inv-loop μ-loop Inv-scan μ-scan
-lead-limits-requires c κs = search needs
-
-enum-told : tie.Need-enum-told Inv-loop μ-loop Inv-scan μ-scan
-enum-told c = search needs
-
-scan-less : tie.Need-scan-less Inv-loop μ-loop Inv-scan μ-scan
-scan-less c = search needs
 
 scan-again : tie.Need-scan-again Inv-loop μ-loop Inv-scan μ-scan
 scan-again c =
@@ -56,9 +38,6 @@ scan-again c =
     let at = byte .before .before .before .scan in
     let asked = sym (ap leads (c .enum-told .given .1)) ∙ c .before .before .lead-limits .ensures in
     (omega arith, at .inv .1, lead-step _ _ (byte .before .before .scan-test .taken) _ (byte .if1 .left) asked (at .inv .2))
-
-enum-known-low : tie.Need-enum-known-low Inv-loop μ-loop Inv-scan μ-scan
-enum-known-low c = search needs
 
 add-left : tie.Need-add-left Inv-loop μ-loop Inv-scan μ-scan
 add-left c =
@@ -77,25 +56,10 @@ loop-holds c =
     let walk = lead-tail _ _ (byte .before .before .scan-test .taken) _ _ more (byte .if1 .left) asked (at .inv .2) in
     (omega arith, omega arith, at .inv .1, λ h. tail-limits _ _ more _ asked .0, walk)
 
-scan-less-2 : tie.Need-scan-less-2 Inv-loop μ-loop Inv-scan μ-scan
-scan-less-2 c = search needs
-
 scan-again-2 : tie.Need-scan-again-2 Inv-loop μ-loop Inv-scan μ-scan
 scan-again-2 c =
     let at = c .before .loop in
     (at .inv .1, at .inv .2, tail-done _ _ _ _ _ (c .loop-test .left) (at .inv .4))
-
-shared-slice-read-c : tie.Need-shared-slice-read-c Inv-loop μ-loop Inv-scan μ-scan
-shared-slice-read-c c = search needs
-
-sub-left : tie.Need-sub-left Inv-loop μ-loop Inv-scan μ-scan
-sub-left c = search needs
-
-add-i-2 : tie.Need-add-i-2 Inv-loop μ-loop Inv-scan μ-scan
-add-i-2 c = search needs
-
-loop-less : tie.Need-loop-less Inv-loop μ-loop Inv-scan μ-scan
-loop-less c = search needs
 
 loop-again : tie.Need-loop-again Inv-loop μ-loop Inv-scan μ-scan
 loop-again c =
@@ -104,12 +68,6 @@ loop-again c =
     let more = inside .before .loop-test .taken in
     let walk = tail-step _ _ (inside .if3 .left) _ _ _ more (at .inv .3 more) (c .before .if4 .left) (ltb-false _ _ (c .if5 .left)) (at .inv .4) in
     (omega arith, omega arith, at .inv .2, omega arith, walk)
-
-enum-told-2 : tie.Need-enum-told-2 Inv-loop μ-loop Inv-scan μ-scan
-enum-told-2 c = search needs
-
-scan-less-3 : tie.Need-scan-less-3 Inv-loop μ-loop Inv-scan μ-scan
-scan-less-3 c = search needs
 
 scan-again-3 : tie.Need-scan-again-3 Inv-loop μ-loop Inv-scan μ-scan
 scan-again-3 c =
@@ -147,30 +105,6 @@ pub scan-text-spec : {M : Type 1} → statement M
 scan-text-spec =
     tie.close
     (tie.spec
-    Inv-loop
-    μ-loop
-    Inv-scan
-    μ-scan
-    plain-prefix-requires
-    scan-holds
-    shared-slice-read-b
-    add-i
-    lead-limits-requires
-    enum-told
-    scan-less
-    scan-again
-    enum-known-low
-    add-left
-    loop-holds
-    scan-less-2
-    scan-again-2
-    shared-slice-read-c
-    sub-left
-    add-i-2
-    loop-less
-    loop-again
-    enum-told-2
-    scan-less-3
-    scan-again-3
-    returns
-    returns-2)
+    Inv-loop μ-loop Inv-scan μ-scan (λ c κs. search needs) scan-holds (λ c. search needs) (λ c. search needs) (λ c κs. search needs)
+    (λ c. search needs) (λ c. search needs) scan-again (λ c. search needs) add-left loop-holds (λ c. search needs) scan-again-2 (λ c. search needs)
+    (λ c. search needs) (λ c. search needs) (λ c. search needs) loop-again (λ c. search needs) (λ c. search needs) scan-again-3 returns returns-2)

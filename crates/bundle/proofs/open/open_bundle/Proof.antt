@@ -10,21 +10,6 @@ use Rattle.bundle.proofs.open.open_bundle.Tie as tie
 returns : tie.Need-returns
 returns c = too-long _ (omega arith)
 
-take-record-requires : tie.Need-take-record-requires
-take-record-requires c κs = search needs
-
-take-record-requires-2 : tie.Need-take-record-requires-2
-take-record-requires-2 c κs = search needs
-
-take-record-requires-3 : tie.Need-take-record-requires-3
-take-record-requires-3 c κs = search needs
-
-take-record-requires-4 : tie.Need-take-record-requires-4
-take-record-requires-4 c κs = search needs
-
-take-record-requires-5 : tie.Need-take-record-requires-5
-take-record-requires-5 c κs = search needs
-
 returns-2 : tie.Need-returns-2
 returns-2 c =
     let t = c .before .before in
@@ -55,15 +40,5 @@ pub open-bundle-spec : {M : Type 1} → statement M
 open-bundle-spec =
     tie.close
     (tie.spec
-    returns
-    take-record-requires
-    take-record-requires-2
-    take-record-requires-3
-    take-record-requires-4
-    take-record-requires-5
-    returns-2
-    returns-3
-    section-of-requires
-    section-of-requires-2
-    section-of-requires-3
-    returns-4)
+    returns (λ c κs. search needs) (λ c κs. search needs) (λ c κs. search needs) (λ c κs. search needs) (λ c κs. search needs) returns-2 returns-3
+    section-of-requires section-of-requires-2 section-of-requires-3 returns-4)

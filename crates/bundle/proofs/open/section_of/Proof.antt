@@ -9,20 +9,8 @@ use borrow.Author.Needs.{needs}
 use Rattle.bundle.proofs.open.section_of.Statement.{statement}
 use Rattle.bundle.proofs.open.section_of.Tie as tie
 
-read-u64-le-at-requires : tie.Need-read-u64-le-at-requires
-read-u64-le-at-requires c κs = search needs
-
-enum-known-address : tie.Need-enum-known-address
-enum-known-address c = search needs
-
-add-t8 : tie.Need-add-t8
-add-t8 c = search needs
-
 returns : tie.Need-returns
 returns c = section-there _ _ _ (told u64Value (c .before .before .before .read-u64-le-at .ensures) (c .before .address .given .1)) (omega arith)
-
-enum-told : tie.Need-enum-told
-enum-told c = search needs
 
 returns-2 : tie.Need-returns-2
 returns-2 c = absurd (omega (arith, little-beyond 8 _ _ (told u64Value (c .before .before .read-u64-le-at .ensures) (c .enum-told .given .1))))
@@ -34,10 +22,4 @@ pub section-of-spec : {M : Type 1} → statement M
 section-of-spec =
     tie.close
     (tie.spec
-    read-u64-le-at-requires
-    enum-known-address
-    add-t8
-    returns
-    enum-told
-    returns-2
-    returns-3)
+    (λ c κs. search needs) (λ c. search needs) (λ c. search needs) returns (λ c. search needs) returns-2 returns-3)

@@ -7,24 +7,6 @@ use borrow.Author.Needs.{needs}
 use Rattle.bundle_lines.proofs.lines.rows_line.Statement.{statement}
 use Rattle.bundle_lines.proofs.lines.rows_line.Tie as tie
 
-image-part-requires : tie.Need-image-part-requires
-image-part-requires c κs = search needs
-
-types-part-requires : tie.Need-types-part-requires
-types-part-requires c κs = search needs
-
-next-line-requires : tie.Need-next-line-requires
-next-line-requires c κs = search needs
-
-enum-known-length : tie.Need-enum-known-length
-enum-known-length c = search needs
-
-enum-told : tie.Need-enum-told
-enum-told c = search needs
-
-enum-known-refusal : tie.Need-enum-known-refusal
-enum-known-refusal c = search needs
-
 returns : tie.Need-returns
 returns c = rows-print _ _ _ _ _ _ _ (c .before .before .before .before .before .before .image-part .ensures) (c .before .before .before .before .before .types-part .ensures) _ _ (told (lineAnswer _) (c .before .before .before .next-line .ensures .0) (c .before .length .given .1), c .before .before .before .next-line .ensures .1)
 
@@ -38,12 +20,5 @@ pub rows-line-spec : {M : Type 1} → statement M
 rows-line-spec =
     tie.close
     (tie.spec
-    image-part-requires
-    types-part-requires
-    next-line-requires
-    enum-known-length
-    enum-told
-    enum-known-refusal
-    returns
-    returns-2
+    (λ c κs. search needs) (λ c κs. search needs) (λ c κs. search needs) (λ c. search needs) (λ c. search needs) (λ c. search needs) returns returns-2
     returns-3)

@@ -8,15 +8,6 @@ use borrow.Author.Needs.{needs}
 use Rattle.bundle_lines.proofs.lines.start.Statement.{statement}
 use Rattle.bundle_lines.proofs.lines.start.Tie as tie
 
-open-bundle-requires : tie.Need-open-bundle-requires
-open-bundle-requires c κs = search needs
-
-enum-known-layout : tie.Need-enum-known-layout
-enum-known-layout c = search needs
-
-enum-known-refusal : tie.Need-enum-known-refusal
-enum-known-refusal c = search needs
-
 returns : tie.Need-returns
 returns c = ap startOf (told opened (c .before .before .before .open-bundle .ensures) (c .before .layout .given .1))
 
@@ -26,4 +17,5 @@ returns-2 c = ap startOf (told opened (c .before .before .before .open-bundle .e
 pub start-spec : {M : Type 1} → statement M
 start-spec =
     tie.close
-    (tie.spec open-bundle-requires enum-known-layout enum-known-refusal returns returns-2)
+    (tie.spec
+    (λ c κs. search needs) (λ c. search needs) (λ c. search needs) returns returns-2)

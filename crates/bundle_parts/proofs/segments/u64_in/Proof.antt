@@ -8,15 +8,6 @@ use borrow.Author.Needs.{needs}
 use Rattle.bundle_parts.proofs.segments.u64_in.Statement.{statement}
 use Rattle.bundle_parts.proofs.segments.u64_in.Tie as tie
 
-read-u64-le-at-requires : tie.Need-read-u64-le-at-requires
-read-u64-le-at-requires c κs = search needs
-
-enum-known-n : tie.Need-enum-known-n
-enum-known-n c = search needs
-
-enum-told : tie.Need-enum-told
-enum-told c = search needs
-
 returns : tie.Need-returns
 returns c = little-value 8 _ _ _ (told u64Value (c .before .before .before .read-u64-le-at .ensures) (c .before .n .given .1))
 
@@ -24,4 +15,5 @@ returns-2 : tie.Need-returns-2
 returns-2 c = absurd (omega (arith, little-beyond 8 _ _ (told u64Value (c .before .before .read-u64-le-at .ensures) (c .enum-told .given .1))))
 
 pub u64-in-spec : {M : Type 1} → statement M
-u64-in-spec = tie.close (tie.spec read-u64-le-at-requires enum-known-n enum-told returns returns-2)
+u64-in-spec = tie.close (tie.spec
+    (λ c κs. search needs) (λ c. search needs) (λ c. search needs) returns returns-2)

@@ -21,17 +21,8 @@ returns c = too-long-whole _ (omega arith)
 loop-holds : tie.Need-loop-holds Inv-loop μ-loop
 loop-holds c = walked-none _ (omega arith)
 
-check-record-requires : tie.Need-check-record-requires Inv-loop μ-loop
-check-record-requires c κs = search needs
-
-enum-known-rule : tie.Need-enum-known-rule Inv-loop μ-loop
-enum-known-rule c = search needs
-
 returns-2 : tie.Need-returns-2 Inv-loop μ-loop
 returns-2 c = walked-breaks _ _ _ _ _ (c .before .before .before .before .before .loop .inv) (omega arith) (sym (c .before .rule .given .1) ∙ c .before .before .before .check-record .ensures)
-
-enum-known-kind : tie.Need-enum-known-kind Inv-loop μ-loop
-enum-known-kind c = search needs
 
 loop-less : tie.Need-loop-less Inv-loop μ-loop
 loop-less c = omega (arith, kept-by-check _ _ _ _ _ (sym (c .before .before .kind .given .1) ∙ c .before .before .before .before .check-record .ensures) .next)
@@ -55,17 +46,5 @@ pub broken-rule-spec : {M : Type 1} → statement M
 broken-rule-spec =
     tie.close
     (tie.spec
-    Inv-loop
-    μ-loop
-    returns
-    loop-holds
-    check-record-requires
-    enum-known-rule
-    returns-2
-    enum-known-kind
-    loop-less
-    loop-again
-    loop-less-2
-    loop-again-2
-    returns-3
-    returns-4)
+    Inv-loop μ-loop returns loop-holds (λ c κs. search needs) (λ c. search needs) returns-2 (λ c. search needs) loop-less loop-again loop-less-2
+    loop-again-2 returns-3 returns-4)

@@ -10,38 +10,17 @@ use borrow.Author.Needs.{needs}
 use Rattle.bundle_rules.proofs.rules.check_record.Statement.{statement}
 use Rattle.bundle_rules.proofs.rules.check_record.Tie as tie
 
-read-u32-le-at-requires : tie.Need-read-u32-le-at-requires
-read-u32-le-at-requires c κs = search needs
-
-enum-known-size : tie.Need-enum-known-size
-enum-known-size c = search needs
-
-enum-told : tie.Need-enum-told
-enum-told c = search needs
-
 returns : tie.Need-returns
 returns c = check-past _ _ _ (omega (arith, little-beyond 4 _ _ (told u32Value (c .before .before .read-u32-le-at .ensures) (c .enum-told .given .1))))
 
 add-read-u16-le-at : tie.Need-add-read-u16-le-at
 add-read-u16-le-at c = omega (arith, little-within 4 _ _ _ (told u32Value (c .before .before .before .read-u32-le-at .ensures) (c .before .size .given .1)))
 
-read-u16-le-at-requires : tie.Need-read-u16-le-at-requires
-read-u16-le-at-requires c κs = search needs
-
-enum-known-kind : tie.Need-enum-known-kind
-enum-known-kind c = search needs
-
-enum-told-2 : tie.Need-enum-told-2
-enum-told-2 c = search needs
-
 returns-2 : tie.Need-returns-2
 returns-2 c = check-past _ _ _ (omega (arith, little-beyond 2 _ _ (told u16Value (c .before .before .read-u16-le-at .ensures) (c .enum-told2 .given .1))))
 
 add-start : tie.Need-add-start
 add-start c = omega (arith, little-within 2 _ _ _ (told u16Value (c .before .before .before .read-u16-le-at .ensures) (c .before .kind .given .1)))
-
-cast-length : tie.Need-cast-length
-cast-length c = search needs
 
 sub-if1 : tie.Need-sub-if1
 sub-if1 c = omega (arith, little-within 2 _ _ _ (told u16Value (c .before .before .before .read-u16-le-at .ensures) (c .before .kind .given .1)))
@@ -71,9 +50,6 @@ returns-6 c =
     check-kind _ _ _ _ _ (told u32Value (k .before .before .before .before .before .before .read-u32-le-at .ensures) (k .before .before .before .before .size .given .1)) (told u16Value (k .before .before .read-u16-le-at .ensures) (k .kind .given .1))
     (kind-not-above _ _ _ _ (c .before .before .if2 .left) (c .before .if3 .left) (c .if4 .taken))
     (c .before .before .before .if1 .left)
-
-body-fits-requires : tie.Need-body-fits-requires
-body-fits-requires c κs = search needs
 
 add-t20 : tie.Need-add-t20
 add-t20 c =
@@ -105,24 +81,6 @@ pub check-record-spec : {M : Type 1} → statement M
 check-record-spec =
     tie.close
     (tie.spec
-    read-u32-le-at-requires
-    enum-known-size
-    enum-told
-    returns
-    add-read-u16-le-at
-    read-u16-le-at-requires
-    enum-known-kind
-    enum-told-2
-    returns-2
-    add-start
-    cast-length
-    sub-if1
-    returns-3
-    returns-4
-    returns-5
-    returns-6
-    body-fits-requires
-    add-t20
-    returns-7
-    returns-8
-    returns-9)
+    (λ c κs. search needs) (λ c. search needs) (λ c. search needs) returns add-read-u16-le-at (λ c κs. search needs) (λ c. search needs)
+    (λ c. search needs) returns-2 add-start (λ c. search needs) sub-if1 returns-3 returns-4 returns-5 returns-6 (λ c κs. search needs) add-t20
+    returns-7 returns-8 returns-9)

@@ -8,27 +8,6 @@ use borrow.Author.Needs.{needs}
 use Rattle.c_blocks.proofs.blocks.block_numbered.Statement.{statement}
 use Rattle.c_blocks.proofs.blocks.block_numbered.Tie as tie
 
-row-body-requires : tie.Need-row-body-requires
-row-body-requires c κs = search needs
-
-enum-known-body : tie.Need-enum-known-body
-enum-known-body c = search needs
-
-kind-numbered-requires : tie.Need-kind-numbered-requires
-kind-numbered-requires c κs = search needs
-
-enum-known-kind : tie.Need-enum-known-kind
-enum-known-kind c = search needs
-
-block-of-kind-requires : tie.Need-block-of-kind-requires
-block-of-kind-requires c κs = search needs
-
-enum-told : tie.Need-enum-told
-enum-told c = search needs
-
-enum-known-refusal : tie.Need-enum-known-refusal
-enum-known-refusal c = search needs
-
 returns : tie.Need-returns
 returns c = kind-block _ _ _ _ _ _ (told bodyAnswer (c .before .before .before .before .before .before .before .before .row-body .ensures) (c .before .before .before .before .before .before .body .given .1)) _ _ (told kindReadOf (c .before .before .before .before .kind-numbered .ensures) (c .before .before .kind .given .1)) (c .block-of-kind .ensures)
 
@@ -42,13 +21,5 @@ pub block-numbered-spec : {M : Type 1} → statement M
 block-numbered-spec =
     tie.close
     (tie.spec
-    row-body-requires
-    enum-known-body
-    kind-numbered-requires
-    enum-known-kind
-    block-of-kind-requires
-    enum-told
-    enum-known-refusal
-    returns
-    returns-2
-    returns-3)
+    (λ c κs. search needs) (λ c. search needs) (λ c κs. search needs) (λ c. search needs) (λ c κs. search needs) (λ c. search needs)
+    (λ c. search needs) returns returns-2 returns-3)

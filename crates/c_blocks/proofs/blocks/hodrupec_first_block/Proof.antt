@@ -11,24 +11,6 @@ use borrow.Author.Needs.{needs}
 use Rattle.c_blocks.proofs.blocks.hodrupec_first_block.Statement.{statement}
 use Rattle.c_blocks.proofs.blocks.hodrupec_first_block.Tie as tie
 
-row-body-requires : tie.Need-row-body-requires
-row-body-requires c κs = search needs
-
-enum-known-body : tie.Need-enum-known-body
-enum-known-body c = search needs
-
-trailing-requires : tie.Need-trailing-requires
-trailing-requires c κs = search needs
-
-start-numbers-requires : tie.Need-start-numbers-requires
-start-numbers-requires c κs = search needs
-
-enum-known-refusal : tie.Need-enum-known-refusal
-enum-known-refusal c = search needs
-
-number-requires : tie.Need-number-requires
-number-requires c κs = search needs
-
 returns : tie.Need-returns
 returns c = tells-as startNumbers _ _ _ _ (answered-then _ (trailers _ _) _ _ (told bodyAnswer (c .before .before .before .before .before .row-body .ensures) (c .before .before .before .body .given .1))) (c .start-numbers .ensures ∙ ap startNumbers (c .before .trailing .ensures))
 
@@ -39,11 +21,5 @@ pub hodrupec-first-block-spec : {M : Type 1} → statement M
 hodrupec-first-block-spec =
     tie.close
     (tie.spec
-    row-body-requires
-    enum-known-body
-    trailing-requires
-    start-numbers-requires
-    enum-known-refusal
-    number-requires
-    returns
+    (λ c κs. search needs) (λ c. search needs) (λ c κs. search needs) (λ c κs. search needs) (λ c. search needs) (λ c κs. search needs) returns
     returns-2)

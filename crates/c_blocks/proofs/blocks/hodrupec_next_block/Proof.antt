@@ -9,33 +9,6 @@ use borrow.Author.Needs.{needs}
 use Rattle.c_blocks.proofs.blocks.hodrupec_next_block.Statement.{statement}
 use Rattle.c_blocks.proofs.blocks.hodrupec_next_block.Tie as tie
 
-next-block-requires : tie.Need-next-block-requires
-next-block-requires c κs = search needs
-
-enum-known-block : tie.Need-enum-known-block
-enum-known-block c = search needs
-
-number-of-requires : tie.Need-number-of-requires
-number-of-requires c κs = search needs
-
-numbers-of-requires : tie.Need-numbers-of-requires
-numbers-of-requires c κs = search needs
-
-cast-t20 : tie.Need-cast-t20
-cast-t20 c = search needs
-
-cast-t21 : tie.Need-cast-t21
-cast-t21 c = search needs
-
-enum-told : tie.Need-enum-told
-enum-told c = search needs
-
-enum-known-refusal : tie.Need-enum-known-refusal
-enum-known-refusal c = search needs
-
-number-requires : tie.Need-number-requires
-number-requires c κs = search needs
-
 returns : tie.Need-returns
 returns c = tells-as blockStepNumbers _ _ _ _ (told nextBlockAnswer (c .before .before .before .before .before .before .before .next-block .ensures) (c .before .before .before .before .before .block .given .1)) (step-known (c .before .before .before .before .before .block .given .0 .0) _ _ (c .before .before .before .number-of .ensures) (c .before .before .numbers-of .ensures) _)
 
@@ -49,15 +22,5 @@ pub hodrupec-next-block-spec : {M : Type 1} → statement M
 hodrupec-next-block-spec =
     tie.close
     (tie.spec
-    next-block-requires
-    enum-known-block
-    number-of-requires
-    numbers-of-requires
-    cast-t20
-    cast-t21
-    enum-told
-    enum-known-refusal
-    number-requires
-    returns
-    returns-2
-    returns-3)
+    (λ c κs. search needs) (λ c. search needs) (λ c κs. search needs) (λ c κs. search needs) (λ c. search needs) (λ c. search needs)
+    (λ c. search needs) (λ c. search needs) (λ c κs. search needs) returns returns-2 returns-3)

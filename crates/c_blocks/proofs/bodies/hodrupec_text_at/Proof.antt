@@ -8,21 +8,6 @@ use borrow.Author.Needs.{needs}
 use Rattle.c_blocks.proofs.bodies.hodrupec_text_at.Statement.{statement}
 use Rattle.c_blocks.proofs.bodies.hodrupec_text_at.Tie as tie
 
-text-at-requires : tie.Need-text-at-requires
-text-at-requires c κs = search needs
-
-enum-known-text : tie.Need-enum-known-text
-enum-known-text c = search needs
-
-text-numbers-requires : tie.Need-text-numbers-requires
-text-numbers-requires c κs = search needs
-
-enum-known-refusal : tie.Need-enum-known-refusal
-enum-known-refusal c = search needs
-
-number-requires : tie.Need-number-requires
-number-requires c κs = search needs
-
 returns : tie.Need-returns
 returns c = tells-as textNumbers _ _ _ _ (told textAnswer (c .before .before .before .before .text-at .ensures) (c .before .before .text .given .1)) (c .text-numbers .ensures)
 
@@ -33,10 +18,4 @@ pub hodrupec-text-at-spec : {M : Type 1} → statement M
 hodrupec-text-at-spec =
     tie.close
     (tie.spec
-    text-at-requires
-    enum-known-text
-    text-numbers-requires
-    enum-known-refusal
-    number-requires
-    returns
-    returns-2)
+    (λ c κs. search needs) (λ c. search needs) (λ c κs. search needs) (λ c. search needs) (λ c κs. search needs) returns returns-2)

@@ -10,21 +10,6 @@ use borrow.Author.Needs.{needs}
 use Rattle.c_blocks.proofs.entries.hodrupec_next_method.Statement.{statement}
 use Rattle.c_blocks.proofs.entries.hodrupec_next_method.Tie as tie
 
-next-method-requires : tie.Need-next-method-requires
-next-method-requires c κs = search needs
-
-enum-known-step : tie.Need-enum-known-step
-enum-known-step c = search needs
-
-step-numbers-requires : tie.Need-step-numbers-requires
-step-numbers-requires c κs = search needs
-
-enum-known-refusal : tie.Need-enum-known-refusal
-enum-known-refusal c = search needs
-
-number-requires : tie.Need-number-requires
-number-requires c κs = search needs
-
 returns : tie.Need-returns
 returns c = tells-as (entryStepNumbers 2) _ _ _ _ (told entryAnswer (c .before .before .before .before .before .next-method .ensures) (c .before .before .before .step .given .1)) (ap (take 5) (c .before .step-numbers .ensures))
 
@@ -35,10 +20,4 @@ pub hodrupec-next-method-spec : {M : Type 1} → statement M
 hodrupec-next-method-spec =
     tie.close
     (tie.spec
-    next-method-requires
-    enum-known-step
-    step-numbers-requires
-    enum-known-refusal
-    number-requires
-    returns
-    returns-2)
+    (λ c κs. search needs) (λ c. search needs) (λ c κs. search needs) (λ c. search needs) (λ c κs. search needs) returns returns-2)

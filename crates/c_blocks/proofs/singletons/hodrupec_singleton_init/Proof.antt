@@ -11,24 +11,6 @@ use borrow.Author.Needs.{needs}
 use Rattle.c_blocks.proofs.singletons.hodrupec_singleton_init.Statement.{statement}
 use Rattle.c_blocks.proofs.singletons.hodrupec_singleton_init.Tie as tie
 
-singleton-init-requires : tie.Need-singleton-init-requires
-singleton-init-requires c κs = search needs
-
-enum-known-init : tie.Need-enum-known-init
-enum-known-init c = search needs
-
-enum-known-init-2 : tie.Need-enum-known-init-2
-enum-known-init-2 c = search needs
-
-enum-told : tie.Need-enum-told
-enum-told c = search needs
-
-enum-known-refusal : tie.Need-enum-known-refusal
-enum-known-refusal c = search needs
-
-number-requires : tie.Need-number-requires
-number-requires c κs = search needs
-
 returns : tie.Need-returns
 returns c = tells initNumbers _ _ _ (told (λ (x : SingletonMetadataInit). answered (initOf x)) (told initAnswer (c .before .before .before .before .before .before .singleton-init .ensures) (c .before .before .before .before .init .given .1)) (c .before .init2 .given .1))
 
@@ -42,12 +24,5 @@ pub hodrupec-singleton-init-spec : {M : Type 1} → statement M
 hodrupec-singleton-init-spec =
     tie.close
     (tie.spec
-    singleton-init-requires
-    enum-known-init
-    enum-known-init-2
-    enum-told
-    enum-known-refusal
-    number-requires
-    returns
-    returns-2
+    (λ c κs. search needs) (λ c. search needs) (λ c. search needs) (λ c. search needs) (λ c. search needs) (λ c κs. search needs) returns returns-2
     returns-3)

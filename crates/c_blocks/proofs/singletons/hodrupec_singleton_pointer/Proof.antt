@@ -11,24 +11,6 @@ use borrow.Author.Needs.{needs}
 use Rattle.c_blocks.proofs.singletons.hodrupec_singleton_pointer.Statement.{statement}
 use Rattle.c_blocks.proofs.singletons.hodrupec_singleton_pointer.Tie as tie
 
-singleton-pointer-requires : tie.Need-singleton-pointer-requires
-singleton-pointer-requires c κs = search needs
-
-enum-known-pointer : tie.Need-enum-known-pointer
-enum-known-pointer c = search needs
-
-enum-known-pointer-2 : tie.Need-enum-known-pointer-2
-enum-known-pointer-2 c = search needs
-
-enum-told : tie.Need-enum-told
-enum-told c = search needs
-
-enum-known-refusal : tie.Need-enum-known-refusal
-enum-known-refusal c = search needs
-
-number-requires : tie.Need-number-requires
-number-requires c κs = search needs
-
 returns : tie.Need-returns
 returns c = tells valueNumbers _ _ _ (told (λ (x : SingletonMetadataPointer). answered (pointerOf x)) (told pointerAnswer (c .before .before .before .before .before .before .singleton-pointer .ensures) (c .before .before .before .before .pointer .given .1)) (c .before .pointer2 .given .1))
 
@@ -42,12 +24,5 @@ pub hodrupec-singleton-pointer-spec : {M : Type 1} → statement M
 hodrupec-singleton-pointer-spec =
     tie.close
     (tie.spec
-    singleton-pointer-requires
-    enum-known-pointer
-    enum-known-pointer-2
-    enum-told
-    enum-known-refusal
-    number-requires
-    returns
-    returns-2
+    (λ c κs. search needs) (λ c. search needs) (λ c. search needs) (λ c. search needs) (λ c. search needs) (λ c κs. search needs) returns returns-2
     returns-3)

@@ -5,15 +5,10 @@ use borrow.Author.Needs.{needs}
 use Rattle.c_fields.proofs.certain.hodrupec_row_certain.Statement.{statement}
 use Rattle.c_fields.proofs.certain.hodrupec_row_certain.Tie as tie
 
-row-certain-requires : tie.Need-row-certain-requires
-row-certain-requires c κs = search needs
-
-tell-certainty-requires : tie.Need-tell-certainty-requires
-tell-certainty-requires c κs = search needs
-
 returns : tie.Need-returns
 returns c = tells-certain _ _ _ _ _ (c .before .before .row-certain .ensures) (c .tell-certainty .ensures)
 
 pub hodrupec-row-certain-spec : {M : Type 1} → statement M
 hodrupec-row-certain-spec =
-    tie.close (tie.spec row-certain-requires tell-certainty-requires returns)
+    tie.close (tie.spec
+    (λ c κs. search needs) (λ c κs. search needs) returns)

@@ -5,18 +5,10 @@ use borrow.Author.Needs.{needs}
 use Rattle.c_fields.proofs.named.hodrupec_named_records.Statement.{statement}
 use Rattle.c_fields.proofs.named.hodrupec_named_records.Tie as tie
 
-named-records-requires : tie.Need-named-records-requires
-named-records-requires c κs = search needs
-
-tell-counts-requires : tie.Need-tell-counts-requires
-tell-counts-requires c κs = search needs
-
-same-length : tie.Need-same-length
-same-length c = search needs
-
 returns : tie.Need-returns
 returns c = tells-table _ (c .before .before .before .before .named-records .result) _ _ _ _ _ (c .before .before .before .before .named-records .ensures) (c .tell-counts .ensures)
 
 pub hodrupec-named-records-spec : {M : Type 1} → statement M
 hodrupec-named-records-spec =
-    tie.close (tie.spec named-records-requires tell-counts-requires same-length returns)
+    tie.close (tie.spec
+    (λ c κs. search needs) (λ c κs. search needs) (λ c. search needs) returns)

@@ -4,15 +4,6 @@ use borrow.Author.Needs.{needs}
 use Rattle.c_fields.proofs.names.hodrupec_descriptor_superclass_name.Statement.{statement}
 use Rattle.c_fields.proofs.names.hodrupec_descriptor_superclass_name.Tie as tie
 
-descriptor-by-requires : tie.Need-descriptor-by-requires
-descriptor-by-requires c κs = search needs
-
-descriptor-superclass-name-requires : tie.Need-descriptor-superclass-name-requires
-descriptor-superclass-name-requires c κs = search needs
-
-tell-text-requires : tie.Need-tell-text-requires
-tell-text-requires c κs = search needs
-
 returns : tie.Need-returns
 returns c = rw (c .before .before .before .descriptor-by .ensures) at (rw (c .before .before .descriptor-superclass-name .ensures) at (c .tell-text .ensures))
 
@@ -20,7 +11,4 @@ pub hodrupec-descriptor-superclass-name-spec : {M : Type 1} → statement M
 hodrupec-descriptor-superclass-name-spec =
     tie.close
     (tie.spec
-    descriptor-by-requires
-    descriptor-superclass-name-requires
-    tell-text-requires
-    returns)
+    (λ c κs. search needs) (λ c κs. search needs) (λ c κs. search needs) returns)

@@ -8,24 +8,6 @@ use borrow.Author.Needs.{needs}
 use Rattle.c_fields.proofs.names.hodrupec_record_field_name.Statement.{statement}
 use Rattle.c_fields.proofs.names.hodrupec_record_field_name.Tie as tie
 
-record-by-requires : tie.Need-record-by-requires
-record-by-requires c κs = search needs
-
-field-name-requires : tie.Need-field-name-requires
-field-name-requires c κs = search needs
-
-enum-known-name : tie.Need-enum-known-name
-enum-known-name c = search needs
-
-field-name-numbers-requires : tie.Need-field-name-numbers-requires
-field-name-numbers-requires c κs = search needs
-
-enum-known-refusal : tie.Need-enum-known-refusal
-enum-known-refusal c = search needs
-
-number-requires : tie.Need-number-requires
-number-requires c κs = search needs
-
 returns : tie.Need-returns
 returns c = tells-as fieldNumbers _ _ _ _ (told fieldNameAnswer (rw (c .before .before .before .before .before .record-by .ensures) at (c .before .before .before .before .field-name .ensures)) (c .before .before .name .given .1)) (c .field-name-numbers .ensures)
 
@@ -36,11 +18,5 @@ pub hodrupec-record-field-name-spec : {M : Type 1} → statement M
 hodrupec-record-field-name-spec =
     tie.close
     (tie.spec
-    record-by-requires
-    field-name-requires
-    enum-known-name
-    field-name-numbers-requires
-    enum-known-refusal
-    number-requires
-    returns
+    (λ c κs. search needs) (λ c κs. search needs) (λ c. search needs) (λ c κs. search needs) (λ c. search needs) (λ c κs. search needs) returns
     returns-2)

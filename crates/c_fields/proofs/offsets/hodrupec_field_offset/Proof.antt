@@ -10,18 +10,6 @@ use borrow.Author.Needs.{needs}
 use Rattle.c_fields.proofs.offsets.hodrupec_field_offset.Statement.{statement}
 use Rattle.c_fields.proofs.offsets.hodrupec_field_offset.Tie as tie
 
-field-offset-requires : tie.Need-field-offset-requires
-field-offset-requires c κs = search needs
-
-enum-known-offset : tie.Need-enum-known-offset
-enum-known-offset c = search needs
-
-cast-t10 : tie.Need-cast-t10
-cast-t10 c = search needs
-
-enum-told : tie.Need-enum-told
-enum-told c = search needs
-
 returns : tie.Need-returns
 returns c = tells valueNumbers _ _ _ (ap answered (told fieldOffsetOf (c .before .before .before .field-offset .ensures) (c .before .offset .given .1)))
 
@@ -31,4 +19,5 @@ returns-2 c = tells valueNumbers _ _ _ (ap answered (told fieldOffsetOf (c .befo
 pub hodrupec-field-offset-spec : {M : Type 1} → statement M
 hodrupec-field-offset-spec =
     tie.close
-    (tie.spec field-offset-requires enum-known-offset cast-t10 enum-told returns returns-2)
+    (tie.spec
+    (λ c κs. search needs) (λ c. search needs) (λ c. search needs) (λ c. search needs) returns returns-2)

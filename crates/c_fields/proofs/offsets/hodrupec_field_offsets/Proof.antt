@@ -8,24 +8,6 @@ use borrow.Author.Needs.{needs}
 use Rattle.c_fields.proofs.offsets.hodrupec_field_offsets.Statement.{statement}
 use Rattle.c_fields.proofs.offsets.hodrupec_field_offsets.Tie as tie
 
-decode-body-requires : tie.Need-decode-body-requires
-decode-body-requires c κs = search needs
-
-field-offsets-requires : tie.Need-field-offsets-requires
-field-offsets-requires c κs = search needs
-
-enum-known-offsets : tie.Need-enum-known-offsets
-enum-known-offsets c = search needs
-
-offsets-numbers-requires : tie.Need-offsets-numbers-requires
-offsets-numbers-requires c κs = search needs
-
-enum-known-refusal : tie.Need-enum-known-refusal
-enum-known-refusal c = search needs
-
-number-requires : tie.Need-number-requires
-number-requires c κs = search needs
-
 returns : tie.Need-returns
 returns c = tells-as offsetsNumbers _ _ _ _ (told offsetsAnswer (rw (c .before .before .before .before .before .decode-body .ensures) at (c .before .before .before .before .field-offsets .ensures)) (c .before .before .offsets .given .1)) (c .offsets-numbers .ensures)
 
@@ -36,11 +18,5 @@ pub hodrupec-field-offsets-spec : {M : Type 1} → statement M
 hodrupec-field-offsets-spec =
     tie.close
     (tie.spec
-    decode-body-requires
-    field-offsets-requires
-    enum-known-offsets
-    offsets-numbers-requires
-    enum-known-refusal
-    number-requires
-    returns
+    (λ c κs. search needs) (λ c κs. search needs) (λ c. search needs) (λ c κs. search needs) (λ c. search needs) (λ c κs. search needs) returns
     returns-2)

@@ -8,21 +8,6 @@ use borrow.Author.Needs.{needs}
 use Rattle.c_fields.proofs.offsets.hodrupec_static_field_offsets.Statement.{statement}
 use Rattle.c_fields.proofs.offsets.hodrupec_static_field_offsets.Tie as tie
 
-static-field-offsets-requires : tie.Need-static-field-offsets-requires
-static-field-offsets-requires c κs = search needs
-
-enum-known-offsets : tie.Need-enum-known-offsets
-enum-known-offsets c = search needs
-
-offsets-numbers-requires : tie.Need-offsets-numbers-requires
-offsets-numbers-requires c κs = search needs
-
-enum-known-refusal : tie.Need-enum-known-refusal
-enum-known-refusal c = search needs
-
-number-requires : tie.Need-number-requires
-number-requires c κs = search needs
-
 returns : tie.Need-returns
 returns c = tells-as offsetsNumbers _ _ _ _ (told offsetsAnswer (c .before .before .before .before .static-field-offsets .ensures) (c .before .before .offsets .given .1)) (c .offsets-numbers .ensures)
 
@@ -33,10 +18,4 @@ pub hodrupec-static-field-offsets-spec : {M : Type 1} → statement M
 hodrupec-static-field-offsets-spec =
     tie.close
     (tie.spec
-    static-field-offsets-requires
-    enum-known-offsets
-    offsets-numbers-requires
-    enum-known-refusal
-    number-requires
-    returns
-    returns-2)
+    (λ c κs. search needs) (λ c. search needs) (λ c κs. search needs) (λ c. search needs) (λ c κs. search needs) returns returns-2)

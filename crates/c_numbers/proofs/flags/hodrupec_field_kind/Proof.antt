@@ -6,16 +6,11 @@ use borrow.Author.Needs.{needs}
 use Rattle.c_numbers.proofs.flags.hodrupec_field_kind.Statement.{statement}
 use Rattle.c_numbers.proofs.flags.hodrupec_field_kind.Tie as tie
 
-from-bits-requires : tie.Need-from-bits-requires
-from-bits-requires c κs = search needs
-
-field-kind-number-requires : tie.Need-field-kind-number-requires
-field-kind-number-requires c κs = search needs
-
 returns : tie.Need-returns
 unfolding fieldKindNumbers
 returns c = (refl, cc)
 
 pub hodrupec-field-kind-spec : {M : Type 1} → statement M
 hodrupec-field-kind-spec =
-    tie.close (tie.spec from-bits-requires field-kind-number-requires returns)
+    tie.close (tie.spec
+    (λ c κs. search needs) (λ c κs. search needs) returns)

@@ -6,14 +6,9 @@ use borrow.Author.Needs.{needs}
 use Rattle.c_numbers.proofs.readers.hodrupec_fixed_text.Statement.{statement}
 use Rattle.c_numbers.proofs.readers.hodrupec_fixed_text.Tie as tie
 
-cstr-from-fixed-requires : tie.Need-cstr-from-fixed-requires
-cstr-from-fixed-requires c κs = search needs
-
-size-requires : tie.Need-size-requires
-size-requires c κs = search needs
-
 returns : tie.Need-returns
 returns c = (refl, length-given _ _ _ (c .before .before .cstr-from-fixed .ensures) (c .before .size .ensures))
 
 pub hodrupec-fixed-text-spec : {M : Type 1} → statement M
-hodrupec-fixed-text-spec = tie.close (tie.spec cstr-from-fixed-requires size-requires returns)
+hodrupec-fixed-text-spec = tie.close (tie.spec
+    (λ c κs. search needs) (λ c κs. search needs) returns)

@@ -14,21 +14,6 @@ use borrow.Author.Needs.{needs}
 use Rattle.c_numbers.proofs.readers.hodrupec_sleb128.Statement.{statement}
 use Rattle.c_numbers.proofs.readers.hodrupec_sleb128.Tie as tie
 
-read-sleb128-requires : tie.Need-read-sleb128-requires
-read-sleb128-requires c κs = search needs
-
-enum-known-value : tie.Need-enum-known-value
-enum-known-value c = search needs
-
-bits-requires : tie.Need-bits-requires
-bits-requires c κs = search needs
-
-size-requires : tie.Need-size-requires
-size-requires c κs = search needs
-
-enum-told : tie.Need-enum-told
-enum-told c = search needs
-
 returns : tie.Need-returns
 returns c = (refl, sleb-given _ _ _ _ _ (told slebValue (c .before .before .before .before .before .before .read-sleb128 .ensures) (c .before .before .before .before .value .given .1)) (c .before .before .bits .ensures ∙ ap (λ (y : ℤ). modulo y (2 ^ 64)) (toZ-ofZ {w = w64} {z = c .before .before .before .before .value .given .0 .0} (record { sfits = omega arith }))) (c .before .size .ensures))
 
@@ -39,10 +24,4 @@ pub hodrupec-sleb128-spec : {M : Type 1} → statement M
 hodrupec-sleb128-spec =
     tie.close
     (tie.spec
-    read-sleb128-requires
-    enum-known-value
-    bits-requires
-    size-requires
-    enum-told
-    returns
-    returns-2)
+    (λ c κs. search needs) (λ c. search needs) (λ c κs. search needs) (λ c κs. search needs) (λ c. search needs) returns returns-2)

@@ -8,18 +8,6 @@ use borrow.Author.Needs.{needs}
 use Rattle.c_numbers.proofs.readers.hodrupec_u32_be.Statement.{statement}
 use Rattle.c_numbers.proofs.readers.hodrupec_u32_be.Tie as tie
 
-read-u32-be-at-requires : tie.Need-read-u32-be-at-requires
-read-u32-be-at-requires c κs = search needs
-
-enum-known-n : tie.Need-enum-known-n
-enum-known-n c = search needs
-
-wide-requires : tie.Need-wide-requires
-wide-requires c κs = search needs
-
-enum-told : tie.Need-enum-told
-enum-told c = search needs
-
 returns : tie.Need-returns
 returns c = (refl, value-given _ _ _ (told u32Value (c .before .before .before .before .before .read-u32-be-at .ensures) (c .before .before .before .n .given .1)) (c .before .wide .ensures))
 
@@ -29,4 +17,5 @@ returns-2 c = (refl, no-value _ (told u32Value (c .before .before .before .read-
 pub hodrupec-u32-be-spec : {M : Type 1} → statement M
 hodrupec-u32-be-spec =
     tie.close
-    (tie.spec read-u32-be-at-requires enum-known-n wide-requires enum-told returns returns-2)
+    (tie.spec
+    (λ c κs. search needs) (λ c. search needs) (λ c κs. search needs) (λ c. search needs) returns returns-2)

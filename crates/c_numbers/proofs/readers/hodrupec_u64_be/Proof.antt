@@ -8,15 +8,6 @@ use borrow.Author.Needs.{needs}
 use Rattle.c_numbers.proofs.readers.hodrupec_u64_be.Statement.{statement}
 use Rattle.c_numbers.proofs.readers.hodrupec_u64_be.Tie as tie
 
-read-u64-be-at-requires : tie.Need-read-u64-be-at-requires
-read-u64-be-at-requires c κs = search needs
-
-enum-known-n : tie.Need-enum-known-n
-enum-known-n c = search needs
-
-enum-told : tie.Need-enum-told
-enum-told c = search needs
-
 returns : tie.Need-returns
 returns c = (refl, value-given _ _ _ (told u64Value (c .before .before .before .before .read-u64-be-at .ensures) (c .before .before .n .given .1)) refl)
 
@@ -25,4 +16,5 @@ returns-2 c = (refl, no-value _ (told u64Value (c .before .before .before .read-
 
 pub hodrupec-u64-be-spec : {M : Type 1} → statement M
 hodrupec-u64-be-spec =
-    tie.close (tie.spec read-u64-be-at-requires enum-known-n enum-told returns returns-2)
+    tie.close (tie.spec
+    (λ c κs. search needs) (λ c. search needs) (λ c. search needs) returns returns-2)

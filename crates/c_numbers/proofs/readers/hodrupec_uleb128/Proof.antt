@@ -8,18 +8,6 @@ use borrow.Author.Needs.{needs}
 use Rattle.c_numbers.proofs.readers.hodrupec_uleb128.Statement.{statement}
 use Rattle.c_numbers.proofs.readers.hodrupec_uleb128.Tie as tie
 
-read-uleb128-requires : tie.Need-read-uleb128-requires
-read-uleb128-requires c κs = search needs
-
-enum-known-value : tie.Need-enum-known-value
-enum-known-value c = search needs
-
-size-requires : tie.Need-size-requires
-size-requires c κs = search needs
-
-enum-told : tie.Need-enum-told
-enum-told c = search needs
-
 returns : tie.Need-returns
 returns c = (refl, uleb-given _ _ _ _ (told ulebValue (c .before .before .before .before .before .read-uleb128 .ensures) (c .before .before .before .value .given .1)) (c .before .size .ensures))
 
@@ -29,4 +17,5 @@ returns-2 c = (refl, no-uleb _ (told ulebValue (c .before .before .before .read-
 pub hodrupec-uleb128-spec : {M : Type 1} → statement M
 hodrupec-uleb128-spec =
     tie.close
-    (tie.spec read-uleb128-requires enum-known-value size-requires enum-told returns returns-2)
+    (tie.spec
+    (λ c κs. search needs) (λ c. search needs) (λ c κs. search needs) (λ c. search needs) returns returns-2)

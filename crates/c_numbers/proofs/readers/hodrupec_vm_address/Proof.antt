@@ -9,20 +9,8 @@ use borrow.Author.Needs.{needs}
 use Rattle.c_numbers.proofs.readers.hodrupec_vm_address.Statement.{statement}
 use Rattle.c_numbers.proofs.readers.hodrupec_vm_address.Tie as tie
 
-number-requires : tie.Need-number-requires
-number-requires c κs = search needs
-
 returns : tie.Need-returns
 returns c = tells-ragged _ _ valueNumbers _ _ (c .before .if1 .taken) (c .number .ensures)
-
-file-offset-to-vm-in-requires : tie.Need-file-offset-to-vm-in-requires
-file-offset-to-vm-in-requires c κs = search needs
-
-enum-known-address : tie.Need-enum-known-address
-enum-known-address c = search needs
-
-enum-told : tie.Need-enum-told
-enum-told c = search needs
 
 returns-2 : tie.Need-returns-2
 returns-2 c = tells-whole _ _ valueNumbers _ _ (ap valueNumbers (told addressOf (c .before .before .before .before .file-offset-to-vm-in .ensures) (c .before .before .address .given .1))) (c .before .before .before .before .before .if1 .left)
@@ -34,10 +22,4 @@ pub hodrupec-vm-address-spec : {M : Type 1} → statement M
 hodrupec-vm-address-spec =
     tie.close
     (tie.spec
-    number-requires
-    returns
-    file-offset-to-vm-in-requires
-    enum-known-address
-    enum-told
-    returns-2
-    returns-3)
+    (λ c κs. search needs) returns (λ c κs. search needs) (λ c. search needs) (λ c. search needs) returns-2 returns-3)

@@ -6,21 +6,13 @@ use borrow.Author.Needs.{needs}
 use Rattle.c_rows.proofs.all_rows.hodrupec_listing.Statement.{statement}
 use Rattle.c_rows.proofs.all_rows.hodrupec_listing.Tie as tie
 
-number-requires : tie.Need-number-requires
-number-requires c κs = search needs
-
 returns : tie.Need-returns
 returns c = (tells-ragged _ _ listingNumbers _ _ (c .before .if1 .taken) (c .number .ensures), keeps-ragged _ _ listingBytes _ (c .before .if1 .taken))
-
-put-rows-requires : tie.Need-put-rows-requires
-put-rows-requires c κs = search needs
-
-same-length : tie.Need-same-length
-same-length c = search needs
 
 returns-2 : tie.Need-returns-2
 returns-2 c = (tells-whole _ _ listingNumbers _ _ (c .before .before .put-rows .ensures .0) (c .before .before .before .before .if1 .left), writes-whole _ _ listingBytes _ _ (c .before .before .put-rows .ensures .1) (c .before .before .before .before .if1 .left))
 
 pub hodrupec-listing-spec : {M : Type 1} → statement M
 hodrupec-listing-spec =
-    tie.close (tie.spec number-requires returns put-rows-requires same-length returns-2)
+    tie.close (tie.spec
+    (λ c κs. search needs) returns (λ c κs. search needs) (λ c. search needs) returns-2)

@@ -26,23 +26,8 @@ Inv-loop image segments types vmaddr start buffer₀ count mapping₀ slot₀ at
 abbrev μ-loop : tie.MeasureT-loop
 μ-loop image segments types vmaddr start buffer₀ count mapping₀ slot₀ at₀ buffer mapping slot at = count - slot
 
-empty-requires : tie.Need-empty-requires Inv-loop μ-loop
-empty-requires c κs = search needs
-
 loop-holds : tie.Need-loop-holds Inv-loop μ-loop
 loop-holds c = (empty-mapped _ _ (c .empty .ensures), (refl, (omega arith, (omega arith, start-going _ _ _ _ _))))
-
-slot-row-moving-requires : tie.Need-slot-row-moving-requires Inv-loop μ-loop
-slot-row-moving-requires c κs = search needs
-
-enum-known-found : tie.Need-enum-known-found Inv-loop μ-loop
-enum-known-found c = search needs
-
-put-record-requires : tie.Need-put-record-requires Inv-loop μ-loop
-put-record-requires c κs = search needs
-
-same-length : tie.Need-same-length Inv-loop μ-loop
-same-length c = search needs
 
 returns : tie.Need-returns Inv-loop μ-loop
 returns c =
@@ -56,9 +41,6 @@ add-slot c =
     let s = c .before .before .before .before .before .before .before .before .before .before .before .before .before .before .before .before .before in
     record { fits = omega (arith, s .good .1 .1 .0, c .before .before .before .before .before .before .before .before .before .before .loop-test .taken) }
 
-loop-less : tie.Need-loop-less Inv-loop μ-loop
-loop-less c = search needs
-
 loop-again : tie.Need-loop-again Inv-loop μ-loop
 loop-again c =
     let p = c .before .before .before .before .before .before .before .before .before .before .before .loop .inv in
@@ -66,23 +48,11 @@ loop-again c =
     let left = left-as _ _ _ _ _ _ _ _ _ (p .1 .1 .1 .1) (slot-left _ _ _ _ _ _ row (omega (arith, p .1 .0, c .before .before .before .before .before .before .before .before .before .before .loop-test .taken))) in
     (c .before .before .before .before .before .before .before .before .before .slot-row-moving .ensures .mapped (p .0), (p .1 .0, (omega (arith, p .1 .1 .0), (omega (arith, p .1 .0, c .before .before .before .before .before .before .before .before .before .before .loop-test .taken), goes-on _ _ _ _ _ _ _ _ _ left _ _ (c .before .before .before .put-record .ensures .0) (c .before .before .before .put-record .ensures .1) (c .if1 .left)))))
 
-enum-told : tie.Need-enum-told Inv-loop μ-loop
-enum-told c = search needs
-
-add-slot-2 : tie.Need-add-slot-2 Inv-loop μ-loop
-add-slot-2 c = search needs
-
-loop-less-2 : tie.Need-loop-less-2 Inv-loop μ-loop
-loop-less-2 c = search needs
-
 loop-again-2 : tie.Need-loop-again-2 Inv-loop μ-loop
 loop-again-2 c =
     let p = c .before .before .before .before .before .loop .inv in
     let none-here = told (descriptorOf _) (c .before .before .before .slot-row-moving .ensures .row (p .0)) (c .enum-told .given .1) in
     (c .before .before .before .slot-row-moving .ensures .mapped (p .0), (p .1 .0, (omega (arith, p .1 .1 .0), (omega (arith, p .1 .0, c .before .before .before .before .loop-test .taken), left-as _ _ _ _ _ _ _ _ _ (p .1 .1 .1 .1) (slot-without _ _ _ _ _ none-here (omega (arith, p .1 .0, c .before .before .before .before .loop-test .taken)))))))
-
-same-length-2 : tie.Need-same-length-2 Inv-loop μ-loop
-same-length-2 c = search needs
 
 returns-2 : tie.Need-returns-2 Inv-loop μ-loop
 returns-2 c =
@@ -93,21 +63,5 @@ pub put-rows-spec : {M : Type 1} → statement M
 put-rows-spec =
     tie.close
     (tie.spec
-    Inv-loop
-    μ-loop
-    empty-requires
-    loop-holds
-    slot-row-moving-requires
-    enum-known-found
-    put-record-requires
-    same-length
-    returns
-    add-slot
-    loop-less
-    loop-again
-    enum-told
-    add-slot-2
-    loop-less-2
-    loop-again-2
-    same-length-2
-    returns-2)
+    Inv-loop μ-loop (λ c κs. search needs) loop-holds (λ c κs. search needs) (λ c. search needs) (λ c κs. search needs) (λ c. search needs) returns
+    add-slot (λ c. search needs) loop-again (λ c. search needs) (λ c. search needs) (λ c. search needs) loop-again-2 (λ c. search needs) returns-2)

@@ -7,17 +7,8 @@ use borrow.Author.Needs.{needs}
 use Rattle.c_rows.proofs.calls.hodrupec_field_name.Statement.{statement}
 use Rattle.c_rows.proofs.calls.hodrupec_field_name.Tie as tie
 
-number-requires : tie.Need-number-requires
-number-requires c κs = search needs
-
 returns : tie.Need-returns
 returns c = tells-ragged _ _ fieldNumbers _ _ (c .before .if1 .taken) (c .number .ensures)
-
-lookup-field-name-requires : tie.Need-lookup-field-name-requires
-lookup-field-name-requires c κs = search needs
-
-field-name-numbers-requires : tie.Need-field-name-numbers-requires
-field-name-numbers-requires c κs = search needs
 
 returns-2 : tie.Need-returns-2
 returns-2 c = tells-whole _ _ fieldNumbers _ _ (c .field-name-numbers .ensures ∙ ap fieldNumbers (c .before .lookup-field-name .ensures)) (c .before .before .if1 .left)
@@ -25,4 +16,5 @@ returns-2 c = tells-whole _ _ fieldNumbers _ _ (c .field-name-numbers .ensures �
 pub hodrupec-field-name-spec : {M : Type 1} → statement M
 hodrupec-field-name-spec =
     tie.close
-    (tie.spec number-requires returns lookup-field-name-requires field-name-numbers-requires returns-2)
+    (tie.spec
+    (λ c κs. search needs) returns (λ c κs. search needs) (λ c κs. search needs) returns-2)

@@ -9,20 +9,8 @@ use borrow.Author.Needs.{needs}
 use Rattle.c_rows.proofs.calls.hodrupec_file_offset.Statement.{statement}
 use Rattle.c_rows.proofs.calls.hodrupec_file_offset.Tie as tie
 
-number-requires : tie.Need-number-requires
-number-requires c κs = search needs
-
 returns : tie.Need-returns
 returns c = tells-ragged _ _ valueNumbers _ _ (c .before .if1 .taken) (c .number .ensures)
-
-vm-to-file-offset-in-requires : tie.Need-vm-to-file-offset-in-requires
-vm-to-file-offset-in-requires c κs = search needs
-
-enum-known-offset : tie.Need-enum-known-offset
-enum-known-offset c = search needs
-
-enum-told : tie.Need-enum-told
-enum-told c = search needs
 
 returns-2 : tie.Need-returns-2
 returns-2 c = tells-whole _ _ valueNumbers _ _ (ap valueNumbers (told offsetOf (c .before .before .before .vm-to-file-offset-in .ensures) (c .before .offset .given .1))) (c .before .before .before .before .if1 .left)
@@ -34,10 +22,4 @@ pub hodrupec-file-offset-spec : {M : Type 1} → statement M
 hodrupec-file-offset-spec =
     tie.close
     (tie.spec
-    number-requires
-    returns
-    vm-to-file-offset-in-requires
-    enum-known-offset
-    enum-told
-    returns-2
-    returns-3)
+    (λ c κs. search needs) returns (λ c κs. search needs) (λ c. search needs) (λ c. search needs) returns-2 returns-3)

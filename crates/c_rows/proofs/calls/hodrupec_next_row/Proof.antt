@@ -8,24 +8,6 @@ use borrow.Author.Needs.{needs}
 use Rattle.c_rows.proofs.calls.hodrupec_next_row.Statement.{statement}
 use Rattle.c_rows.proofs.calls.hodrupec_next_row.Tie as tie
 
-next-row-requires : tie.Need-next-row-requires
-next-row-requires c κs = search needs
-
-enum-known-slot : tie.Need-enum-known-slot
-enum-known-slot c = search needs
-
-cast-t16 : tie.Need-cast-t16
-cast-t16 c = search needs
-
-enum-told : tie.Need-enum-told
-enum-told c = search needs
-
-enum-known-refusal : tie.Need-enum-known-refusal
-enum-known-refusal c = search needs
-
-number-requires : tie.Need-number-requires
-number-requires c κs = search needs
-
 returns : tie.Need-returns
 returns c = tells rowNumbers _ _ _ (told (rowAnswer _) (c .before .before .before .before .before .next-row .ensures) (c .before .before .before .slot .given .1))
 
@@ -39,12 +21,5 @@ pub hodrupec-next-row-spec : {M : Type 1} → statement M
 hodrupec-next-row-spec =
     tie.close
     (tie.spec
-    next-row-requires
-    enum-known-slot
-    cast-t16
-    enum-told
-    enum-known-refusal
-    number-requires
-    returns
-    returns-2
+    (λ c κs. search needs) (λ c. search needs) (λ c. search needs) (λ c. search needs) (λ c. search needs) (λ c κs. search needs) returns returns-2
     returns-3)

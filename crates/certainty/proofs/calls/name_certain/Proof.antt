@@ -14,27 +14,9 @@ use Rattle.certainty.proofs.calls.name_certain.Tie as tie
 returns : tie.Need-returns
 returns c = ragged _ _ (c .if1 .taken)
 
-slot-certain-requires : tie.Need-slot-certain-requires
-slot-certain-requires c κs = search needs
-
 returns-2 : tie.Need-returns-2
 returns-2 c =
     whole-as _ _ _ (ap answered (sym (name-open _ _ _ _ _ (sym (c .before .slot-certain .ensures) ∙ not-true _ (c .if2 .taken))))) (c .before .before .if1 .left)
-
-slot-row-requires : tie.Need-slot-row-requires
-slot-row-requires c κs = search needs
-
-enum-known-row : tie.Need-enum-known-row
-enum-known-row c = search needs
-
-chain-certain-requires : tie.Need-chain-certain-requires
-chain-certain-requires c κs = search needs
-
-told-requires : tie.Need-told-requires
-told-requires c κs = search needs
-
-enum-told : tie.Need-enum-told
-enum-told c = search needs
 
 returns-3 : tie.Need-returns-3
 returns-3 c =
@@ -51,13 +33,5 @@ pub name-certain-spec : {M : Type 1} → statement M
 name-certain-spec =
     tie.close
     (tie.spec
-    returns
-    slot-certain-requires
-    returns-2
-    slot-row-requires
-    enum-known-row
-    chain-certain-requires
-    told-requires
-    enum-told
-    returns-3
-    returns-4)
+    returns (λ c κs. search needs) returns-2 (λ c κs. search needs) (λ c. search needs) (λ c κs. search needs) (λ c κs. search needs)
+    (λ c. search needs) returns-3 returns-4)

@@ -10,14 +10,9 @@ use Rattle.certainty.proofs.calls.row_certain.Tie as tie
 returns : tie.Need-returns
 returns c = ragged _ _ (c .if1 .taken)
 
-slot-certain-requires : tie.Need-slot-certain-requires
-slot-certain-requires c κs = search needs
-
-told-requires : tie.Need-told-requires
-told-requires c κs = search needs
-
 returns-2 : tie.Need-returns-2
 returns-2 c = whole-as _ _ _ (c .told .ensures ∙ ap answered (c .before .slot-certain .ensures)) (c .before .before .if1 .left)
 
 pub row-certain-spec : {M : Type 1} → statement M
-row-certain-spec = tie.close (tie.spec returns slot-certain-requires told-requires returns-2)
+row-certain-spec = tie.close (tie.spec
+    returns (λ c κs. search needs) (λ c κs. search needs) returns-2)

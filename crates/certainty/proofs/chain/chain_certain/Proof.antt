@@ -20,44 +20,20 @@ Inv-loop image segments parent-va mapping next₀ left₀ next left =
 abbrev μ-loop : tie.MeasureT-loop
 μ-loop image segments parent-va mapping next₀ left₀ next left = left
 
-empty-requires : tie.Need-empty-requires Inv-loop μ-loop
-empty-requires c κs = search needs
-
 loop-holds : tie.Need-loop-holds Inv-loop μ-loop
 loop-holds c = refl
-
-read-header-requires : tie.Need-read-header-requires Inv-loop μ-loop
-read-header-requires c κs = search needs
-
-enum-known-flags : tie.Need-enum-known-flags Inv-loop μ-loop
-enum-known-flags c = search needs
 
 returns : tie.Need-returns Inv-loop μ-loop
 returns c =
     sym (c .before .before .before .before .before .loop .inv ∙ chain-deep _ _ _ _ _ (header-near _ _ _ _ (empty-mapped _ _ (c .before .before .before .before .before .before .empty .ensures)) _ (told (headerOf _) (c .before .before .before .before .read-header .ensures) (c .before .before .flags .given .1))) (c .if1 .taken))
 
-context-name-certain-requires : tie.Need-context-name-certain-requires Inv-loop μ-loop
-context-name-certain-requires c κs = search needs
-
 returns-2 : tie.Need-returns-2 Inv-loop μ-loop
 returns-2 c =
     sym (c .before .before .before .before .before .before .before .loop .inv ∙ chain-open _ _ _ _ _ (header-near _ _ _ _ (empty-mapped _ _ (c .before .before .before .before .before .before .before .before .empty .ensures)) _ (told (headerOf _) (c .before .before .before .before .before .before .read-header .ensures) (c .before .before .before .before .flags .given .1))) (omega arith) (sym (c .before .context-name-certain .ensures) ∙ not-true _ (c .if2 .taken)))
 
-sub-left : tie.Need-sub-left Inv-loop μ-loop
-sub-left c = search needs
-
-loop-less : tie.Need-loop-less Inv-loop μ-loop
-loop-less c = search needs
-
 loop-again : tie.Need-loop-again Inv-loop μ-loop
 loop-again c =
     c .before .before .before .before .before .before .before .loop .inv ∙ chain-on _ _ _ _ _ (header-near _ _ _ _ (empty-mapped _ _ (c .before .before .before .before .before .before .before .before .empty .ensures)) _ (told (headerOf _) (c .before .before .before .before .before .before .read-header .ensures) (c .before .before .before .before .flags .given .1))) (omega arith) (sym (c .before .context-name-certain .ensures) ∙ not-false _ (c .if2 .left))
-
-enum-told : tie.Need-enum-told Inv-loop μ-loop
-enum-told c = search needs
-
-header-certain-requires : tie.Need-header-certain-requires Inv-loop μ-loop
-header-certain-requires c κs = search needs
 
 returns-3 : tie.Need-returns-3 Inv-loop μ-loop
 returns-3 c =
@@ -67,18 +43,5 @@ pub chain-certain-spec : {M : Type 1} → statement M
 chain-certain-spec =
     tie.close
     (tie.spec
-    Inv-loop
-    μ-loop
-    empty-requires
-    loop-holds
-    read-header-requires
-    enum-known-flags
-    returns
-    context-name-certain-requires
-    returns-2
-    sub-left
-    loop-less
-    loop-again
-    enum-told
-    header-certain-requires
-    returns-3)
+    Inv-loop μ-loop (λ c κs. search needs) loop-holds (λ c κs. search needs) (λ c. search needs) returns (λ c κs. search needs) returns-2
+    (λ c. search needs) (λ c. search needs) loop-again (λ c. search needs) (λ c κs. search needs) returns-3)

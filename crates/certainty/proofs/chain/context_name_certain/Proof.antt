@@ -6,12 +6,6 @@ use borrow.Author.Needs.{needs}
 use Rattle.certainty.proofs.chain.context_name_certain.Statement.{statement}
 use Rattle.certainty.proofs.chain.context_name_certain.Tie as tie
 
-has-name-requires : tie.Need-has-name-requires
-has-name-requires c κs = search needs
-
-slot-name-certain-requires : tie.Need-slot-name-certain-requires
-slot-name-certain-requires c κs = search needs
-
 returns : tie.Need-returns
 returns c = c .slot-name-certain .ensures ∙ sym (is-named _ _ _ _ _ (c .before .before .has-name .ensures) (c .before .if1 .taken))
 
@@ -20,4 +14,5 @@ returns-2 c = sym (unnamed _ _ _ _ _ (c .before .has-name .ensures) (c .if1 .lef
 
 pub context-name-certain-spec : {M : Type 1} → statement M
 context-name-certain-spec =
-    tie.close (tie.spec has-name-requires slot-name-certain-requires returns returns-2)
+    tie.close (tie.spec
+    (λ c κs. search needs) (λ c κs. search needs) returns returns-2)

@@ -13,12 +13,6 @@ returns c = sym (high-header _ _ _ (omega arith))
 returns-2 : tie.Need-returns-2
 returns-2 c = sym (zero-header _ _ _ (c .if2 .taken) (omega arith))
 
-read-bytes-requires : tie.Need-read-bytes-requires
-read-bytes-requires c κs = search needs
-
-is-nowhere-requires : tie.Need-is-nowhere-requires
-is-nowhere-requires c κs = search needs
-
 returns-3 : tie.Need-returns-3
 returns-3 c =
     c .is-nowhere .ensures ∙ sym (short-header _ _ _ (c .before .before .before .if2 .left) (omega arith) _ (c .before .before .read-bytes .ensures) (omega arith))
@@ -29,4 +23,5 @@ returns-4 c = sym (whole-header _ _ _ (c .before .before .if2 .left) (omega arit
 pub header-certain-spec : {M : Type 1} → statement M
 header-certain-spec =
     tie.close
-    (tie.spec returns returns-2 read-bytes-requires is-nowhere-requires returns-3 returns-4)
+    (tie.spec
+    returns returns-2 (λ c κs. search needs) (λ c κs. search needs) returns-3 returns-4)

@@ -10,30 +10,12 @@ use Rattle.certainty.proofs.chain.slot_name_certain.Tie as tie
 returns : tie.Need-returns
 returns c = sym (high-name _ _ _ (omega arith))
 
-add-slot-va : tie.Need-add-slot-va
-add-slot-va c = search needs
-
-read-bytes-requires : tie.Need-read-bytes-requires
-read-bytes-requires c κs = search needs
-
-is-nowhere-requires : tie.Need-is-nowhere-requires
-is-nowhere-requires c κs = search needs
-
 returns-2 : tie.Need-returns-2
 returns-2 c = c .is-nowhere .ensures ∙ sym (no-slot _ _ _ _ (c .before .before .read-bytes .ensures) (omega arith) (omega arith))
-
-u32-at-requires : tie.Need-u32-at-requires
-u32-at-requires c κs = search needs
 
 returns-3 : tie.Need-returns-3
 returns-3 c =
     sym (zero-name _ _ _ _ (c .before .before .before .read-bytes .ensures) (omega arith) (sym (c .before .u32-at .ensures) ∙ c .if3 .taken) (omega arith))
-
-pointer-in-requires : tie.Need-pointer-in-requires
-pointer-in-requires c κs = search needs
-
-text-certain-requires : tie.Need-text-certain-requires
-text-certain-requires c κs = search needs
 
 returns-4 : tie.Need-returns-4
 returns-4 c =
@@ -44,13 +26,5 @@ pub slot-name-certain-spec : {M : Type 1} → statement M
 slot-name-certain-spec =
     tie.close
     (tie.spec
-    returns
-    add-slot-va
-    read-bytes-requires
-    is-nowhere-requires
-    returns-2
-    u32-at-requires
-    returns-3
-    pointer-in-requires
-    text-certain-requires
-    returns-4)
+    returns (λ c. search needs) (λ c κs. search needs) (λ c κs. search needs) returns-2 (λ c κs. search needs) returns-3 (λ c κs. search needs)
+    (λ c κs. search needs) returns-4)

@@ -11,18 +11,6 @@ use Rattle.certainty.proofs.reads.text_certain.Tie as tie
 returns : tie.Need-returns
 returns c = sym (zero-text _ _ _ (c .if1 .taken))
 
-vm-to-file-offset-in-requires : tie.Need-vm-to-file-offset-in-requires
-vm-to-file-offset-in-requires c κs = search needs
-
-enum-known-offset : tie.Need-enum-known-offset
-enum-known-offset c = search needs
-
-has-nul-requires : tie.Need-has-nul-requires
-has-nul-requires c κs = search needs
-
-enum-told : tie.Need-enum-told
-enum-told c = search needs
-
 returns-2 : tie.Need-returns-2
 returns-2 c =
     c .has-nul .ensures ∙ sym (text-there _ _ _ _ (c .before .before .before .before .before .if1 .left) (told offsetOf (c .before .before .before .before .vm-to-file-offset-in .ensures) (c .before .before .offset .given .1)))
@@ -34,10 +22,4 @@ pub text-certain-spec : {M : Type 1} → statement M
 text-certain-spec =
     tie.close
     (tie.spec
-    returns
-    vm-to-file-offset-in-requires
-    enum-known-offset
-    has-nul-requires
-    enum-told
-    returns-2
-    returns-3)
+    returns (λ c κs. search needs) (λ c. search needs) (λ c κs. search needs) (λ c. search needs) returns-2 returns-3)

@@ -7,26 +7,11 @@ use borrow.Author.Needs.{needs}
 use Rattle.certainty.proofs.row.descriptor_certain.Statement.{statement}
 use Rattle.certainty.proofs.row.descriptor_certain.Tie as tie
 
-read-bytes-requires : tie.Need-read-bytes-requires
-read-bytes-requires c κs = search needs
-
-is-nowhere-requires : tie.Need-is-nowhere-requires
-is-nowhere-requires c κs = search needs
-
 returns : tie.Need-returns
 returns c = c .is-nowhere .ensures ∙ sym (short-descriptor _ _ _ _ (c .before .before .read-bytes .ensures) (omega arith))
 
 returns-2 : tie.Need-returns-2
 returns-2 c = sym (high-descriptor _ _ _ _ (c .before .before .read-bytes .ensures) (omega arith) (omega arith))
-
-add-pointer-in : tie.Need-add-pointer-in
-add-pointer-in c = search needs
-
-pointer-in-requires : tie.Need-pointer-in-requires
-pointer-in-requires c κs = search needs
-
-text-certain-requires : tie.Need-text-certain-requires
-text-certain-requires c κs = search needs
 
 returns-3 : tie.Need-returns-3
 returns-3 c =
@@ -36,11 +21,4 @@ pub descriptor-certain-spec : {M : Type 1} → statement M
 descriptor-certain-spec =
     tie.close
     (tie.spec
-    read-bytes-requires
-    is-nowhere-requires
-    returns
-    returns-2
-    add-pointer-in
-    pointer-in-requires
-    text-certain-requires
-    returns-3)
+    (λ c κs. search needs) (λ c κs. search needs) returns returns-2 (λ c. search needs) (λ c κs. search needs) (λ c κs. search needs) returns-3)

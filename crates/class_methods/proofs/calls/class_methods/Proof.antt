@@ -9,14 +9,9 @@ use Rattle.class_methods.proofs.calls.class_methods.Tie as tie
 returns : tie.Need-returns
 returns c = listed-ragged methodsGivenOf methodNumbersOf _ _ _ (c .if1 .taken)
 
-put-classes-requires : tie.Need-put-classes-requires
-put-classes-requires c κs = search needs
-
-same-length : tie.Need-same-length
-same-length c = search needs
-
 returns-2 : tie.Need-returns-2
 returns-2 c = listed-whole methodsGivenOf methodNumbersOf _ _ _ _ _ (c .before .before .put-classes .ensures) (c .before .before .before .before .if1 .left)
 
 pub class-methods-spec : {M : Type 1} → statement M
-class-methods-spec = tie.close (tie.spec returns put-classes-requires same-length returns-2)
+class-methods-spec = tie.close (tie.spec
+    returns (λ c κs. search needs) (λ c. search needs) returns-2)

@@ -21,35 +21,11 @@ abbrev μ-loop : tie.MeasureT-loop
 μ-loop image segments types vmaddr start first buffer₀ count mapping₀ slot₀ method₀ classes₀ at₀ buffer mapping slot method classes at =
     count - slot
 
-empty-requires : tie.Need-empty-requires Inv-loop μ-loop
-empty-requires c κs = search needs
-
 loop-holds : tie.Need-loop-holds Inv-loop μ-loop
 loop-holds c = (empty-mapped _ _ (c .empty .ensures), start-going _ _ _ _ _ _ _)
 
-slot-row-moving-requires : tie.Need-slot-row-moving-requires Inv-loop μ-loop
-slot-row-moving-requires c κs = search needs
-
-enum-known-found : tie.Need-enum-known-found Inv-loop μ-loop
-enum-known-found c = search needs
-
-vtable-near-requires : tie.Need-vtable-near-requires Inv-loop μ-loop
-vtable-near-requires c κs = search needs
-
-enum-known-base-va : tie.Need-enum-known-base-va Inv-loop μ-loop
-enum-known-base-va c = search needs
-
-sub-if1 : tie.Need-sub-if1 Inv-loop μ-loop
-sub-if1 c = search needs
-
-same-length : tie.Need-same-length Inv-loop μ-loop
-same-length c = search needs
-
 returns : tie.Need-returns Inv-loop μ-loop
 returns c = no-room _ _ _ _ _ _ _ _ _ _ _ _ (c .before .before .before .before .before .before .before .before .before .before .before .loop .inv .1) (c .before .before .before .before .before .before .before .before .before .before .loop-test .taken) _ (a-class _ _ _ _ _ _ (told (descriptorOf _) (c .before .before .before .before .before .before .before .before .before .slot-row-moving .ensures .row (c .before .before .before .before .before .before .before .before .before .before .before .loop .inv .0)) (c .before .before .before .before .before .before .found .given .1)) _ (told tableAt (c .before .before .before .before .vtable-near .ensures) (c .before .before .base-va .given .1) ∙ table-mapped _ _ _ (c .before .before .before .before .before .before .before .before .before .slot-row-moving .ensures .mapped (c .before .before .before .before .before .before .before .before .before .before .before .loop .inv .0)) _ _)) (c .if1 .taken)
-
-put-class-requires : tie.Need-put-class-requires Inv-loop μ-loop
-put-class-requires c κs = search needs
 
 mul-at : tie.Need-mul-at Inv-loop μ-loop
 mul-at c = record { fits = omega (arith, c .before .before .before .before .before .before .before .before .before .before .before .before .before .before .before .before .before .before .before .before .before .before .good .1 .1 .1 .1 .1 .1 .0 .0, fits _ _ _ _ _ _ _ _ _ _ _ _ (c .before .before .before .before .before .before .before .before .before .before .before .before .before .before .before .before .loop .inv .1) (c .before .before .before .before .before .before .before .before .before .before .before .before .before .before .before .loop-test .taken) _ (a-class _ _ _ _ _ _ (told (descriptorOf _) (c .before .before .before .before .before .before .before .before .before .before .before .before .before .before .slot-row-moving .ensures .row (c .before .before .before .before .before .before .before .before .before .before .before .before .before .before .before .before .loop .inv .0)) (c .before .before .before .before .before .before .before .before .before .before .before .found .given .1)) _ (told tableAt (c .before .before .before .before .before .before .before .before .before .vtable-near .ensures) (c .before .before .before .before .before .before .before .base-va .given .1) ∙ table-mapped _ _ _ (c .before .before .before .before .before .before .before .before .before .before .before .before .before .before .slot-row-moving .ensures .mapped (c .before .before .before .before .before .before .before .before .before .before .before .before .before .before .before .before .loop .inv .0)) _ _)) (omega (arith, c .before .before .before .before .before .if1 .left)) _ _ (c .before .before .before .put-class .ensures .0)) }
@@ -78,41 +54,20 @@ returns-2 c = full _ _ _ _ _ _ _ _ _ _ _ _ (c .before .before .before .before .b
 add-slot : tie.Need-add-slot Inv-loop μ-loop
 add-slot c = record { fits = omega (arith, c .before .before .before .before .before .before .before .before .before .before .before .before .before .before .before .before .before .before .before .before .before .before .before .before .good .1 .1 .0, c .before .before .before .before .before .before .before .before .before .before .before .before .before .before .before .before .before .loop-test .taken) }
 
-loop-less : tie.Need-loop-less Inv-loop μ-loop
-loop-less c = search needs
-
 loop-again : tie.Need-loop-again Inv-loop μ-loop
 loop-again c = (c .before .before .before .before .before .before .before .before .before .before .before .before .before .before .before .before .slot-row-moving .ensures .mapped (c .before .before .before .before .before .before .before .before .before .before .before .before .before .before .before .before .before .before .loop .inv .0), goes-on _ _ _ _ _ _ _ _ _ _ _ _ (c .before .before .before .before .before .before .before .before .before .before .before .before .before .before .before .before .before .before .loop .inv .1) (c .before .before .before .before .before .before .before .before .before .before .before .before .before .before .before .before .before .loop-test .taken) _ (a-class _ _ _ _ _ _ (told (descriptorOf _) (c .before .before .before .before .before .before .before .before .before .before .before .before .before .before .before .before .slot-row-moving .ensures .row (c .before .before .before .before .before .before .before .before .before .before .before .before .before .before .before .before .before .before .loop .inv .0)) (c .before .before .before .before .before .before .before .before .before .before .before .before .before .found .given .1)) _ (told tableAt (c .before .before .before .before .before .before .before .before .before .before .before .vtable-near .ensures) (c .before .before .before .before .before .before .before .before .before .base-va .given .1) ∙ table-mapped _ _ _ (c .before .before .before .before .before .before .before .before .before .before .before .before .before .before .before .before .slot-row-moving .ensures .mapped (c .before .before .before .before .before .before .before .before .before .before .before .before .before .before .before .before .before .before .loop .inv .0)) _ _)) (omega (arith, c .before .before .before .before .before .before .before .if1 .left)) _ _ (c .before .before .before .before .before .put-class .ensures .0) _ (c .before .before .before .before .before .put-class .ensures .1) (c .if2 .left))
-
-enum-told : tie.Need-enum-told Inv-loop μ-loop
-enum-told c = search needs
 
 add-slot-2 : tie.Need-add-slot-2 Inv-loop μ-loop
 add-slot-2 c = record { fits = omega (arith, c .before .before .before .before .before .before .before .before .before .before .before .before .before .before .before .good .1 .1 .0, c .before .before .before .before .before .before .before .before .loop-test .taken) }
 
-loop-less-2 : tie.Need-loop-less-2 Inv-loop μ-loop
-loop-less-2 c = search needs
-
 loop-again-2 : tie.Need-loop-again-2 Inv-loop μ-loop
 loop-again-2 c = (c .before .before .before .before .before .before .before .slot-row-moving .ensures .mapped (c .before .before .before .before .before .before .before .before .before .loop .inv .0), passes _ _ _ _ _ _ _ _ _ _ _ _ (c .before .before .before .before .before .before .before .before .before .loop .inv .1) (c .before .before .before .before .before .before .before .before .loop-test .taken) (no-class _ _ _ _ _ _ (told (descriptorOf _) (c .before .before .before .before .before .before .before .slot-row-moving .ensures .row (c .before .before .before .before .before .before .before .before .before .loop .inv .0)) (c .before .before .before .before .found .given .1)) (told tableAt (c .before .before .vtable-near .ensures) (c .enum-told .given .1) ∙ table-mapped _ _ _ (c .before .before .before .before .before .before .before .slot-row-moving .ensures .mapped (c .before .before .before .before .before .before .before .before .before .loop .inv .0)) _ _)))
-
-enum-told-2 : tie.Need-enum-told-2 Inv-loop μ-loop
-enum-told-2 c = search needs
-
-add-slot-3 : tie.Need-add-slot-3 Inv-loop μ-loop
-add-slot-3 c = search needs
-
-loop-less-3 : tie.Need-loop-less-3 Inv-loop μ-loop
-loop-less-3 c = search needs
 
 loop-again-3 : tie.Need-loop-again-3 Inv-loop μ-loop
 loop-again-3 c =
     let p = c .before .before .before .before .before .loop .inv in
     let step = c .before .before .before .slot-row-moving in
     (step .ensures .mapped (p .0), passes _ _ _ _ _ _ _ _ _ _ _ _ (p .1) (c .before .before .before .before .loop-test .taken) (no-row _ _ _ _ _ (told (descriptorOf _) (step .ensures .row (p .0)) (c .enum-told2 .given .1))))
-
-same-length-3 : tie.Need-same-length-3 Inv-loop μ-loop
-same-length-3 c = search needs
 
 returns-3 : tie.Need-returns-3 Inv-loop μ-loop
 returns-3 c = ended _ _ _ _ _ _ _ _ _ _ _ _ (c .before .loop .inv .1) (omega (arith, c .loop-test .left))
@@ -121,36 +76,7 @@ pub put-classes-spec : {M : Type 1} → statement M
 put-classes-spec =
     tie.close
     (tie.spec
-    Inv-loop
-    μ-loop
-    empty-requires
-    loop-holds
-    slot-row-moving-requires
-    enum-known-found
-    vtable-near-requires
-    enum-known-base-va
-    sub-if1
-    same-length
-    returns
-    put-class-requires
-    mul-at
-    add-at
-    add-at-2
-    add-classes
-    cast-t30
-    add-t31
-    same-length-2
-    returns-2
-    add-slot
-    loop-less
-    loop-again
-    enum-told
-    add-slot-2
-    loop-less-2
-    loop-again-2
-    enum-told-2
-    add-slot-3
-    loop-less-3
-    loop-again-3
-    same-length-3
-    returns-3)
+    Inv-loop μ-loop (λ c κs. search needs) loop-holds (λ c κs. search needs) (λ c. search needs) (λ c κs. search needs) (λ c. search needs)
+    (λ c. search needs) (λ c. search needs) returns (λ c κs. search needs) mul-at add-at add-at-2 add-classes cast-t30 add-t31 same-length-2 returns-2
+    add-slot (λ c. search needs) loop-again (λ c. search needs) add-slot-2 (λ c. search needs) loop-again-2 (λ c. search needs) (λ c. search needs)
+    (λ c. search needs) loop-again-3 (λ c. search needs) returns-3)

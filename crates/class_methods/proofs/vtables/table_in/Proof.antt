@@ -6,15 +6,6 @@ use borrow.Author.Needs.{needs}
 use Rattle.class_methods.proofs.vtables.table_in.Statement.{statement}
 use Rattle.class_methods.proofs.vtables.table_in.Tie as tie
 
-enum-told : tie.Need-enum-told
-enum-told c = search needs
-
-enum-known-body : tie.Need-enum-known-body
-enum-known-body c = search needs
-
-enum-told-2 : tie.Need-enum-told-2
-enum-told-2 c = search needs
-
 returns : tie.Need-returns
 returns c = ap bodyTable (sym (c .enum-told .given .1))
 
@@ -26,4 +17,5 @@ returns-3 c = ap bodyTable (sym (c .enum-told2 .given .1))
 
 pub table-in-spec : {M : Type 1} → statement M
 table-in-spec =
-    tie.close (tie.spec enum-told enum-known-body enum-told-2 returns returns-2 returns-3)
+    tie.close (tie.spec
+    (λ c. search needs) (λ c. search needs) (λ c. search needs) returns returns-2 returns-3)

@@ -7,72 +7,6 @@ use borrow.Author.Needs.{needs}
 use Rattle.classtrailers.proofs.decode.block_near.Statement.{statement}
 use Rattle.classtrailers.proofs.decode.block_near.Tie as tie
 
-enum-told : tie.Need-enum-told
-enum-told c = search needs
-
-generic-at-requires : tie.Need-generic-at-requires
-generic-at-requires c κs = search needs
-
-enum-told-2 : tie.Need-enum-told-2
-enum-told-2 c = search needs
-
-plain-at-requires : tie.Need-plain-at-requires
-plain-at-requires c κs = search needs
-
-enum-told-3 : tie.Need-enum-told-3
-enum-told-3 c = search needs
-
-plain-at-requires-2 : tie.Need-plain-at-requires-2
-plain-at-requires-2 c κs = search needs
-
-enum-told-4 : tie.Need-enum-told-4
-enum-told-4 c = search needs
-
-plain-at-requires-3 : tie.Need-plain-at-requires-3
-plain-at-requires-3 c κs = search needs
-
-enum-told-5 : tie.Need-enum-told-5
-enum-told-5 c = search needs
-
-vtable-at-requires : tie.Need-vtable-at-requires
-vtable-at-requires c κs = search needs
-
-enum-told-6 : tie.Need-enum-told-6
-enum-told-6 c = search needs
-
-entries-at-requires : tie.Need-entries-at-requires
-entries-at-requires c κs = search needs
-
-enum-told-7 : tie.Need-enum-told-7
-enum-told-7 c = search needs
-
-plain-at-requires-4 : tie.Need-plain-at-requires-4
-plain-at-requires-4 c κs = search needs
-
-enum-told-8 : tie.Need-enum-told-8
-enum-told-8 c = search needs
-
-entries-at-requires-2 : tie.Need-entries-at-requires-2
-entries-at-requires-2 c κs = search needs
-
-enum-told-9 : tie.Need-enum-told-9
-enum-told-9 c = search needs
-
-invertible-at-requires : tie.Need-invertible-at-requires
-invertible-at-requires c κs = search needs
-
-enum-told-10 : tie.Need-enum-told-10
-enum-told-10 c = search needs
-
-plain-at-requires-5 : tie.Need-plain-at-requires-5
-plain-at-requires-5 c κs = search needs
-
-enum-told-11 : tie.Need-enum-told-11
-enum-told-11 c = search needs
-
-entries-at-requires-3 : tie.Need-entries-at-requires-3
-entries-at-requires-3 c κs = search needs
-
 returns : tie.Need-returns
 returns c = kind-says _ _ (c .before .enum-told .given .1) _ _ _ _ (c .generic-at .ensures)
 
@@ -118,36 +52,8 @@ pub block-near-spec : {M : Type 1} → statement M
 block-near-spec =
     tie.close
     (tie.spec
-    enum-told
-    generic-at-requires
-    enum-told-2
-    plain-at-requires
-    enum-told-3
-    plain-at-requires-2
-    enum-told-4
-    plain-at-requires-3
-    enum-told-5
-    vtable-at-requires
-    enum-told-6
-    entries-at-requires
-    enum-told-7
-    plain-at-requires-4
-    enum-told-8
-    entries-at-requires-2
-    enum-told-9
-    invertible-at-requires
-    enum-told-10
-    plain-at-requires-5
-    enum-told-11
-    entries-at-requires-3
-    returns
-    returns-2
-    returns-3
-    returns-4
-    returns-5
-    returns-6
-    returns-7
-    returns-8
-    returns-9
-    returns-10
-    returns-11)
+    (λ c. search needs) (λ c κs. search needs) (λ c. search needs) (λ c κs. search needs) (λ c. search needs) (λ c κs. search needs)
+    (λ c. search needs) (λ c κs. search needs) (λ c. search needs) (λ c κs. search needs) (λ c. search needs) (λ c κs. search needs)
+    (λ c. search needs) (λ c κs. search needs) (λ c. search needs) (λ c κs. search needs) (λ c. search needs) (λ c κs. search needs)
+    (λ c. search needs) (λ c κs. search needs) (λ c. search needs) (λ c κs. search needs) returns returns-2 returns-3 returns-4 returns-5 returns-6
+    returns-7 returns-8 returns-9 returns-10 returns-11)

@@ -9,17 +9,8 @@ use borrow.Author.Needs.{needs}
 use Rattle.classtrailers.proofs.decode.entries_at.Statement.{statement}
 use Rattle.classtrailers.proofs.decode.entries_at.Tie as tie
 
-read-bytes-near-requires : tie.Need-read-bytes-near-requires
-read-bytes-near-requires c κs = search needs
-
 returns : tie.Need-returns
 returns c = no-header _ _ _ 3 _ (c .before .read-bytes-near .ensures) _ refl (omega arith)
-
-u32-at-requires : tie.Need-u32-at-requires
-u32-at-requires c κs = search needs
-
-cast-end-of : tie.Need-cast-end-of
-cast-end-of c = search needs
 
 mul-end-of : tie.Need-mul-end-of
 mul-end-of c = omega (arith, entries-fit (c .before .before .before .before .before .args .entry) (c .u32-at .result) (omega arith) (omega arith))
@@ -27,17 +18,8 @@ mul-end-of c = omega (arith, entries-fit (c .before .before .before .before .bef
 add-end-of : tie.Need-add-end-of
 add-end-of c = omega (arith, entries-fit (c .before .before .before .before .before .args .entry) (c .u32-at .result) (omega arith) (omega arith))
 
-end-of-requires : tie.Need-end-of-requires
-end-of-requires c κs = search needs
-
-enum-known-end : tie.Need-enum-known-end
-enum-known-end c = search needs
-
 add-t17 : tie.Need-add-t17
 add-t17 c = omega (arith, below-some _ _ (told endOf (c .before .before .before .end-of .ensures) (c .before .end .given .1)))
-
-enum-told : tie.Need-enum-told
-enum-told c = search needs
 
 returns-2 : tie.Need-returns-2
 returns-2 c = block-says _ _ _ 3 _ (c .before .before .before .before .before .before .read-bytes-near .ensures) _ refl (omega arith) refl _ _ (rw (c .before .before .before .before .u32-at .ensures)) (told endOf (c .before .before .before .end-of .ensures) (c .before .end .given .1) ∙ rw (c .before .before .before .before .u32-at .ensures))
@@ -49,15 +31,5 @@ pub entries-at-spec : {M : Type 1} → statement M
 entries-at-spec =
     tie.close
     (tie.spec
-    read-bytes-near-requires
-    returns
-    u32-at-requires
-    cast-end-of
-    mul-end-of
-    add-end-of
-    end-of-requires
-    enum-known-end
-    add-t17
-    enum-told
-    returns-2
-    returns-3)
+    (λ c κs. search needs) returns (λ c κs. search needs) (λ c. search needs) mul-end-of add-end-of (λ c κs. search needs) (λ c. search needs) add-t17
+    (λ c. search needs) returns-2 returns-3)

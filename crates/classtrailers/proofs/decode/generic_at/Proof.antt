@@ -10,48 +10,9 @@ use borrow.Author.Needs.{needs}
 use Rattle.classtrailers.proofs.decode.generic_at.Statement.{statement}
 use Rattle.classtrailers.proofs.decode.generic_at.Tie as tie
 
-read-bytes-near-requires : tie.Need-read-bytes-near-requires
-read-bytes-near-requires c κs = search needs
-
 returns : tie.Need-returns
 unfolding rowAt genericSize
 returns c = no-header _ _ _ 15 _ (c .before .read-bytes-near .ensures) _ refl (omega arith)
-
-u16-at-requires : tie.Need-u16-at-requires
-u16-at-requires c κs = search needs
-
-cast-parameters : tie.Need-cast-parameters
-cast-parameters c = search needs
-
-u16-at-requires-2 : tie.Need-u16-at-requires-2
-u16-at-requires-2 c κs = search needs
-
-cast-requirements : tie.Need-cast-requirements
-cast-requirements c = search needs
-
-add-end-of : tie.Need-add-end-of
-add-end-of c = search needs
-
-mul-end-of : tie.Need-mul-end-of
-mul-end-of c = search needs
-
-add-end-of-2 : tie.Need-add-end-of-2
-add-end-of-2 c = search needs
-
-mul-end-of-2 : tie.Need-mul-end-of-2
-mul-end-of-2 c = search needs
-
-add-end-of-3 : tie.Need-add-end-of-3
-add-end-of-3 c = search needs
-
-end-of-requires : tie.Need-end-of-requires
-end-of-requires c κs = search needs
-
-enum-known-end : tie.Need-enum-known-end
-enum-known-end c = search needs
-
-enum-told : tie.Need-enum-told
-enum-told c = search needs
 
 returns-2 : tie.Need-returns-2
 unfolding rowAt genericSize
@@ -65,19 +26,6 @@ pub generic-at-spec : {M : Type 1} → statement M
 generic-at-spec =
     tie.close
     (tie.spec
-    read-bytes-near-requires
-    returns
-    u16-at-requires
-    cast-parameters
-    u16-at-requires-2
-    cast-requirements
-    add-end-of
-    mul-end-of
-    add-end-of-2
-    mul-end-of-2
-    add-end-of-3
-    end-of-requires
-    enum-known-end
-    enum-told
-    returns-2
-    returns-3)
+    (λ c κs. search needs) returns (λ c κs. search needs) (λ c. search needs) (λ c κs. search needs) (λ c. search needs) (λ c. search needs)
+    (λ c. search needs) (λ c. search needs) (λ c. search needs) (λ c. search needs) (λ c κs. search needs) (λ c. search needs) (λ c. search needs)
+    returns-2 returns-3)

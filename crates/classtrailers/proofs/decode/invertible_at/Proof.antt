@@ -8,18 +8,9 @@ use borrow.Author.Needs.{needs}
 use Rattle.classtrailers.proofs.decode.invertible_at.Statement.{statement}
 use Rattle.classtrailers.proofs.decode.invertible_at.Tie as tie
 
-read-bytes-near-requires : tie.Need-read-bytes-near-requires
-read-bytes-near-requires c κs = search needs
-
 returns : tie.Need-returns
 unfolding rowAt
 returns c = no-header _ _ _ 1 _ (c .before .read-bytes-near .ensures) _ refl (omega arith)
-
-u16-at-requires : tie.Need-u16-at-requires
-u16-at-requires c κs = search needs
-
-unread-requires : tie.Need-unread-requires
-unread-requires c κs = search needs
 
 returns-2 : tie.Need-returns-2
 unfolding rowAt
@@ -27,4 +18,5 @@ returns-2 c = set-says _ _ _ 1 _ (c .before .before .before .read-bytes-near .en
 
 pub invertible-at-spec : {M : Type 1} → statement M
 invertible-at-spec =
-    tie.close (tie.spec read-bytes-near-requires returns u16-at-requires unread-requires returns-2)
+    tie.close (tie.spec
+    (λ c κs. search needs) returns (λ c κs. search needs) (λ c κs. search needs) returns-2)

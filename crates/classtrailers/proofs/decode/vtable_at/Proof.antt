@@ -10,39 +10,12 @@ use borrow.Author.Needs.{needs}
 use Rattle.classtrailers.proofs.decode.vtable_at.Statement.{statement}
 use Rattle.classtrailers.proofs.decode.vtable_at.Tie as tie
 
-read-bytes-near-requires : tie.Need-read-bytes-near-requires
-read-bytes-near-requires c κs = search needs
-
 returns : tie.Need-returns
 unfolding rowAt
 returns c = no-header _ _ _ 7 _ (c .before .read-bytes-near .ensures) _ refl (omega arith)
 
-u32-at-requires : tie.Need-u32-at-requires
-u32-at-requires c κs = search needs
-
-cast-end-of : tie.Need-cast-end-of
-cast-end-of c = search needs
-
-mul-end-of : tie.Need-mul-end-of
-mul-end-of c = search needs
-
-add-end-of : tie.Need-add-end-of
-add-end-of c = search needs
-
-end-of-requires : tie.Need-end-of-requires
-end-of-requires c κs = search needs
-
-enum-known-end : tie.Need-enum-known-end
-enum-known-end c = search needs
-
-u32-at-requires-2 : tie.Need-u32-at-requires-2
-u32-at-requires-2 c κs = search needs
-
 add-t17 : tie.Need-add-t17
 add-t17 c = omega (arith, below-some _ _ (told endOf (c .before .before .before .before .end-of .ensures) (c .before .before .end .given .1)))
-
-enum-told : tie.Need-enum-told
-enum-told c = search needs
 
 returns-2 : tie.Need-returns-2
 unfolding rowAt
@@ -56,16 +29,5 @@ pub vtable-at-spec : {M : Type 1} → statement M
 vtable-at-spec =
     tie.close
     (tie.spec
-    read-bytes-near-requires
-    returns
-    u32-at-requires
-    cast-end-of
-    mul-end-of
-    add-end-of
-    end-of-requires
-    enum-known-end
-    u32-at-requires-2
-    add-t17
-    enum-told
-    returns-2
-    returns-3)
+    (λ c κs. search needs) returns (λ c κs. search needs) (λ c. search needs) (λ c. search needs) (λ c. search needs) (λ c κs. search needs)
+    (λ c. search needs) (λ c κs. search needs) add-t17 (λ c. search needs) returns-2 returns-3)

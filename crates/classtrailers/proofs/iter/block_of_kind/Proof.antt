@@ -7,14 +7,9 @@ use borrow.Author.Needs.{needs}
 use Rattle.classtrailers.proofs.iter.block_of_kind.Statement.{statement}
 use Rattle.classtrailers.proofs.iter.block_of_kind.Tie as tie
 
-empty-requires : tie.Need-empty-requires
-empty-requires c κs = search needs
-
-block-of-kind-near-requires : tie.Need-block-of-kind-near-requires
-block-of-kind-near-requires c κs = search needs
-
 returns : tie.Need-returns
 returns c = c .block-of-kind-near .ensures ∙ run-mapped _ _ _ (empty-mapped _ _ (c .before .empty .ensures)) _
 
 pub block-of-kind-spec : {M : Type 1} → statement M
-block-of-kind-spec = tie.close (tie.spec empty-requires block-of-kind-near-requires returns)
+block-of-kind-spec = tie.close (tie.spec
+    (λ c κs. search needs) (λ c κs. search needs) returns)

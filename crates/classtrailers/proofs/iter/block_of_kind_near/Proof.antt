@@ -22,12 +22,6 @@ Inv-loop image segments mapping trailing start kind number address₀ row₀ add
 abbrev μ-loop : tie.MeasureT-loop
 μ-loop image segments mapping trailing start kind number address₀ row₀ address row = number - row
 
-number-of-requires : tie.Need-number-of-requires Inv-loop μ-loop
-number-of-requires c κs = search needs
-
-has-block-requires : tie.Need-has-block-requires Inv-loop μ-loop
-has-block-requires c κs = search needs
-
 returns : tie.Need-returns Inv-loop μ-loop
 unfolding block
 returns c = kind-absent _ _ _ _ _ (sym (c .before .has-block .ensures) ∙ not-true _ (c .if1 .taken))
@@ -35,39 +29,12 @@ returns c = kind-absent _ _ _ _ _ (sym (c .before .has-block .ensures) ∙ not-t
 loop-holds : tie.Need-loop-holds Inv-loop μ-loop
 loop-holds c = (omega arith, reached-start _ _ _ _)
 
-pass-requires : tie.Need-pass-requires Inv-loop μ-loop
-pass-requires c κs = search needs
-
-enum-known-end : tie.Need-enum-known-end Inv-loop μ-loop
-enum-known-end c = search needs
-
-add-row : tie.Need-add-row Inv-loop μ-loop
-add-row c = search needs
-
-loop-less : tie.Need-loop-less Inv-loop μ-loop
-loop-less c = search needs
-
 loop-again : tie.Need-loop-again Inv-loop μ-loop
 loop-again c = (omega arith, reached-next _ _ _ _ _ _ _ (c .before .before .before .before .before .loop .inv .1) (told endOf (c .before .before .before .pass .ensures) (c .before .end .given .1)))
-
-enum-told : tie.Need-enum-told Inv-loop μ-loop
-enum-told c = search needs
 
 returns-2 : tie.Need-returns-2 Inv-loop μ-loop
 unfolding block
 returns-2 c = kind-stops _ _ _ _ _ _ (reached-next _ _ _ _ _ _ _ (c .before .before .before .before .loop .inv .1) (told endOf (c .before .before .pass .ensures) (c .enum-told .given .1))) (omega (arith, c .before .before .before .before .before .before .before .number-of .ensures))
-
-block-near-requires : tie.Need-block-near-requires Inv-loop μ-loop
-block-near-requires c κs = search needs
-
-enum-known-block : tie.Need-enum-known-block Inv-loop μ-loop
-enum-known-block c = search needs
-
-enum-known-block-2 : tie.Need-enum-known-block-2 Inv-loop μ-loop
-enum-known-block-2 c = search needs
-
-enum-told-2 : tie.Need-enum-told-2 Inv-loop μ-loop
-enum-told-2 c = search needs
 
 returns-3 : tie.Need-returns-3 Inv-loop μ-loop
 unfolding block
@@ -85,23 +52,6 @@ pub block-of-kind-near-spec : {M : Type 1} → statement M
 block-of-kind-near-spec =
     tie.close
     (tie.spec
-    Inv-loop
-    μ-loop
-    number-of-requires
-    has-block-requires
-    returns
-    loop-holds
-    pass-requires
-    enum-known-end
-    add-row
-    loop-less
-    loop-again
-    enum-told
-    returns-2
-    block-near-requires
-    enum-known-block
-    enum-known-block-2
-    enum-told-2
-    returns-3
-    returns-4
-    returns-5)
+    Inv-loop μ-loop (λ c κs. search needs) (λ c κs. search needs) returns loop-holds (λ c κs. search needs) (λ c. search needs) (λ c. search needs)
+    (λ c. search needs) loop-again (λ c. search needs) returns-2 (λ c κs. search needs) (λ c. search needs) (λ c. search needs) (λ c. search needs)
+    returns-3 returns-4 returns-5)

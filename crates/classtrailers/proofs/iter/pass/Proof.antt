@@ -7,29 +7,8 @@ use borrow.Author.Needs.{needs}
 use Rattle.classtrailers.proofs.iter.pass.Statement.{statement}
 use Rattle.classtrailers.proofs.iter.pass.Tie as tie
 
-kind-there-requires : tie.Need-kind-there-requires
-kind-there-requires c κs = search needs
-
-enum-known-kind : tie.Need-enum-known-kind
-enum-known-kind c = search needs
-
-enum-told : tie.Need-enum-told
-enum-told c = search needs
-
 returns : tie.Need-returns
 returns c = pass-none _ _ _ _ _ (told kindReadOf (c .before .before .kind-there .ensures) (c .enum-told .given .1))
-
-block-near-requires : tie.Need-block-near-requires
-block-near-requires c κs = search needs
-
-enum-known-end : tie.Need-enum-known-end
-enum-known-end c = search needs
-
-enum-told-2 : tie.Need-enum-told-2
-enum-told-2 c = search needs
-
-enum-told-3 : tie.Need-enum-told-3
-enum-told-3 c = search needs
 
 returns-2 : tie.Need-returns-2
 returns-2 c = pass-kind _ _ _ _ _ _ _ (told kindReadOf (c .before .before .before .before .before .before .before .kind-there .ensures) (c .before .before .before .before .before .kind .given .1)) (told blockAtOf (c .before .before .before .block-near .ensures) (c .before .end .given .1))
@@ -44,14 +23,5 @@ pub pass-spec : {M : Type 1} → statement M
 pass-spec =
     tie.close
     (tie.spec
-    kind-there-requires
-    enum-known-kind
-    enum-told
-    returns
-    block-near-requires
-    enum-known-end
-    enum-told-2
-    enum-told-3
-    returns-2
-    returns-3
-    returns-4)
+    (λ c κs. search needs) (λ c. search needs) (λ c. search needs) returns (λ c κs. search needs) (λ c. search needs) (λ c. search needs)
+    (λ c. search needs) returns-2 returns-3 returns-4)

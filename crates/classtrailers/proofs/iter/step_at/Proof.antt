@@ -10,24 +10,6 @@ use borrow.Author.Needs.{needs}
 use Rattle.classtrailers.proofs.iter.step_at.Statement.{statement}
 use Rattle.classtrailers.proofs.iter.step_at.Tie as tie
 
-empty-requires : tie.Need-empty-requires
-empty-requires c κs = search needs
-
-block-near-requires : tie.Need-block-near-requires
-block-near-requires c κs = search needs
-
-enum-known-block : tie.Need-enum-known-block
-enum-known-block c = search needs
-
-add-t13 : tie.Need-add-t13
-add-t13 c = search needs
-
-enum-known-block-2 : tie.Need-enum-known-block-2
-enum-known-block-2 c = search needs
-
-enum-told : tie.Need-enum-told
-enum-told c = search needs
-
 returns : tie.Need-returns
 returns c = step-kind _ _ _ _ _ (c .before .before .before .before .before .before .before .args .kind) _ (c .before .before .before .before .before .before .before .pre .1) (told blockAtOf (c .before .before .before .block-near .ensures) (c .before .block .given .1) ∙ run-mapped _ _ _ (empty-mapped _ _ (c .before .before .before .before .empty .ensures)) _)
 
@@ -41,12 +23,5 @@ pub step-at-spec : {M : Type 1} → statement M
 step-at-spec =
     tie.close
     (tie.spec
-    empty-requires
-    block-near-requires
-    enum-known-block
-    add-t13
-    enum-known-block-2
-    enum-told
-    returns
-    returns-2
+    (λ c κs. search needs) (λ c κs. search needs) (λ c. search needs) (λ c. search needs) (λ c. search needs) (λ c. search needs) returns returns-2
     returns-3)

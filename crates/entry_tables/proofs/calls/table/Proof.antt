@@ -9,14 +9,9 @@ use Rattle.entry_tables.proofs.calls.table.Tie as tie
 returns : tie.Need-returns
 returns c = table-ragged _ _ _ _ refl (c .if1 .taken)
 
-list-entries-requires : tie.Need-list-entries-requires
-list-entries-requires c κs = search needs
-
-same-length : tie.Need-same-length
-same-length c = search needs
-
 returns-2 : tie.Need-returns-2
 returns-2 c = table-whole _ _ _ _ _ (c .before .before .list-entries .ensures) (c .before .before .before .before .if1 .left)
 
 pub table-spec : {M : Type 1} → statement M
-table-spec = tie.close (tie.spec returns list-entries-requires same-length returns-2)
+table-spec = tie.close (tie.spec
+    returns (λ c κs. search needs) (λ c. search needs) returns-2)

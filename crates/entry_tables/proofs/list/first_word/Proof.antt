@@ -5,15 +5,6 @@ use borrow.Author.Needs.{needs}
 use Rattle.entry_tables.proofs.list.first_word.Statement.{statement}
 use Rattle.entry_tables.proofs.list.first_word.Tie as tie
 
-u32-at-requires : tie.Need-u32-at-requires
-u32-at-requires c κs = search needs
-
-cast-result : tie.Need-cast-result
-cast-result c = search needs
-
-address-in-requires : tie.Need-address-in-requires
-address-in-requires c κs = search needs
-
 returns : tie.Need-returns
 returns c = numbered-word _ _ _ _ (c .before .if1 .taken) (c .u32-at .ensures)
 
@@ -22,4 +13,5 @@ returns-2 c = pointer-word _ _ _ _ (c .before .if1 .left) (c .address-in .ensure
 
 pub first-word-spec : {M : Type 1} → statement M
 first-word-spec =
-    tie.close (tie.spec u32-at-requires cast-result address-in-requires returns returns-2)
+    tie.close (tie.spec
+    (λ c κs. search needs) (λ c. search needs) (λ c κs. search needs) returns returns-2)

@@ -9,22 +9,10 @@ use borrow.Author.Needs.{needs}
 use Rattle.entry_tables.proofs.list.list_one.Statement.{statement}
 use Rattle.entry_tables.proofs.list.list_one.Tie as tie
 
-add-if1 : tie.Need-add-if1
-add-if1 c = search needs
-
 returns : tie.Need-returns
 returns c =
     let s = c .before .before .before .before in
     one-full (s .args .image .now) (s .args .segments .now) (s .args .numbered) (s .args .more) (s .args .stride) (s .args .cursor .«base_va») (s .args .cursor .count) (s .args .buffer .now) (s .args .cursor .next) (s .pre .0) (s .pre .1) (omega (arith, c .if1 .taken))
-
-window-at-requires : tie.Need-window-at-requires
-window-at-requires c κs = search needs
-
-enum-known-place : tie.Need-enum-known-place
-enum-known-place c = search needs
-
-entry-address-requires : tie.Need-entry-address-requires
-entry-address-requires c κs = search needs
 
 put-from-requires : tie.Need-put-from-requires
 put-from-requires c κs =
@@ -32,12 +20,6 @@ put-from-requires c κs =
     let f = c .before .before .before in
     let w = opens-last _ _ _ _ _ _ (case (Opens _ _ _ _) (f .before .before .window-at .ensures) (f .place .given .1)) in
     (s .pre .0, (omega (arith, below-word _ _ _ _ (c .before .entry-address .ensures) (w .0)), (omega (arith, w .1), search needs)))
-
-enum-told : tie.Need-enum-told
-enum-told c = search needs
-
-same-length : tie.Need-same-length
-same-length c = search needs
 
 returns-2 : tie.Need-returns-2
 returns-2 c =
@@ -55,13 +37,5 @@ pub list-one-spec : {M : Type 1} → statement M
 list-one-spec =
     tie.close
     (tie.spec
-    add-if1
-    returns
-    window-at-requires
-    enum-known-place
-    entry-address-requires
-    put-from-requires
-    enum-told
-    same-length
-    returns-2
-    returns-3)
+    (λ c. search needs) returns (λ c κs. search needs) (λ c. search needs) (λ c κs. search needs) put-from-requires (λ c. search needs)
+    (λ c. search needs) returns-2 returns-3)

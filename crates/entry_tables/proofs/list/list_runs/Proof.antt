@@ -16,44 +16,14 @@ Inv-loop image segments numbered more stride buffer₀ width base-va count room 
 abbrev μ-loop : tie.MeasureT-loop
 μ-loop image segments numbered more stride buffer₀ width base-va count room k₀ n₀ buffer k n = room - n
 
-add-width : tie.Need-add-width Inv-loop μ-loop
-add-width c = search needs
-
-div-room : tie.Need-div-room Inv-loop μ-loop
-div-room c = search needs
-
 loop-holds : tie.Need-loop-holds Inv-loop μ-loop
 loop-holds c = start-going _ _ _ _ _ _ _ _ _
-
-same-length : tie.Need-same-length Inv-loop μ-loop
-same-length c = search needs
 
 returns : tie.Need-returns Inv-loop μ-loop
 returns c =
     let a = c .before .before in
     let s = a .before .before .before .before in
     stops-end entryNumbers (s .args .image .now) (s .args .segments .now) (shape (s .args .numbered) (s .args .more) (s .args .stride)) (s .args .cursor .«base_va») (s .args .cursor .count) (width (shape (s .args .numbered) (s .args .more) (s .args .stride))) (s .args .buffer .now) (s .args .cursor .next) (a .loop .k) (a .loop .n) _ (a .loop .inv) (omega (arith, c .if1 .taken))
-
-window-at-requires : tie.Need-window-at-requires Inv-loop μ-loop
-window-at-requires c κs = search needs
-
-enum-known-found : tie.Need-enum-known-found Inv-loop μ-loop
-enum-known-found c = search needs
-
-entry-address-requires : tie.Need-entry-address-requires Inv-loop μ-loop
-entry-address-requires c κs = search needs
-
-sub-lower : tie.Need-sub-lower Inv-loop μ-loop
-sub-lower c = search needs
-
-cast-lower : tie.Need-cast-lower Inv-loop μ-loop
-cast-lower c = search needs
-
-sub-lower-2 : tie.Need-sub-lower-2 Inv-loop μ-loop
-sub-lower-2 c = search needs
-
-lower-requires : tie.Need-lower-requires Inv-loop μ-loop
-lower-requires c κs = search needs
 
 mul-put-run : tie.Need-mul-put-run Inv-loop μ-loop
 mul-put-run c =
@@ -73,12 +43,6 @@ put-run-requires c κs =
     let s = a .before .before .before .before in
     let w = opens-last _ _ _ _ _ _ (case (Opens _ _ _ _) (p .window-at .ensures) (f .found .given .1)) in
     (s .pre, (below-word _ _ _ _ (c .before .before .entry-address .ensures) (w .0), (w .1, omega (arith, a .loop .inv .long, room-for (s .args .buffer .now) (2 + s .args .more) (a .loop .n) (c .before .lower .result) (omega (arith, c .before .lower .ensures, i .loop-test .taken))))))
-
-cast-k : tie.Need-cast-k Inv-loop μ-loop
-cast-k c = search needs
-
-add-k : tie.Need-add-k Inv-loop μ-loop
-add-k c = search needs
 
 add-n : tie.Need-add-n Inv-loop μ-loop
 add-n c =
@@ -108,12 +72,6 @@ loop-again c =
     let s = a .before .before .before .before in
     table-run (s .args .image .now) (s .args .segments .now) (s .args .numbered) (s .args .more) (s .args .stride) (s .args .cursor .«base_va») (s .args .cursor .count) (s .args .buffer .now) (s .args .cursor .next) (s .pre) (a .loop .k) (a .loop .n) _ (a .loop .inv) _ _ _ _ _ _ (case (Opens _ _ _ _) (p .window-at .ensures) (f .found .given .1)) (c .before .before .before .before .before .entry-address .ensures) (omega (arith, c .before .before .before .before .lower .ensures)) (omega (arith, c .before .before .before .before .lower .ensures)) (omega (arith, p .before .if1 .left)) (c .before .before .put-run .ensures)
 
-enum-told : tie.Need-enum-told Inv-loop μ-loop
-enum-told c = search needs
-
-same-length-2 : tie.Need-same-length-2 Inv-loop μ-loop
-same-length-2 c = search needs
-
 returns-2 : tie.Need-returns-2 Inv-loop μ-loop
 returns-2 c =
     let p = c .before .before in
@@ -121,12 +79,6 @@ returns-2 c =
     let a = i .before in
     let s = a .before .before .before .before in
     table-none (s .args .image .now) (s .args .segments .now) (s .args .numbered) (s .args .more) (s .args .stride) (s .args .cursor .«base_va») (s .args .cursor .count) (s .args .buffer .now) (s .args .cursor .next) (s .pre) (a .loop .k) (a .loop .n) _ (a .loop .inv) (omega (arith, p .before .if1 .left)) (i .loop-test .taken) (case (Opens _ _ _ _) (p .window-at .ensures) (c .enum-told .given .1))
-
-stopped-requires : tie.Need-stopped-requires Inv-loop μ-loop
-stopped-requires c κs = search needs
-
-same-length-3 : tie.Need-same-length-3 Inv-loop μ-loop
-same-length-3 c = search needs
 
 returns-3 : tie.Need-returns-3 Inv-loop μ-loop
 returns-3 c =
@@ -138,30 +90,7 @@ pub list-runs-spec : {M : Type 1} → statement M
 list-runs-spec =
     tie.close
     (tie.spec
-    Inv-loop
-    μ-loop
-    add-width
-    div-room
-    loop-holds
-    same-length
-    returns
-    window-at-requires
-    enum-known-found
-    entry-address-requires
-    sub-lower
-    cast-lower
-    sub-lower-2
-    lower-requires
-    mul-put-run
-    put-run-requires
-    cast-k
-    add-k
-    add-n
-    loop-less
-    loop-again
-    enum-told
-    same-length-2
-    returns-2
-    stopped-requires
-    same-length-3
-    returns-3)
+    Inv-loop μ-loop (λ c. search needs) (λ c. search needs) loop-holds (λ c. search needs) returns (λ c κs. search needs) (λ c. search needs)
+    (λ c κs. search needs) (λ c. search needs) (λ c. search needs) (λ c. search needs) (λ c κs. search needs) mul-put-run put-run-requires
+    (λ c. search needs) (λ c. search needs) add-n loop-less loop-again (λ c. search needs) (λ c. search needs) returns-2 (λ c κs. search needs)
+    (λ c. search needs) returns-3)

@@ -15,17 +15,8 @@ Inv-loop image place last address numbered more stride most buffer₀ at width s
 abbrev μ-loop : tie.MeasureT-loop
 μ-loop image place last address numbered more stride most buffer₀ at width step n₀ past₀ buffer n past = most - n
 
-add-width : tie.Need-add-width Inv-loop μ-loop
-add-width c = search needs
-
 loop-holds : tie.Need-loop-holds Inv-loop μ-loop
 loop-holds c = (ran-none _ _ _ _ _ _ _ _ _ _, (search needs, search needs))
-
-add-put-from : tie.Need-add-put-from Inv-loop μ-loop
-add-put-from c = search needs
-
-add-put-from-2 : tie.Need-add-put-from-2 Inv-loop μ-loop
-add-put-from-2 c = search needs
 
 mul-put-from : tie.Need-mul-put-from Inv-loop μ-loop
 mul-put-from c =
@@ -48,15 +39,6 @@ put-from-requires c κs =
     let s = a .before .before .before in
     (s .pre .0, (omega (arith, s .pre .1 .0, a .loop .inv .1 .1), (omega (arith, s .pre .1 .1 .0, a .loop .inv .1 .1), omega (arith, run-fits _ _ _ _ _ _ _ _ _ _ (s .pre .0) (s .pre .1 .1 .1) _ _ (a .loop .inv .0) (i .loop-test .taken)))))
 
-add-n : tie.Need-add-n Inv-loop μ-loop
-add-n c = search needs
-
-sub-if1 : tie.Need-sub-if1 Inv-loop μ-loop
-sub-if1 c = search needs
-
-same-length : tie.Need-same-length Inv-loop μ-loop
-same-length c = search needs
-
 returns : tie.Need-returns Inv-loop μ-loop
 returns c =
     let i = c .before .before .before .before .before in
@@ -65,12 +47,6 @@ returns c =
     let more = ran-on _ _ _ _ _ _ _ _ _ _ (s .pre .0) (s .pre .1 .1 .1) _ _ (a .loop .inv .0) _ _ (i .loop-test .taken) (a .loop .inv .1 .0) (a .loop .inv .1 .1) (c .before .before .before .put-from .ensures) in
     ran-puts _ _ _ _ _ _ _ _ _ _ (s .pre .0) (s .pre .1 .1 .1) _ _ more (λ _. omega arith)
 
-add-past : tie.Need-add-past Inv-loop μ-loop
-add-past c = search needs
-
-loop-less : tie.Need-loop-less Inv-loop μ-loop
-loop-less c = search needs
-
 loop-again : tie.Need-loop-again Inv-loop μ-loop
 loop-again c =
     let i = c .before .before .before .before .before in
@@ -78,9 +54,6 @@ loop-again c =
     let s = a .before .before .before in
     let more = ran-on _ _ _ _ _ _ _ _ _ _ (s .pre .0) (s .pre .1 .1 .1) _ _ (a .loop .inv .0) _ _ (i .loop-test .taken) (a .loop .inv .1 .0) (a .loop .inv .1 .1) (c .before .before .before .put-from .ensures) in
     (more, (far-on _ _ _ _ _ _ _ _ _ _ (s .pre .0) (s .pre .1 .1 .1) _ _ (a .loop .inv .0) _ (a .loop .inv .1 .0), omega (arith, c .if1 .left, a .loop .inv .1 .1)))
-
-same-length-2 : tie.Need-same-length-2 Inv-loop μ-loop
-same-length-2 c = search needs
 
 returns-2 : tie.Need-returns-2 Inv-loop μ-loop
 returns-2 c =
@@ -92,21 +65,6 @@ pub put-run-spec : {M : Type 1} → statement M
 put-run-spec =
     tie.close
     (tie.spec
-    Inv-loop
-    μ-loop
-    add-width
-    loop-holds
-    add-put-from
-    add-put-from-2
-    mul-put-from
-    add-put-from-3
-    put-from-requires
-    add-n
-    sub-if1
-    same-length
-    returns
-    add-past
-    loop-less
-    loop-again
-    same-length-2
+    Inv-loop μ-loop (λ c. search needs) loop-holds (λ c. search needs) (λ c. search needs) mul-put-from add-put-from-3 put-from-requires
+    (λ c. search needs) (λ c. search needs) (λ c. search needs) returns (λ c. search needs) (λ c. search needs) loop-again (λ c. search needs)
     returns-2)

@@ -8,12 +8,6 @@ use borrow.Author.Needs.{needs}
 use Rattle.entry_tables.proofs.window.window_of_all.Statement.{statement}
 use Rattle.entry_tables.proofs.window.window_of_all.Tie as tie
 
-locate-requires : tie.Need-locate-requires
-locate-requires c κs = search needs
-
-enum-known-mapping : tie.Need-enum-known-mapping
-enum-known-mapping c = search needs
-
 sub-before : tie.Need-sub-before
 sub-before c =
     let q = c .before .before in
@@ -26,35 +20,17 @@ returns c =
     let found = case (Located _ _) (q .before .before .locate .ensures) (q .mapping .given .1) in
     opens-past _ _ _ _ (q .before .before .before .before .before .pre .1) _ found (omega arith)
 
-sub-if2 : tie.Need-sub-if2
-sub-if2 c = search needs
-
 returns-2 : tie.Need-returns-2
 returns-2 c =
     let q = c .before .before .before .before in
     let found = case (Located _ _) (q .before .before .locate .ensures) (q .mapping .given .1) in
     opens-past _ _ _ _ (q .before .before .before .before .before .pre .1) _ found (omega arith)
 
-add-place : tie.Need-add-place
-add-place c = search needs
-
-sub-left : tie.Need-sub-left
-sub-left c = search needs
-
 returns-3 : tie.Need-returns-3
 returns-3 c =
     let q = c .before .before .before .before .before in
     let found = case (Located _ _) (q .before .before .locate .ensures) (q .mapping .given .1) in
     opens-past _ _ _ _ (q .before .before .before .before .before .pre .1) _ found (omega arith)
-
-sub-above : tie.Need-sub-above
-sub-above c = search needs
-
-sub-above-2 : tie.Need-sub-above-2
-sub-above-2 c = search needs
-
-sub-above-3 : tie.Need-sub-above-3
-sub-above-3 c = search needs
 
 sub-least : tie.Need-sub-least
 sub-least c =
@@ -67,15 +43,6 @@ sub-least-2 c =
     let q = c .before .before .before .before .before .before in
     let found = case (Located _ _) (q .before .before .locate .ensures) (q .mapping .given .1) in
     omega (arith, found .1 .from, found .1 .to)
-
-least-requires : tie.Need-least-requires
-least-requires c κs = search needs
-
-least-requires-2 : tie.Need-least-requires-2
-least-requires-2 c κs = search needs
-
-enum-told : tie.Need-enum-told
-enum-told c = search needs
 
 returns-4 : tie.Need-returns-4
 returns-4 c =
@@ -90,22 +57,6 @@ pub window-of-all-spec : {M : Type 1} → statement M
 window-of-all-spec =
     tie.close
     (tie.spec
-    locate-requires
-    enum-known-mapping
-    sub-before
-    returns
-    sub-if2
-    returns-2
-    add-place
-    sub-left
-    returns-3
-    sub-above
-    sub-above-2
-    sub-above-3
-    sub-least
-    sub-least-2
-    least-requires
-    least-requires-2
-    enum-told
-    returns-4
-    returns-5)
+    (λ c κs. search needs) (λ c. search needs) sub-before returns (λ c. search needs) returns-2 (λ c. search needs) (λ c. search needs) returns-3
+    (λ c. search needs) (λ c. search needs) (λ c. search needs) sub-least sub-least-2 (λ c κs. search needs) (λ c κs. search needs)
+    (λ c. search needs) returns-4 returns-5)

@@ -7,15 +7,6 @@ use borrow.Author.Needs.{needs}
 use Rattle.entry_tables.proofs.window.window_of_one.Statement.{statement}
 use Rattle.entry_tables.proofs.window.window_of_one.Tie as tie
 
-find-bytes-requires : tie.Need-find-bytes-requires
-find-bytes-requires c κs = search needs
-
-enum-known-place : tie.Need-enum-known-place
-enum-known-place c = search needs
-
-enum-told : tie.Need-enum-told
-enum-told c = search needs
-
 returns : tie.Need-returns
 returns c = opens-one _ _ _ _ (c .before .before .before .before .before .before .pre) _ (told bytesPlaceOf (c .before .before .before .find-bytes .ensures) (c .before .place .given .1))
 
@@ -24,4 +15,5 @@ returns-2 c = opens-none _ _ _ _ (c .before .before .before .before .before .pre
 
 pub window-of-one-spec : {M : Type 1} → statement M
 window-of-one-spec =
-    tie.close (tie.spec find-bytes-requires enum-known-place enum-told returns returns-2)
+    tie.close (tie.spec
+    (λ c κs. search needs) (λ c. search needs) (λ c. search needs) returns returns-2)

@@ -7,21 +7,6 @@ use borrow.Author.Needs.{needs}
 use Rattle.field_offsets.proofs.offsets.field_offsets.Statement.{statement}
 use Rattle.field_offsets.proofs.offsets.field_offsets.Tie as tie
 
-enum-told : tie.Need-enum-told
-enum-told c = search needs
-
-enum-known-body : tie.Need-enum-known-body
-enum-known-body c = search needs
-
-struct-offsets-requires : tie.Need-struct-offsets-requires
-struct-offsets-requires c κs = search needs
-
-enum-told-2 : tie.Need-enum-told-2
-enum-told-2 c = search needs
-
-enum-told-3 : tie.Need-enum-told-3
-enum-told-3 c = search needs
-
 returns : tie.Need-returns
 unfolding vector
 returns c = no-offsets-of _ _ _ _ _ (c .enum-told .given .1) refl
@@ -40,12 +25,4 @@ pub field-offsets-spec : {M : Type 1} → statement M
 field-offsets-spec =
     tie.close
     (tie.spec
-    enum-told
-    enum-known-body
-    struct-offsets-requires
-    enum-told-2
-    enum-told-3
-    returns
-    returns-2
-    returns-3
-    returns-4)
+    (λ c. search needs) (λ c. search needs) (λ c κs. search needs) (λ c. search needs) (λ c. search needs) returns returns-2 returns-3 returns-4)

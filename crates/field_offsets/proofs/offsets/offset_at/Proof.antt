@@ -14,29 +14,8 @@ returns c = no-number _ _ _ _ (omega arith)
 returns-2 : tie.Need-returns-2
 returns-2 c = not-whole _ _ _ _ (omega arith) (omega arith)
 
-sub-if3 : tie.Need-sub-if3
-sub-if3 c = search needs
-
-mul-if3 : tie.Need-mul-if3
-mul-if3 c = search needs
-
 returns-3 : tie.Need-returns-3
 returns-3 c = not-whole _ _ _ _ (omega arith) (omega arith)
-
-mul-read-u32-le-at : tie.Need-mul-read-u32-le-at
-mul-read-u32-le-at c = search needs
-
-add-read-u32-le-at : tie.Need-add-read-u32-le-at
-add-read-u32-le-at c = search needs
-
-read-u32-le-at-requires : tie.Need-read-u32-le-at-requires
-read-u32-le-at-requires c κs = search needs
-
-enum-known-offset : tie.Need-enum-known-offset
-enum-known-offset c = search needs
-
-enum-told : tie.Need-enum-told
-enum-told c = search needs
 
 returns-4 : tie.Need-returns-4
 returns-4 c = number-at _ _ _ _ (omega arith) (omega arith) _ (told u32Value (c .before .before .before .read-u32-le-at .ensures) (c .before .offset .given .1))
@@ -48,15 +27,5 @@ pub offset-at-spec : {M : Type 1} → statement M
 offset-at-spec =
     tie.close
     (tie.spec
-    returns
-    returns-2
-    sub-if3
-    mul-if3
-    returns-3
-    mul-read-u32-le-at
-    add-read-u32-le-at
-    read-u32-le-at-requires
-    enum-known-offset
-    enum-told
-    returns-4
-    returns-5)
+    returns returns-2 (λ c. search needs) (λ c. search needs) returns-3 (λ c. search needs) (λ c. search needs) (λ c κs. search needs)
+    (λ c. search needs) (λ c. search needs) returns-4 returns-5)

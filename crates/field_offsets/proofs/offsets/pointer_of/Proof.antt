@@ -6,18 +6,6 @@ use borrow.Author.Needs.{needs}
 use Rattle.field_offsets.proofs.offsets.pointer_of.Statement.{statement}
 use Rattle.field_offsets.proofs.offsets.pointer_of.Tie as tie
 
-enum-known-body : tie.Need-enum-known-body
-enum-known-body c = search needs
-
-singleton-metadata-pointer-requires : tie.Need-singleton-metadata-pointer-requires
-singleton-metadata-pointer-requires c κs = search needs
-
-enum-told : tie.Need-enum-told
-enum-told c = search needs
-
-enum-told-2 : tie.Need-enum-told-2
-enum-told-2 c = search needs
-
 returns : tie.Need-returns
 returns c = pointer-of _ _ _ _ (c .before .before .body .given .1) _ (c .singleton-metadata-pointer .ensures)
 
@@ -31,10 +19,4 @@ pub pointer-of-spec : {M : Type 1} → statement M
 pointer-of-spec =
     tie.close
     (tie.spec
-    enum-known-body
-    singleton-metadata-pointer-requires
-    enum-told
-    enum-told-2
-    returns
-    returns-2
-    returns-3)
+    (λ c. search needs) (λ c κs. search needs) (λ c. search needs) (λ c. search needs) returns returns-2 returns-3)

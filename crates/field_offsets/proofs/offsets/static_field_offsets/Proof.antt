@@ -8,21 +8,6 @@ use borrow.Author.Needs.{needs}
 use Rattle.field_offsets.proofs.offsets.static_field_offsets.Statement.{statement}
 use Rattle.field_offsets.proofs.offsets.static_field_offsets.Tie as tie
 
-decode-body-requires : tie.Need-decode-body-requires
-decode-body-requires c κs = search needs
-
-metadata-after-requires : tie.Need-metadata-after-requires
-metadata-after-requires c κs = search needs
-
-enum-known-metadata-va : tie.Need-enum-known-metadata-va
-enum-known-metadata-va c = search needs
-
-field-offsets-requires : tie.Need-field-offsets-requires
-field-offsets-requires c κs = search needs
-
-enum-told : tie.Need-enum-told
-enum-told c = search needs
-
 returns : tie.Need-returns
 returns c =
     static-at _ _ _ _ _ _ _ (c .before .before .before .before .before .decode-body .ensures) (told pointerOf (c .before .before .before .before .metadata-after .ensures) (c .before .before .metadata-va .given .1))
@@ -36,10 +21,4 @@ pub static-field-offsets-spec : {M : Type 1} → statement M
 static-field-offsets-spec =
     tie.close
     (tie.spec
-    decode-body-requires
-    metadata-after-requires
-    enum-known-metadata-va
-    field-offsets-requires
-    enum-told
-    returns
-    returns-2)
+    (λ c κs. search needs) (λ c κs. search needs) (λ c. search needs) (λ c κs. search needs) (λ c. search needs) returns returns-2)

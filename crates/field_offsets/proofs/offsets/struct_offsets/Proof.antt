@@ -17,29 +17,8 @@ returns-2 c = no-offsets _ _ _ _ _ (λ w. omega (arith, w .word))
 returns-3 : tie.Need-returns-3
 returns-3 c = no-offsets _ _ _ _ _ (λ w. omega (arith, w .metadata))
 
-mul-distance : tie.Need-mul-distance
-mul-distance c = search needs
-
-sub-if4 : tie.Need-sub-if4
-sub-if4 c = search needs
-
 returns-4 : tie.Need-returns-4
 returns-4 c = no-offsets _ _ _ _ _ (λ w. omega (arith, w .below))
-
-mul-length : tie.Need-mul-length
-mul-length c = search needs
-
-add-find-bytes : tie.Need-add-find-bytes
-add-find-bytes c = search needs
-
-find-bytes-requires : tie.Need-find-bytes-requires
-find-bytes-requires c κs = search needs
-
-enum-known-place : tie.Need-enum-known-place
-enum-known-place c = search needs
-
-enum-told : tie.Need-enum-told
-enum-told c = search needs
 
 returns-5 : tie.Need-returns-5
 returns-5 c = offsets-at _ _ _ _ _ (record { count = omega arith; word = omega arith; metadata = omega arith; below = omega arith }) _ (told bytesPlaceOf (c .before .before .before .find-bytes .ensures) (c .before .place .given .1))
@@ -51,16 +30,5 @@ pub struct-offsets-spec : {M : Type 1} → statement M
 struct-offsets-spec =
     tie.close
     (tie.spec
-    returns
-    returns-2
-    returns-3
-    mul-distance
-    sub-if4
-    returns-4
-    mul-length
-    add-find-bytes
-    find-bytes-requires
-    enum-known-place
-    enum-told
-    returns-5
-    returns-6)
+    returns returns-2 returns-3 (λ c. search needs) (λ c. search needs) returns-4 (λ c. search needs) (λ c. search needs) (λ c κs. search needs)
+    (λ c. search needs) (λ c. search needs) returns-5 returns-6)

@@ -9,14 +9,9 @@ use Rattle.full_rows.proofs.calls.full_rows.Tie as tie
 returns : tie.Need-returns
 returns c = listed-ragged givenOf numbersOf _ _ _ (c .if1 .taken)
 
-put-rows-requires : tie.Need-put-rows-requires
-put-rows-requires c κs = search needs
-
-same-length : tie.Need-same-length
-same-length c = search needs
-
 returns-2 : tie.Need-returns-2
 returns-2 c = listed-whole givenOf numbersOf _ _ _ _ _ (c .before .before .put-rows .ensures) (c .before .before .before .before .if1 .left)
 
 pub full-rows-spec : {M : Type 1} → statement M
-full-rows-spec = tie.close (tie.spec returns put-rows-requires same-length returns-2)
+full-rows-spec = tie.close (tie.spec
+    returns (λ c κs. search needs) (λ c. search needs) returns-2)

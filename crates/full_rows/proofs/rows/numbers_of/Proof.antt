@@ -6,24 +6,6 @@ use borrow.Author.Needs.{needs}
 use Rattle.full_rows.proofs.rows.numbers_of.Statement.{statement}
 use Rattle.full_rows.proofs.rows.numbers_of.Tie as tie
 
-enum-known-body : tie.Need-enum-known-body
-enum-known-body c = search needs
-
-enum-known-body-2 : tie.Need-enum-known-body-2
-enum-known-body-2 c = search needs
-
-table-numbers-requires : tie.Need-table-numbers-requires
-table-numbers-requires c κs = search needs
-
-enum-known-body-3 : tie.Need-enum-known-body-3
-enum-known-body-3 c = search needs
-
-cast-t11 : tie.Need-cast-t11
-cast-t11 c = search needs
-
-cast-t12 : tie.Need-cast-t12
-cast-t12 c = search needs
-
 returns : tie.Need-returns
 returns c = recorded-as _ _ _ _ (c .before .body .given .1) refl
 
@@ -37,12 +19,5 @@ pub numbers-of-spec : {M : Type 1} → statement M
 numbers-of-spec =
     tie.close
     (tie.spec
-    enum-known-body
-    enum-known-body-2
-    table-numbers-requires
-    enum-known-body-3
-    cast-t11
-    cast-t12
-    returns
-    returns-2
+    (λ c. search needs) (λ c. search needs) (λ c κs. search needs) (λ c. search needs) (λ c. search needs) (λ c. search needs) returns returns-2
     returns-3)

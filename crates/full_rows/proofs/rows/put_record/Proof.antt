@@ -11,50 +11,11 @@ use borrow.Author.Needs.{needs}
 use Rattle.full_rows.proofs.rows.put_record.Statement.{statement}
 use Rattle.full_rows.proofs.rows.put_record.Tie as tie
 
-put-row-requires : tie.Need-put-row-requires
-put-row-requires c κs = search needs
-
-decode-body-near-requires : tie.Need-decode-body-near-requires
-decode-body-near-requires c κs = search needs
-
-add-put-body : tie.Need-add-put-body
-add-put-body c = search needs
-
-put-body-requires : tie.Need-put-body-requires
-put-body-requires c κs = search needs
-
-trailing-requires : tie.Need-trailing-requires
-trailing-requires c κs = search needs
-
-enum-known-trailing : tie.Need-enum-known-trailing
-enum-known-trailing c = search needs
-
-add-put-blocks : tie.Need-add-put-blocks
-add-put-blocks c = search needs
-
-put-blocks-requires : tie.Need-put-blocks-requires
-put-blocks-requires c κs = search needs
-
-enum-told : tie.Need-enum-told
-enum-told c = search needs
-
-add-put-zeros : tie.Need-add-put-zeros
-add-put-zeros c = search needs
-
-put-zeros-requires : tie.Need-put-zeros-requires
-put-zeros-requires c κs = search needs
-
-same-length : tie.Need-same-length
-same-length c = search needs
-
 returns : tie.Need-returns
 returns c =
     let a = c .before .before .before .before .before .before .before .before .before .before .before .before .before .before .before .before .before .before .before .before .args in
     parts-put _ _ (a .slot) (rowOf (a .image .now) (a .row)) _ (a .buffer .now) _ _ _ _ (a .at) (c .before .before .before .before .before .before .before .before .before .before .before .before .before .before .before .before .before .before .before .before .pre) (c .before .before .before .before .before .before .before .before .before .before .before .before .before .before .before .put-row .ensures) (c .before .before .before .before .before .before .before .before .before .before .before .before .decode-body-near .ensures) (c .before .before .before .before .before .before .before .before .before .before .put-body .ensures)
     (ap (blockFours _ _) (told trailersOf (c .before .before .before .before .before .before .before .trailing .ensures) (c .before .before .before .before .before .trailing2 .given .1))) (c .before .before .put-blocks .ensures)
-
-same-length-2 : tie.Need-same-length-2
-same-length-2 c = search needs
 
 returns-2 : tie.Need-returns-2
 returns-2 c =
@@ -66,18 +27,6 @@ pub put-record-spec : {M : Type 1} → statement M
 put-record-spec =
     tie.close
     (tie.spec
-    put-row-requires
-    decode-body-near-requires
-    add-put-body
-    put-body-requires
-    trailing-requires
-    enum-known-trailing
-    add-put-blocks
-    put-blocks-requires
-    enum-told
-    add-put-zeros
-    put-zeros-requires
-    same-length
-    returns
-    same-length-2
-    returns-2)
+    (λ c κs. search needs) (λ c κs. search needs) (λ c. search needs) (λ c κs. search needs) (λ c κs. search needs) (λ c. search needs)
+    (λ c. search needs) (λ c κs. search needs) (λ c. search needs) (λ c. search needs) (λ c κs. search needs) (λ c. search needs) returns
+    (λ c. search needs) returns-2)

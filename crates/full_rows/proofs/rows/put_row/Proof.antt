@@ -6,21 +6,6 @@ use borrow.Author.Needs.{needs}
 use Rattle.full_rows.proofs.rows.put_row.Statement.{statement}
 use Rattle.full_rows.proofs.rows.put_row.Tie as tie
 
-cast-put-four : tie.Need-cast-put-four
-cast-put-four c = search needs
-
-put-four-requires : tie.Need-put-four-requires
-put-four-requires c κs = search needs
-
-add-put-two : tie.Need-add-put-two
-add-put-two c = search needs
-
-put-two-requires : tie.Need-put-two-requires
-put-two-requires c κs = search needs
-
-same-length : tie.Need-same-length
-same-length c = search needs
-
 returns : tie.Need-returns
 returns c =
     let a = c .before .before .before .before .before .before .before .before .before .before .args in
@@ -29,4 +14,5 @@ returns c =
 pub put-row-spec : {M : Type 1} → statement M
 put-row-spec =
     tie.close
-    (tie.spec cast-put-four put-four-requires add-put-two put-two-requires same-length returns)
+    (tie.spec
+    (λ c. search needs) (λ c κs. search needs) (λ c. search needs) (λ c κs. search needs) (λ c. search needs) returns)

@@ -19,20 +19,8 @@ Inv-loop image segments types vmaddr start buffer₀ count room mapping₀ slot�
 abbrev μ-loop : tie.MeasureT-loop
 μ-loop image segments types vmaddr start buffer₀ count room mapping₀ slot₀ n₀ buffer mapping slot n = count - slot
 
-empty-requires : tie.Need-empty-requires Inv-loop μ-loop
-empty-requires c κs = search needs
-
 loop-holds : tie.Need-loop-holds Inv-loop μ-loop
 loop-holds c = (empty-mapped _ _ (c .empty .ensures), start-going _ _ _ _ _ _)
-
-slot-row-moving-requires : tie.Need-slot-row-moving-requires Inv-loop μ-loop
-slot-row-moving-requires c κs = search needs
-
-enum-known-found : tie.Need-enum-known-found Inv-loop μ-loop
-enum-known-found c = search needs
-
-same-length : tie.Need-same-length Inv-loop μ-loop
-same-length c = search needs
 
 returns : tie.Need-returns Inv-loop μ-loop
 returns c =
@@ -59,9 +47,6 @@ add-slot c =
     let s = c .before .before .before .before .before .before .before .before .before .before .before .before .before .before .before .before .before in
     record { fits = omega (arith, s .good .1 .1 .0, c .before .before .before .before .before .before .before .before .before .before .loop-test .taken) }
 
-loop-less : tie.Need-loop-less Inv-loop μ-loop
-loop-less c = search needs
-
 loop-again : tie.Need-loop-again Inv-loop μ-loop
 loop-again c =
     let a = c .before .before .before .before .before .before .before .before .before .before .before .before .before .before .before .before .before .args in
@@ -71,23 +56,11 @@ loop-again c =
     let written = pasted-as (l .buffer) _ _ _ (58 * l .n) (c .before .before .put-record .ensures) (row-mapped (a .image .now) (a .segments .now) _ mapped (l .slot) (rowOf (a .image .now) (c .before .before .before .before .before .before .found .given .0 .0))) in
     (mapped, goes-on _ _ _ _ _ _ _ _ _ (l .inv .1) (c .before .before .before .before .before .before .before .before .before .before .loop-test .taken) _ (told (descriptorOf _) (step .ensures .row (l .inv .0)) (c .before .before .before .before .before .before .found .given .1)) _ (omega (arith, c .before .before .before .before .if1 .left)) written)
 
-enum-told : tie.Need-enum-told Inv-loop μ-loop
-enum-told c = search needs
-
-add-slot-2 : tie.Need-add-slot-2 Inv-loop μ-loop
-add-slot-2 c = search needs
-
-loop-less-2 : tie.Need-loop-less-2 Inv-loop μ-loop
-loop-less-2 c = search needs
-
 loop-again-2 : tie.Need-loop-again-2 Inv-loop μ-loop
 loop-again-2 c =
     let p = c .before .before .before .before .before .loop .inv in
     let step = c .before .before .before .slot-row-moving in
     (step .ensures .mapped (p .0), passes _ _ _ _ _ _ _ _ _ (p .1) (c .before .before .before .before .loop-test .taken) (told (descriptorOf _) (step .ensures .row (p .0)) (c .enum-told .given .1)))
-
-same-length-2 : tie.Need-same-length-2 Inv-loop μ-loop
-same-length-2 c = search needs
 
 returns-2 : tie.Need-returns-2 Inv-loop μ-loop
 returns-2 c = ended _ _ _ _ _ _ _ _ _ (c .before .loop .inv .1) (omega (arith, c .loop-test .left))
@@ -96,23 +69,6 @@ pub put-rows-spec : {M : Type 1} → statement M
 put-rows-spec =
     tie.close
     (tie.spec
-    Inv-loop
-    μ-loop
-    empty-requires
-    loop-holds
-    slot-row-moving-requires
-    enum-known-found
-    same-length
-    returns
-    mul-put-record
-    put-record-requires
-    add-n
-    add-slot
-    loop-less
-    loop-again
-    enum-told
-    add-slot-2
-    loop-less-2
-    loop-again-2
-    same-length-2
-    returns-2)
+    Inv-loop μ-loop (λ c κs. search needs) loop-holds (λ c κs. search needs) (λ c. search needs) (λ c. search needs) returns mul-put-record
+    put-record-requires add-n add-slot (λ c. search needs) loop-again (λ c. search needs) (λ c. search needs) (λ c. search needs) loop-again-2
+    (λ c. search needs) returns-2)

@@ -7,23 +7,8 @@ use borrow.Author.Needs.{needs}
 use Rattle.full_rows.proofs.rows.put_two.Statement.{statement}
 use Rattle.full_rows.proofs.rows.put_two.Tie as tie
 
-mul-buffer : tie.Need-mul-buffer
-mul-buffer c = search needs
-
-slice-write-buffer : tie.Need-slice-write-buffer
-slice-write-buffer c = search needs
-
-add-buffer : tie.Need-add-buffer
-add-buffer c = search needs
-
-mul-buffer-2 : tie.Need-mul-buffer-2
-mul-buffer-2 c = search needs
-
 slice-write-buffer-2 : tie.Need-slice-write-buffer-2
 slice-write-buffer-2 c = simp length-set (omega arith)
-
-same-length : tie.Need-same-length
-same-length c = search needs
 
 returns : tie.Need-returns
 returns c = two-put _ _ _ _ (c .pre)
@@ -32,10 +17,4 @@ pub put-two-spec : {M : Type 1} → statement M
 put-two-spec =
     tie.close
     (tie.spec
-    mul-buffer
-    slice-write-buffer
-    add-buffer
-    mul-buffer-2
-    slice-write-buffer-2
-    same-length
-    returns)
+    (λ c. search needs) (λ c. search needs) (λ c. search needs) (λ c. search needs) slice-write-buffer-2 (λ c. search needs) returns)

@@ -19,28 +19,10 @@ abbrev μ-loop : tie.MeasureT-loop
 loop-holds : tie.Need-loop-holds Inv-loop μ-loop
 loop-holds c = (omega arith, (refl, zeros-start _ (c .args .at)))
 
-add-buffer : tie.Need-add-buffer Inv-loop μ-loop
-add-buffer c = search needs
-
-mul-buffer : tie.Need-mul-buffer Inv-loop μ-loop
-mul-buffer c = search needs
-
-slice-write-buffer : tie.Need-slice-write-buffer Inv-loop μ-loop
-slice-write-buffer c = search needs
-
-add-n : tie.Need-add-n Inv-loop μ-loop
-add-n c = search needs
-
-loop-less : tie.Need-loop-less Inv-loop μ-loop
-loop-less c = search needs
-
 loop-again : tie.Need-loop-again Inv-loop μ-loop
 loop-again c =
     let s = c .before .before in
     (omega arith, (length-set (c .before .loop .buffer) _ _ ∙ c .before .loop .inv .1 .0, zeros-more (s .args .buffer .now) _ (s .args .at) _ (c .before .loop .inv .1 .1) (omega (arith, s .pre, c .loop-test .taken))))
-
-same-length : tie.Need-same-length Inv-loop μ-loop
-same-length c = search needs
 
 returns : tie.Need-returns Inv-loop μ-loop
 returns c =
@@ -52,14 +34,5 @@ pub put-zeros-spec : {M : Type 1} → statement M
 put-zeros-spec =
     tie.close
     (tie.spec
-    Inv-loop
-    μ-loop
-    loop-holds
-    add-buffer
-    mul-buffer
-    slice-write-buffer
-    add-n
-    loop-less
-    loop-again
-    same-length
-    returns)
+    Inv-loop μ-loop loop-holds (λ c. search needs) (λ c. search needs) (λ c. search needs) (λ c. search needs) (λ c. search needs) loop-again
+    (λ c. search needs) returns)

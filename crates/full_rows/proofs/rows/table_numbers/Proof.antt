@@ -6,9 +6,6 @@ use borrow.Author.Needs.{needs}
 use Rattle.full_rows.proofs.rows.table_numbers.Statement.{statement}
 use Rattle.full_rows.proofs.rows.table_numbers.Tie as tie
 
-number-of-requires : tie.Need-number-of-requires
-number-of-requires c κs = search needs
-
 returns : tie.Need-returns
 returns c = vtable-numbers (c .before .before .args .kind) _ _ _ _ (c .before .number-of .ensures) (omega arith)
 
@@ -16,4 +13,5 @@ returns-2 : tie.Need-returns-2
 returns-2 c = other-numbers (c .before .before .args .kind) _ (c .before .before .args .offset) _ _ (c .before .number-of .ensures) (λ e. omega arith)
 
 pub table-numbers-spec : {M : Type 1} → statement M
-table-numbers-spec = tie.close (tie.spec number-of-requires returns returns-2)
+table-numbers-spec = tie.close (tie.spec
+    (λ c κs. search needs) returns returns-2)

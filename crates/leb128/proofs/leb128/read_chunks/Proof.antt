@@ -27,12 +27,6 @@ loop-holds c = (running-none _, refl, omega arith)
 returns : tie.Need-returns Inv-loop μ-loop
 returns c = running-ends _ _ _ (c .before .before .loop .inv .0) (omega arith)
 
-shared-slice-read-byte64 : tie.Need-shared-slice-read-byte64 Inv-loop μ-loop
-shared-slice-read-byte64 c = search needs
-
-byte64-requires : tie.Need-byte64-requires Inv-loop μ-loop
-byte64-requires c κs = search needs
-
 mul-t10 : tie.Need-mul-t10 Inv-loop μ-loop
 mul-t10 c = record { fits = omega (arith, room _ _ _ (c .before .before .before .before .before .loop .inv .0) _ (c .before .byte64 .result) (c .before .before .before .before .before .loop .inv .1) (omega arith) (omega arith)) }
 
@@ -41,9 +35,6 @@ add-t11 c = record { fits = omega (arith, room _ _ _ (c .before .before .before 
 
 mul-t12 : tie.Need-mul-t12 Inv-loop μ-loop
 mul-t12 c = record { fits = omega (arith, small-weight _ _ (c .before .before .before .before .before .loop .inv .1) (omega arith)) }
-
-add-t13 : tie.Need-add-t13 Inv-loop μ-loop
-add-t13 c = search needs
 
 returns-2 : tie.Need-returns-2 Inv-loop μ-loop
 returns-2 c = running-last _ _ _ (c .before .before .before .before .before .loop .inv .0) (omega arith) _ _ (c .before .byte64 .ensures .same) (omega arith) (c .before .before .before .before .before .loop .inv .1) (omega arith)
@@ -56,12 +47,6 @@ add-bits c = record { fits = omega (arith, room _ _ _ (c .before .before .before
 
 mul-weight : tie.Need-mul-weight Inv-loop μ-loop
 mul-weight c = record { fits = omega (arith, small-weight _ _ (c .before .before .before .before .before .loop .inv .1) (omega arith)) }
-
-add-i : tie.Need-add-i Inv-loop μ-loop
-add-i c = search needs
-
-loop-less : tie.Need-loop-less Inv-loop μ-loop
-loop-less c = search needs
 
 loop-again : tie.Need-loop-again Inv-loop μ-loop
 loop-again c = (running-more _ _ _ (c .before .before .before .before .before .loop .inv .0) (omega arith) _ _ (c .before .byte64 .ensures .same) (omega arith) (c .before .byte64 .ensures .small) (c .before .before .before .before .before .loop .inv .1), rw (add-one, pow-suc, c .before .before .before .before .before .loop .inv .1), omega arith)
@@ -76,22 +61,5 @@ pub read-chunks-spec : {M : Type 1} → statement M
 read-chunks-spec =
     tie.close
     (tie.spec
-    Inv-loop
-    μ-loop
-    loop-holds
-    returns
-    shared-slice-read-byte64
-    byte64-requires
-    mul-t10
-    add-t11
-    mul-t12
-    add-t13
-    returns-2
-    mul-bits
-    add-bits
-    mul-weight
-    add-i
-    loop-less
-    loop-again
-    tenth-requires
-    returns-3)
+    Inv-loop μ-loop loop-holds returns (λ c. search needs) (λ c κs. search needs) mul-t10 add-t11 mul-t12 (λ c. search needs) returns-2 mul-bits
+    add-bits mul-weight (λ c. search needs) (λ c. search needs) loop-again tenth-requires returns-3)

@@ -11,20 +11,8 @@ use borrow.Author.Needs.{needs}
 use Rattle.leb128.proofs.leb128.read_sleb128.Statement.{statement}
 use Rattle.leb128.proofs.leb128.read_sleb128.Tie as tie
 
-read-chunks-requires : tie.Need-read-chunks-requires
-read-chunks-requires c κs = search needs
-
-enum-known-bits : tie.Need-enum-known-bits
-enum-known-bits c = search needs
-
-signed64-requires : tie.Need-signed64-requires
-signed64-requires c κs = search needs
-
 returns : tie.Need-returns
 returns c = sleb-positive _ _ _ _ _ (case (Chunked _) (c .before .before .before .before .before .before .read-chunks .ensures) (c .before .before .before .before .bits .given .1)) (omega arith) _ (omega arith) (toZ-ofZ {w = w64} (record { sfits = c .signed64 .ok }) ∙ c .signed64 .ensures)
-
-sub-signed64 : tie.Need-sub-signed64
-sub-signed64 c = search needs
 
 add-signed64 : tie.Need-add-signed64
 add-signed64 c = record { fits = omega (arith, sign-room _ _ _ _ _ (case (Chunked _) (c .before .before .before .before .before .read-chunks .ensures) (c .before .before .before .bits .given .1)) (omega arith)) }
@@ -32,29 +20,14 @@ add-signed64 c = record { fits = omega (arith, sign-room _ _ _ _ _ (case (Chunke
 add-signed64-2 : tie.Need-add-signed64-2
 add-signed64-2 c = record { fits = omega (arith, sign-room _ _ _ _ _ (case (Chunked _) (c .before .before .before .before .before .read-chunks .ensures) (c .before .before .before .bits .given .1)) (omega arith)) }
 
-signed64-requires-2 : tie.Need-signed64-requires-2
-signed64-requires-2 c κs = search needs
-
 returns-2 : tie.Need-returns-2
 returns-2 c = sleb-negative _ _ _ _ _ (case (Chunked _) (c .before .before .before .before .before .before .read-chunks .ensures) (c .before .before .before .before .bits .given .1)) (omega arith) _ (omega arith) (toZ-ofZ {w = w64} (record { sfits = c .signed642 .ok }) ∙ c .signed642 .ensures)
-
-signed64-requires-3 : tie.Need-signed64-requires-3
-signed64-requires-3 c κs = search needs
 
 returns-3 : tie.Need-returns-3
 returns-3 c = sleb-ten _ _ _ _ _ (case (Chunked _) (c .before .before .before .before .before .before .read-chunks .ensures) (c .before .before .before .before .bits .given .1)) _ (omega arith) (toZ-ofZ {w = w64} (record { sfits = c .signed643 .ok }) ∙ c .signed643 .ensures)
 
-sign-bits-requires : tie.Need-sign-bits-requires
-sign-bits-requires c κs = search needs
-
-signed64-requires-4 : tie.Need-signed64-requires-4
-signed64-requires-4 c κs = search needs
-
 returns-4 : tie.Need-returns-4
 returns-4 c = sleb-eleven _ _ _ _ _ (case (Chunked _) (c .before .before .before .before .before .before .before .before .read-chunks .ensures) (c .before .before .before .before .before .before .bits .given .1)) (omega arith) (c .before .before .before .if3 .left) _ _ (c .before .before .sign-bits .ensures) (c .before .if4 .taken) (toZ-ofZ {w = w64} (record { sfits = c .signed644 .ok }) ∙ c .signed644 .ensures)
-
-enum-told : tie.Need-enum-told
-enum-told c = search needs
 
 returns-5 : tie.Need-returns-5
 returns-5 c = sleb-refused _ _ _ _ _ (case (Chunked _) (c .before .before .before .before .before .before .before .read-chunks .ensures) (c .before .before .before .before .before .bits .given .1)) (omega arith) (c .before .before .if3 .left) _ (c .before .sign-bits .ensures) (c .if4 .left)
@@ -66,20 +39,5 @@ pub read-sleb128-spec : {M : Type 1} → statement M
 read-sleb128-spec =
     tie.close
     (tie.spec
-    read-chunks-requires
-    enum-known-bits
-    signed64-requires
-    returns
-    sub-signed64
-    add-signed64
-    add-signed64-2
-    signed64-requires-2
-    returns-2
-    signed64-requires-3
-    returns-3
-    sign-bits-requires
-    signed64-requires-4
-    returns-4
-    enum-told
-    returns-5
-    returns-6)
+    (λ c κs. search needs) (λ c. search needs) (λ c κs. search needs) returns (λ c. search needs) add-signed64 add-signed64-2 (λ c κs. search needs)
+    returns-2 (λ c κs. search needs) returns-3 (λ c κs. search needs) (λ c κs. search needs) returns-4 (λ c. search needs) returns-5 returns-6)

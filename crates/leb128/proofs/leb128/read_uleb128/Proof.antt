@@ -7,20 +7,11 @@ use borrow.Author.Needs.{needs}
 use Rattle.leb128.proofs.leb128.read_uleb128.Statement.{statement}
 use Rattle.leb128.proofs.leb128.read_uleb128.Tie as tie
 
-read-chunks-requires : tie.Need-read-chunks-requires
-read-chunks-requires c κs = search needs
-
-enum-known-bits : tie.Need-enum-known-bits
-enum-known-bits c = search needs
-
 returns : tie.Need-returns
 returns c = uleb-eleven _ _ _ _ _ (case (Chunked _) (c .before .before .before .before .before .read-chunks .ensures) (c .before .before .before .bits .given .1)) (c .before .if1 .taken) (c .if2 .taken)
 
 returns-2 : tie.Need-returns-2
 returns-2 c = uleb-refused _ _ _ _ _ (case (Chunked _) (c .before .before .before .before .before .read-chunks .ensures) (c .before .before .before .bits .given .1)) (c .before .if1 .taken) (c .if2 .left)
-
-enum-told : tie.Need-enum-told
-enum-told c = search needs
 
 returns-3 : tie.Need-returns-3
 returns-3 c = uleb-short _ _ _ _ _ (case (Chunked _) (c .before .before .before .before .read-chunks .ensures) (c .before .before .bits .given .1)) (c .if1 .left)
@@ -31,4 +22,5 @@ returns-4 c = uleb-longer _ (case (Chunked _) (c .before .before .read-chunks .e
 pub read-uleb128-spec : {M : Type 1} → statement M
 read-uleb128-spec =
     tie.close
-    (tie.spec read-chunks-requires enum-known-bits returns returns-2 enum-told returns-3 returns-4)
+    (tie.spec
+    (λ c κs. search needs) (λ c. search needs) returns returns-2 (λ c. search needs) returns-3 returns-4)

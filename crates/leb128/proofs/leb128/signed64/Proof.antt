@@ -10,15 +10,6 @@ use borrow.Author.Needs.{needs}
 use Rattle.leb128.proofs.leb128.signed64.Statement.{statement}
 use Rattle.leb128.proofs.leb128.signed64.Tie as tie
 
-cast-result : tie.Need-cast-result
-cast-result c = search needs
-
-sub-result : tie.Need-sub-result
-sub-result c = search needs
-
-cast-result-2 : tie.Need-cast-result-2
-cast-result-2 c = search needs
-
 sub-result-2 : tie.Need-sub-result-2
 sub-result-2 c = minus-one-fits (c .before .args .n) (omega arith) (omega arith)
 
@@ -30,4 +21,5 @@ returns-2 c = twos-high-64 _ (omega arith) (omega arith)
 
 pub signed64-spec : {M : Type 1} → statement M
 signed64-spec =
-    tie.close (tie.spec cast-result sub-result cast-result-2 sub-result-2 returns returns-2)
+    tie.close (tie.spec
+    (λ c. search needs) (λ c. search needs) (λ c. search needs) sub-result-2 returns returns-2)

@@ -9,15 +9,6 @@ use Rattle.leb128.proofs.leb128.tenth.Tie as tie
 returns : tie.Need-returns
 returns c = running-ends _ 9 _ (c .before .before .pre) (omega arith)
 
-shared-slice-read-byte64 : tie.Need-shared-slice-read-byte64
-shared-slice-read-byte64 c = search needs
-
-byte64-requires : tie.Need-byte64-requires
-byte64-requires c κs = search needs
-
-mul-word : tie.Need-mul-word
-mul-word c = search needs
-
 add-word : tie.Need-add-word
 add-word c = omega (arith, running-small _ 9 _ (c .before .before .before .before .pre))
 
@@ -26,12 +17,6 @@ returns-2 c = ten-last _ _ _ (c .before .before .before .before .before .pre) (o
 
 returns-3 : tie.Need-returns-3
 returns-3 c = ten-ends _ _ _ (c .before .before .before .before .before .before .pre) (omega arith) (c .before .before .byte64 .ensures .same) (omega arith) (omega arith)
-
-shared-slice-read-byte64-2 : tie.Need-shared-slice-read-byte64-2
-shared-slice-read-byte64-2 c = search needs
-
-byte64-requires-2 : tie.Need-byte64-requires-2
-byte64-requires-2 c κs = search needs
 
 returns-4 : tie.Need-returns-4
 returns-4 c = eleven-last _ _ _ (c .before .before .before .before .before .before .before .before .before .pre) (omega arith) (c .before .before .before .before .before .byte64 .ensures .same) (omega arith) (omega arith) _ (c .before .byte642 .ensures .same) (omega arith)
@@ -43,14 +28,5 @@ pub tenth-spec : {M : Type 1} → statement M
 tenth-spec =
     tie.close
     (tie.spec
-    returns
-    shared-slice-read-byte64
-    byte64-requires
-    mul-word
-    add-word
-    returns-2
-    returns-3
-    shared-slice-read-byte64-2
-    byte64-requires-2
-    returns-4
-    returns-5)
+    returns (λ c. search needs) (λ c κs. search needs) (λ c. search needs) add-word returns-2 returns-3 (λ c. search needs) (λ c κs. search needs)
+    returns-4 returns-5)

@@ -9,14 +9,9 @@ use Rattle.named_records.proofs.calls.named_records.Tie as tie
 returns : tie.Need-returns
 returns c = table-ragged _ _ _ _ refl (c .if1 .taken)
 
-list-records-requires : tie.Need-list-records-requires
-list-records-requires c κs = search needs
-
-same-length : tie.Need-same-length
-same-length c = search needs
-
 returns-2 : tie.Need-returns-2
 returns-2 c = table-whole _ _ _ _ _ (c .before .before .list-records .ensures) (c .before .before .before .before .if1 .left)
 
 pub named-records-spec : {M : Type 1} → statement M
-named-records-spec = tie.close (tie.spec returns list-records-requires same-length returns-2)
+named-records-spec = tie.close (tie.spec
+    returns (λ c κs. search needs) (λ c. search needs) returns-2)

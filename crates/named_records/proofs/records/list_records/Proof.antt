@@ -20,17 +20,8 @@ Inv-loop image segments strings strings-va buffer₀ mapping base-va count entry
 abbrev μ-loop : tie.MeasureT-loop
 μ-loop image segments strings strings-va buffer₀ mapping base-va count entry-size room k₀ n₀ buffer k n = room - n
 
-locate-requires : tie.Need-locate-requires Inv-loop μ-loop
-locate-requires c κs = search needs
-
 loop-holds : tie.Need-loop-holds Inv-loop μ-loop
 loop-holds c = start-going _ _ _ _ _ _ _ _ _
-
-next-requires : tie.Need-next-requires Inv-loop μ-loop
-next-requires c κs = search needs
-
-enum-known-step : tie.Need-enum-known-step Inv-loop μ-loop
-enum-known-step c = search needs
 
 mul-put-record : tie.Need-mul-put-record Inv-loop μ-loop
 mul-put-record c =
@@ -57,9 +48,6 @@ add-n c =
     let s = a .before .before .before .before .before .before in
     record { fits = omega (arith, s .good .1 .1 .1 .1 .1 .0 .0, c .before .before .before .before .before .before .before .before .loop-test .taken) }
 
-loop-less : tie.Need-loop-less Inv-loop μ-loop
-loop-less c = search needs
-
 loop-again : tie.Need-loop-again Inv-loop μ-loop
 loop-again c =
     let a = c .before .before .before .before .before .before .before .before .before in
@@ -69,12 +57,6 @@ loop-again c =
     let written = pasted-as (a .loop .buffer) _ _ _ (10 * a .loop .n) (c .before .before .put-record .ensures) (named-mapped (s .args .image .now) (s .args .segments .now) (s .args .strings .now) (s .args .strings-va) _ (a .before .locate .ensures) (ofRecord r)) in
     goes-on (namedNumbers (s .args .image .now) (s .args .segments .now) (s .args .strings .now) (s .args .strings-va)) (s .args .image .now) (s .args .segments .now) (recordLayout (s .args .walk .«entry_size»)) (s .args .walk .«base_va») (s .args .walk .count) 10 (s .args .buffer .now) (s .args .walk .cursor) (a .loop .k) (a .loop .n) (a .loop .buffer) (a .loop .inv) (f .0) (c .before .before .before .before .before .before .before .before .loop-test .taken) (ofRecord r) _ (f .1) (named-long _ _ _ _ r) written
 
-enum-told : tie.Need-enum-told Inv-loop μ-loop
-enum-told c = search needs
-
-same-length : tie.Need-same-length Inv-loop μ-loop
-same-length c = search needs
-
 returns : tie.Need-returns Inv-loop μ-loop
 returns c =
     let a = c .before .before .before .before in
@@ -82,23 +64,11 @@ returns c =
     let f = step-found _ _ _ (a .before .locate .ensures) _ _ (told recordStepOf (c .before .before .next .ensures) (c .enum-told .given .1)) in
     stops-none (namedNumbers (s .args .image .now) (s .args .segments .now) (s .args .strings .now) (s .args .strings-va)) (s .args .image .now) (s .args .segments .now) (recordLayout (s .args .walk .«entry_size»)) (s .args .walk .«base_va») (s .args .walk .count) 10 (s .args .buffer .now) (s .args .walk .cursor) (a .loop .k) (a .loop .n) _ (a .loop .inv) (f .0) (c .before .before .before .loop-test .taken) (f .1)
 
-enum-told-2 : tie.Need-enum-told-2 Inv-loop μ-loop
-enum-told-2 c = search needs
-
-same-length-2 : tie.Need-same-length-2 Inv-loop μ-loop
-same-length-2 c = search needs
-
 returns-2 : tie.Need-returns-2 Inv-loop μ-loop
 returns-2 c =
     let a = c .before .before .before .before in
     let s = a .before .before .before .before .before .before in
     stops-end (namedNumbers (s .args .image .now) (s .args .segments .now) (s .args .strings .now) (s .args .strings-va)) (s .args .image .now) (s .args .segments .now) (recordLayout (s .args .walk .«entry_size»)) (s .args .walk .«base_va») (s .args .walk .count) 10 (s .args .buffer .now) (s .args .walk .cursor) (a .loop .k) (a .loop .n) _ (a .loop .inv) (step-ended _ _ _ (a .before .locate .ensures) _ (told recordStepOf (c .before .before .next .ensures) (c .enum-told2 .given .1)))
-
-stopped-requires : tie.Need-stopped-requires Inv-loop μ-loop
-stopped-requires c κs = search needs
-
-same-length-3 : tie.Need-same-length-3 Inv-loop μ-loop
-same-length-3 c = search needs
 
 returns-3 : tie.Need-returns-3 Inv-loop μ-loop
 returns-3 c =
@@ -110,24 +80,6 @@ pub list-records-spec : {M : Type 1} → statement M
 list-records-spec =
     tie.close
     (tie.spec
-    Inv-loop
-    μ-loop
-    locate-requires
-    loop-holds
-    next-requires
-    enum-known-step
-    mul-put-record
-    put-record-requires
-    add-k
-    add-n
-    loop-less
-    loop-again
-    enum-told
-    same-length
-    returns
-    enum-told-2
-    same-length-2
-    returns-2
-    stopped-requires
-    same-length-3
-    returns-3)
+    Inv-loop μ-loop (λ c κs. search needs) loop-holds (λ c κs. search needs) (λ c. search needs) mul-put-record put-record-requires add-k add-n
+    (λ c. search needs) loop-again (λ c. search needs) (λ c. search needs) returns (λ c. search needs) (λ c. search needs) returns-2
+    (λ c κs. search needs) (λ c. search needs) returns-3)

@@ -13,37 +13,13 @@ use Rattle.runtime.proofs.read_cstr_near.Reads as read-cstr-near-reads
 use Rattle.runtime.proofs.lookup_field_name_near.Reads as lookup-field-name-near-reads
 
 -- src/records.rt:98:5
-put-words-requires : tie.Need-put-words-requires
-put-words-requires c κs = search needs
-
 -- src/records.rt:99:9
-read-cstr-near-requires : tie.Need-read-cstr-near-requires
-read-cstr-near-requires c κs = search needs
-
 -- src/records.rt:100:33
-add-put-text : tie.Need-add-put-text
-add-put-text c = search needs
-
 -- src/records.rt:100:5
-put-text-requires : tie.Need-put-text-requires
-put-text-requires c κs = search needs
-
 -- src/records.rt:101:9
-lookup-field-name-near-requires : tie.Need-lookup-field-name-near-requires
-lookup-field-name-near-requires c κs = search needs
-
 -- src/records.rt:104:34
-add-put-field-name : tie.Need-add-put-field-name
-add-put-field-name c = search needs
-
 -- src/records.rt:104:5
-put-field-name-requires : tie.Need-put-field-name-requires
-put-field-name-requires c κs = search needs
-
 -- src/records.rt:83:1
-same-length : tie.Need-same-length
-same-length c = search needs
-
 -- src/records.rt:83:1
 returns : tie.Need-returns
 returns c =
@@ -54,12 +30,5 @@ pub put-record-spec : {M : Type 1} → statement M
 put-record-spec =
     tie.close
     (tie.spec
-    put-words-requires
-    read-cstr-near-requires
-    add-put-text
-    put-text-requires
-    lookup-field-name-near-requires
-    add-put-field-name
-    put-field-name-requires
-    same-length
-    returns)
+    (λ c κs. search needs) (λ c κs. search needs) (λ c. search needs) (λ c κs. search needs) (λ c κs. search needs) (λ c. search needs)
+    (λ c κs. search needs) (λ c. search needs) returns)

@@ -10,25 +10,10 @@ use Rattle.named_records.proofs.records.put_text.Lts as lts
 use Rattle.named_records.proofs.records.put_three.Reads as put-three-reads
 
 -- src/records.rt:45:20
-enum-known-text : tie.Need-enum-known-text
-enum-known-text c = search needs
-
 -- src/records.rt:46:13
-put-three-requires : tie.Need-put-three-requires
-put-three-requires c κs = search needs
-
 -- src/records.rt:49:32
-enum-told : tie.Need-enum-told
-enum-told c = search needs
-
 -- src/records.rt:49:13
-put-three-requires-2 : tie.Need-put-three-requires-2
-put-three-requires-2 c κs = search needs
-
 -- src/records.rt:40:1
-same-length : tie.Need-same-length
-same-length c = search needs
-
 -- src/records.rt:40:1
 returns : tie.Need-returns
 returns c =
@@ -36,9 +21,6 @@ returns c =
     pasted-as (a .buffer .now) _ _ _ (a .at) (c .before .before .put-three .ensures) (text-known _ _ (c .before .before .before .before .before .text .given .1))
 
 -- src/records.rt:40:1
-same-length-2 : tie.Need-same-length-2
-same-length-2 c = search needs
-
 -- src/records.rt:40:1
 returns-2 : tie.Need-returns-2
 returns-2 c =
@@ -49,11 +31,4 @@ pub put-text-spec : {M : Type 1} → statement M
 put-text-spec =
     tie.close
     (tie.spec
-    enum-known-text
-    put-three-requires
-    enum-told
-    put-three-requires-2
-    same-length
-    returns
-    same-length-2
-    returns-2)
+    (λ c. search needs) (λ c κs. search needs) (λ c. search needs) (λ c κs. search needs) (λ c. search needs) returns (λ c. search needs) returns-2)

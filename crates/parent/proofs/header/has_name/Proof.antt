@@ -6,14 +6,9 @@ use borrow.Author.Needs.{needs}
 use Rattle.parent.proofs.header.has_name.Statement.{statement}
 use Rattle.parent.proofs.header.has_name.Tie as tie
 
-kind-requires : tie.Need-kind-requires
-kind-requires c κs = search needs
-
-has-name-requires : tie.Need-has-name-requires
-has-name-requires c κs = search needs
-
 returns : tie.Need-returns
 returns c = c .has-name .ensures ∙ ap hasName (c .before .kind .ensures)
 
 pub has-name-spec : {M : Type 1} → statement M
-has-name-spec = tie.close (tie.spec kind-requires has-name-requires returns)
+has-name-spec = tie.close (tie.spec
+    (λ c κs. search needs) (λ c κs. search needs) returns)

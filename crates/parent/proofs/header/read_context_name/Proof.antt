@@ -10,29 +10,14 @@ use Rattle.parent.proofs.header.read_context_name.Tie as tie
 returns : tie.Need-returns
 returns c = (name-wraps _ _ _ (omega arith), tt)
 
-add-slot-va : tie.Need-add-slot-va
-add-slot-va c = search needs
-
-read-bytes-near-requires : tie.Need-read-bytes-near-requires
-read-bytes-near-requires c κs = search needs
-
 returns-2 : tie.Need-returns-2
 returns-2 c = (no-slot _ _ _ _ (c .before .read-bytes-near .ensures) (omega arith) (omega arith), tt)
-
-u32-at-requires : tie.Need-u32-at-requires
-u32-at-requires c κs = search needs
 
 returns-3 : tie.Need-returns-3
 returns-3 c = (
   no-offset _ _ _ _ (c .before .before .before .read-bytes-near .ensures) (sym (c .before .u32-at .ensures) ∙ c .if3 .taken) (omega arith) (omega arith),
   tt,
 )
-
-pointer-in-requires : tie.Need-pointer-in-requires
-pointer-in-requires c κs = search needs
-
-read-cstr-near-requires : tie.Need-read-cstr-near-requires
-read-cstr-near-requires c κs = search needs
 
 returns-4 : tie.Need-returns-4
 returns-4 c = (
@@ -45,12 +30,5 @@ pub read-context-name-spec : {M : Type 1} → statement M
 read-context-name-spec =
     tie.close
     (tie.spec
-    returns
-    add-slot-va
-    read-bytes-near-requires
-    returns-2
-    u32-at-requires
-    returns-3
-    pointer-in-requires
-    read-cstr-near-requires
+    returns (λ c. search needs) (λ c κs. search needs) returns-2 (λ c κs. search needs) returns-3 (λ c κs. search needs) (λ c κs. search needs)
     returns-4)

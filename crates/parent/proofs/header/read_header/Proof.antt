@@ -9,23 +9,11 @@ use Rattle.parent.proofs.header.read_header.Tie as tie
 returns : tie.Need-returns
 returns c = zero-header _ _ _ (c .if1 .taken)
 
-read-bytes-near-requires : tie.Need-read-bytes-near-requires
-read-bytes-near-requires c κs = search needs
-
 returns-2 : tie.Need-returns-2
 returns-2 c = no-header _ _ _ (c .before .before .if1 .left) _ (c .before .read-bytes-near .ensures) (omega arith)
 
 returns-3 : tie.Need-returns-3
 returns-3 c = parent-wraps _ _ _ (c .before .before .before .if1 .left) _ (c .before .before .read-bytes-near .ensures) (omega arith) (omega arith)
-
-u32-at-requires : tie.Need-u32-at-requires
-u32-at-requires c κs = search needs
-
-add-address-in : tie.Need-add-address-in
-add-address-in c = search needs
-
-address-in-requires : tie.Need-address-in-requires
-address-in-requires c κs = search needs
 
 returns-4 : tie.Need-returns-4
 returns-4 c =
@@ -36,11 +24,4 @@ pub read-header-spec : {M : Type 1} → statement M
 read-header-spec =
     tie.close
     (tie.spec
-    returns
-    read-bytes-near-requires
-    returns-2
-    returns-3
-    u32-at-requires
-    add-address-in
-    address-in-requires
-    returns-4)
+    returns (λ c κs. search needs) returns-2 returns-3 (λ c κs. search needs) (λ c. search needs) (λ c κs. search needs) returns-4)

@@ -12,23 +12,8 @@ use borrow.Author.Needs.{needs}
 use Rattle.qualified_name.proofs.name.qualified_name.Statement.{statement}
 use Rattle.qualified_name.proofs.name.qualified_name.Tie as tie
 
-part-requires : tie.Need-part-requires
-part-requires c κs = search needs
-
-write-hops-requires : tie.Need-write-hops-requires
-write-hops-requires c κs = search needs
-
-enum-known-at : tie.Need-enum-known-at
-enum-known-at c = search needs
-
 put-requires : tie.Need-put-requires
 put-requires c κs = search needs
-
-enum-known-refusal : tie.Need-enum-known-refusal
-enum-known-refusal c = search needs
-
-same-length : tie.Need-same-length
-same-length c = search needs
 
 returns : tie.Need-returns
 returns c =
@@ -39,9 +24,6 @@ returns c =
       name-written _ _ _ _ own _ _ _ f (w .0) (u .ends),
       name-filled _ _ _ _ own _ _ _ _ _ _ f (filled-as _ _ _ _ _ (c .before .before .before .before .before .before .before .before .before .write-hops .ensures .1) (ap hopsOf (c .before .before .before .before .before .at .given .1))) (w .0) u (omega arith),
     )
-
-same-length-2 : tie.Need-same-length-2
-same-length-2 c = search needs
 
 returns-2 : tie.Need-returns-2
 returns-2 c =
@@ -55,12 +37,5 @@ pub qualified-name-spec : {M : Type 1} → statement M
 qualified-name-spec =
     tie.close
     (tie.spec
-    part-requires
-    write-hops-requires
-    enum-known-at
-    put-requires
-    enum-known-refusal
-    same-length
-    returns
-    same-length-2
+    (λ c κs. search needs) (λ c κs. search needs) (λ c. search needs) put-requires (λ c. search needs) (λ c. search needs) returns (λ c. search needs)
     returns-2)

@@ -7,14 +7,9 @@ use borrow.Author.Needs.{needs}
 use Rattle.runtime.proofs.reads.find_bytes.Statement.{statement}
 use Rattle.runtime.proofs.reads.find_bytes.Tie as tie
 
-empty-requires : tie.Need-empty-requires
-empty-requires c κs = search needs
-
-find-bytes-near-requires : tie.Need-find-bytes-near-requires
-find-bytes-near-requires c κs = search needs
-
 returns : tie.Need-returns
 returns c = c .find-bytes-near .ensures ∙ place-mapped _ _ _ (empty-mapped _ _ (c .before .empty .ensures)) _ _
 
 pub find-bytes-spec : {M : Type 1} → statement M
-find-bytes-spec = tie.close (tie.spec empty-requires find-bytes-near-requires returns)
+find-bytes-spec = tie.close (tie.spec
+    (λ c κs. search needs) (λ c κs. search needs) returns)

@@ -7,14 +7,9 @@ use borrow.Author.Needs.{needs}
 use Rattle.runtime.proofs.reads.read_bytes.Statement.{statement}
 use Rattle.runtime.proofs.reads.read_bytes.Tie as tie
 
-empty-requires : tie.Need-empty-requires
-empty-requires c κs = search needs
-
-read-bytes-near-requires : tie.Need-read-bytes-near-requires
-read-bytes-near-requires c κs = search needs
-
 returns : tie.Need-returns
 returns c = c .read-bytes-near .ensures ∙ read-mapped _ _ _ (empty-mapped _ _ (c .before .empty .ensures)) _ _
 
 pub read-bytes-spec : {M : Type 1} → statement M
-read-bytes-spec = tie.close (tie.spec empty-requires read-bytes-near-requires returns)
+read-bytes-spec = tie.close (tie.spec
+    (λ c κs. search needs) (λ c κs. search needs) returns)

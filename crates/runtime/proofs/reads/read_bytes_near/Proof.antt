@@ -7,21 +7,6 @@ use borrow.Author.Needs.{needs}
 use Rattle.runtime.proofs.reads.read_bytes_near.Statement.{statement}
 use Rattle.runtime.proofs.reads.read_bytes_near.Tie as tie
 
-find-bytes-near-requires : tie.Need-find-bytes-near-requires
-find-bytes-near-requires c κs = search needs
-
-enum-known-off : tie.Need-enum-known-off
-enum-known-off c = search needs
-
-part-requires : tie.Need-part-requires
-part-requires c κs = search needs
-
-enum-told : tie.Need-enum-told
-enum-told c = search needs
-
-slice-aggregate-result : tie.Need-slice-aggregate-result
-slice-aggregate-result c = search needs
-
 returns : tie.Need-returns
 returns c = read-at _ _ _ _ _ _ (told bytesPlaceOf (c .before .before .before .before .find-bytes-near .ensures) (c .before .before .off .given .1)) (c .part .ensures)
 
@@ -32,10 +17,4 @@ pub read-bytes-near-spec : {M : Type 1} → statement M
 read-bytes-near-spec =
     tie.close
     (tie.spec
-    find-bytes-near-requires
-    enum-known-off
-    part-requires
-    enum-told
-    slice-aggregate-result
-    returns
-    returns-2)
+    (λ c κs. search needs) (λ c. search needs) (λ c κs. search needs) (λ c. search needs) (λ c. search needs) returns returns-2)

@@ -7,14 +7,9 @@ use borrow.Author.Needs.{needs}
 use Rattle.runtime.proofs.reads.read_cstr.Statement.{statement}
 use Rattle.runtime.proofs.reads.read_cstr.Tie as tie
 
-empty-requires : tie.Need-empty-requires
-empty-requires c κs = search needs
-
-read-cstr-near-requires : tie.Need-read-cstr-near-requires
-read-cstr-near-requires c κs = search needs
-
 returns : tie.Need-returns
 returns c = c .read-cstr-near .ensures ∙ text-mapped _ _ _ (empty-mapped _ _ (c .before .empty .ensures)) _
 
 pub read-cstr-spec : {M : Type 1} → statement M
-read-cstr-spec = tie.close (tie.spec empty-requires read-cstr-near-requires returns)
+read-cstr-spec = tie.close (tie.spec
+    (λ c κs. search needs) (λ c κs. search needs) returns)

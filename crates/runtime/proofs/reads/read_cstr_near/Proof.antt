@@ -11,24 +11,6 @@ use Rattle.runtime.proofs.reads.read_cstr_near.Tie as tie
 returns : tie.Need-returns
 returns c = text-zero _ _ _ (c .if1 .taken)
 
-vm-to-file-offset-near-requires : tie.Need-vm-to-file-offset-near-requires
-vm-to-file-offset-near-requires c κs = search needs
-
-enum-known-offset : tie.Need-enum-known-offset
-enum-known-offset c = search needs
-
-read-cstr-at-requires : tie.Need-read-cstr-at-requires
-read-cstr-at-requires c κs = search needs
-
-enum-known-length : tie.Need-enum-known-length
-enum-known-length c = search needs
-
-enum-told : tie.Need-enum-told
-enum-told c = search needs
-
-enum-told-2 : tie.Need-enum-told-2
-enum-told-2 c = search needs
-
 returns-2 : tie.Need-returns-2
 returns-2 c =
     text-there _ _ _ (c .before .before .before .before .before .before .before .before .if1 .left) _ _ (told offsetOf (c .before .before .before .before .before .before .before .vm-to-file-offset-near .ensures) (c .before .before .before .before .before .offset .given .1))
@@ -46,13 +28,5 @@ pub read-cstr-near-spec : {M : Type 1} → statement M
 read-cstr-near-spec =
     tie.close
     (tie.spec
-    returns
-    vm-to-file-offset-near-requires
-    enum-known-offset
-    read-cstr-at-requires
-    enum-known-length
-    enum-told
-    enum-told-2
-    returns-2
-    returns-3
-    returns-4)
+    returns (λ c κs. search needs) (λ c. search needs) (λ c κs. search needs) (λ c. search needs) (λ c. search needs) (λ c. search needs) returns-2
+    returns-3 returns-4)

@@ -7,14 +7,9 @@ use borrow.Author.Needs.{needs}
 use Rattle.runtime.proofs.reflstr.lookup_field_name.Statement.{statement}
 use Rattle.runtime.proofs.reflstr.lookup_field_name.Tie as tie
 
-empty-requires : tie.Need-empty-requires
-empty-requires c κs = search needs
-
-lookup-field-name-near-requires : tie.Need-lookup-field-name-near-requires
-lookup-field-name-near-requires c κs = search needs
-
 returns : tie.Need-returns
 returns c = c .lookup-field-name-near .ensures ∙ name-mapped _ _ _ (empty-mapped _ _ (c .before .empty .ensures)) _ _ _
 
 pub lookup-field-name-spec : {M : Type 1} → statement M
-lookup-field-name-spec = tie.close (tie.spec empty-requires lookup-field-name-near-requires returns)
+lookup-field-name-spec = tie.close (tie.spec
+    (λ c κs. search needs) (λ c κs. search needs) returns)

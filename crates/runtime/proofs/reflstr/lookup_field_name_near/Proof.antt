@@ -10,24 +10,6 @@ use Rattle.runtime.proofs.reflstr.lookup_field_name_near.Tie as tie
 returns : tie.Need-returns
 returns c = name-zero _ _ _ _ _ (c .if1 .taken)
 
-read-cstr-near-requires : tie.Need-read-cstr-near-requires
-read-cstr-near-requires c κs = search needs
-
-enum-known-place : tie.Need-enum-known-place
-enum-known-place c = search needs
-
-enum-told : tie.Need-enum-told
-enum-told c = search needs
-
-section-text-requires : tie.Need-section-text-requires
-section-text-requires c κs = search needs
-
-enum-known-place-2 : tie.Need-enum-known-place-2
-enum-known-place-2 c = search needs
-
-enum-told-2 : tie.Need-enum-told-2
-enum-told-2 c = search needs
-
 returns-2 : tie.Need-returns-2
 returns-2 c = name-image _ _ _ _ _ (c .before .before .before .before .if1 .left) _ (told textOf (c .before .before .before .read-cstr-near .ensures) (c .before .place .given .1))
 
@@ -41,13 +23,5 @@ pub lookup-field-name-near-spec : {M : Type 1} → statement M
 lookup-field-name-near-spec =
     tie.close
     (tie.spec
-    returns
-    read-cstr-near-requires
-    enum-known-place
-    enum-told
-    section-text-requires
-    enum-known-place-2
-    enum-told-2
-    returns-2
-    returns-3
-    returns-4)
+    returns (λ c κs. search needs) (λ c. search needs) (λ c. search needs) (λ c κs. search needs) (λ c. search needs) (λ c. search needs) returns-2
+    returns-3 returns-4)

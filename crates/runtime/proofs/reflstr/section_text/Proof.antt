@@ -12,11 +12,9 @@ returns c = section-below _ _ _ (omega arith)
 returns-2 : tie.Need-returns-2
 returns-2 c = section-past _ _ _ (omega arith) (omega arith)
 
-read-cstr-at-requires : tie.Need-read-cstr-at-requires
-read-cstr-at-requires c κs = search needs
-
 returns-3 : tie.Need-returns-3
 returns-3 c = section-at _ _ _ (omega arith) _ (c .read-cstr-at .ensures) (omega arith)
 
 pub section-text-spec : {M : Type 1} → statement M
-section-text-spec = tie.close (tie.spec returns returns-2 read-cstr-at-requires returns-3)
+section-text-spec = tie.close (tie.spec
+    returns returns-2 (λ c κs. search needs) returns-3)

@@ -22,62 +22,11 @@ abbrev μ-loop : tie.MeasureT-loop
 loop-holds : tie.Need-loop-holds Inv-loop μ-loop
 loop-holds c = (omega arith, refl)
 
-sub-loop : tie.Need-sub-loop Inv-loop μ-loop
-sub-loop c = search needs
-
-mul-turn : tie.Need-mul-turn Inv-loop μ-loop
-mul-turn c = search needs
-
-shared-slice-read-turn : tie.Need-shared-slice-read-turn Inv-loop μ-loop
-shared-slice-read-turn c = search needs
-
-add-turn : tie.Need-add-turn Inv-loop μ-loop
-add-turn c = search needs
-
-mul-turn-2 : tie.Need-mul-turn-2 Inv-loop μ-loop
-mul-turn-2 c = search needs
-
-shared-slice-read-turn-2 : tie.Need-shared-slice-read-turn-2 Inv-loop μ-loop
-shared-slice-read-turn-2 c = search needs
-
-add-turn-2 : tie.Need-add-turn-2 Inv-loop μ-loop
-add-turn-2 c = search needs
-
-mul-turn-3 : tie.Need-mul-turn-3 Inv-loop μ-loop
-mul-turn-3 c = search needs
-
-shared-slice-read-turn-3 : tie.Need-shared-slice-read-turn-3 Inv-loop μ-loop
-shared-slice-read-turn-3 c = search needs
-
-add-turn-3 : tie.Need-add-turn-3 Inv-loop μ-loop
-add-turn-3 c = search needs
-
-mul-turn-4 : tie.Need-mul-turn-4 Inv-loop μ-loop
-mul-turn-4 c = search needs
-
-shared-slice-read-turn-4 : tie.Need-shared-slice-read-turn-4 Inv-loop μ-loop
-shared-slice-read-turn-4 c = search needs
-
-turn-requires : tie.Need-turn-requires Inv-loop μ-loop
-turn-requires c κs = search needs
-
-enum-known-found : tie.Need-enum-known-found Inv-loop μ-loop
-enum-known-found c = search needs
-
 returns : tie.Need-returns Inv-loop μ-loop
 returns c =
     let p = c .before .before .before .before .before .before .before .before .before in
     turn-answer (now (p .before .before .args .segments)) (p .loop .i) (p .before .before .args .offset) _ (p .loop .inv .1) _ _
     (c .before .before .before .turn .ensures) (c .before .found .given .1) (omega arith)
-
-enum-told : tie.Need-enum-told Inv-loop μ-loop
-enum-told c = search needs
-
-add-i : tie.Need-add-i Inv-loop μ-loop
-add-i c = search needs
-
-loop-less : tie.Need-loop-less Inv-loop μ-loop
-loop-less c = search needs
 
 loop-again : tie.Need-loop-again Inv-loop μ-loop
 loop-again c =
@@ -96,26 +45,6 @@ pub file-offset-to-vm-in-spec : {M : Type 1} → statement M
 file-offset-to-vm-in-spec =
     tie.close
     (tie.spec
-    Inv-loop
-    μ-loop
-    loop-holds
-    sub-loop
-    mul-turn
-    shared-slice-read-turn
-    add-turn
-    mul-turn-2
-    shared-slice-read-turn-2
-    add-turn-2
-    mul-turn-3
-    shared-slice-read-turn-3
-    add-turn-3
-    mul-turn-4
-    shared-slice-read-turn-4
-    turn-requires
-    enum-known-found
-    returns
-    enum-told
-    add-i
-    loop-less
-    loop-again
-    returns-2)
+    Inv-loop μ-loop loop-holds (λ c. search needs) (λ c. search needs) (λ c. search needs) (λ c. search needs) (λ c. search needs) (λ c. search needs)
+    (λ c. search needs) (λ c. search needs) (λ c. search needs) (λ c. search needs) (λ c. search needs) (λ c. search needs) (λ c κs. search needs)
+    (λ c. search needs) returns (λ c. search needs) (λ c. search needs) (λ c. search needs) loop-again returns-2)

@@ -6,12 +6,6 @@ use Rattle.segment.specs.SegmentsLaws.{wraps, below, above, held, offset
 use Rattle.segment.proofs.file_offset.turn.Statement.{statement}
 use Rattle.segment.proofs.file_offset.turn.Tie as tie
 
-lower-requires : tie.Need-lower-requires
-lower-requires c κs = search needs
-
-sub-if1 : tie.Need-sub-if1
-sub-if1 c = search needs
-
 returns : tie.Need-returns
 returns c = wraps _ _ (omega arith)
 
@@ -21,17 +15,12 @@ returns-2 c = below _ _ (omega arith) (omega arith)
 returns-3 : tie.Need-returns-3
 returns-3 c = above _ _ (omega arith) (omega arith) (omega arith)
 
-sub-if4 : tie.Need-sub-if4
-sub-if4 c = search needs
-
 returns-4 : tie.Need-returns-4
 returns-4 c = held _ _ (omega arith) (omega arith) (omega arith) _ (omega arith) (offset-wraps _ _ (omega arith) (omega arith))
-
-add-t8 : tie.Need-add-t8
-add-t8 c = search needs
 
 returns-5 : tie.Need-returns-5
 returns-5 c = held _ _ (omega arith) (omega arith) (omega arith) _ (omega arith) (in-file _ _ (omega arith) (omega arith))
 
 pub turn-spec : {M : Type 1} → statement M
-turn-spec = tie.close (tie.spec lower-requires sub-if1 returns returns-2 returns-3 sub-if4 returns-4 add-t8 returns-5)
+turn-spec = tie.close (tie.spec
+    (λ c κs. search needs) (λ c. search needs) returns returns-2 returns-3 (λ c. search needs) returns-4 (λ c. search needs) returns-5)

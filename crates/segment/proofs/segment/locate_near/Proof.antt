@@ -6,9 +6,6 @@ use borrow.Author.Needs.{needs}
 use Rattle.segment.proofs.segment.locate_near.Statement.{statement}
 use Rattle.segment.proofs.segment.locate_near.Tie as tie
 
-has-requires : tie.Need-has-requires
-has-requires c κs = search needs
-
 returns : tie.Need-returns
 returns c = (λ w. w, c .before .has .ensures (c .if1 .taken))
 
@@ -21,4 +18,5 @@ returns-2 c =
     near-found (now (a .segments)) (a .mapping) (a .address) (c .locate .result) (c .locate .ensures)
 
 pub locate-near-spec : {M : Type 1} → statement M
-locate-near-spec = tie.close (tie.spec has-requires returns locate-requires returns-2)
+locate-near-spec = tie.close (tie.spec
+    (λ c κs. search needs) returns locate-requires returns-2)

@@ -6,9 +6,6 @@ use Rattle.segment.specs.SegmentsLaws.{wraps, below, above, no-bytes, he
 use Rattle.segment.proofs.segment.look_up.Statement.{statement}
 use Rattle.segment.proofs.segment.look_up.Tie as tie
 
-sub-if1 : tie.Need-sub-if1
-sub-if1 c = search needs
-
 returns : tie.Need-returns
 returns c = wraps _ _ (omega arith)
 
@@ -24,14 +21,8 @@ returns-4 c = no-bytes _ _ (omega arith) (omega arith) (omega arith) (omega arit
 returns-5 : tie.Need-returns-5
 returns-5 c = held _ _ (omega arith) (omega arith) (omega arith) _ (omega arith) (past-file _ _ (omega arith))
 
-sub-if6 : tie.Need-sub-if6
-sub-if6 c = search needs
-
 returns-6 : tie.Need-returns-6
 returns-6 c = held _ _ (omega arith) (omega arith) (omega arith) _ (omega arith) (offset-wraps _ _ (omega arith) (omega arith))
-
-add-t7 : tie.Need-add-t7
-add-t7 c = search needs
 
 returns-7 : tie.Need-returns-7
 returns-7 c = held _ _ (omega arith) (omega arith) (omega arith) _ (omega arith) (in-file _ _ (omega arith) (omega arith))
@@ -40,13 +31,4 @@ pub look-up-spec : {M : Type 1} → statement M
 look-up-spec =
     tie.close
     (tie.spec
-    sub-if1
-    returns
-    returns-2
-    returns-3
-    returns-4
-    returns-5
-    sub-if6
-    returns-6
-    add-t7
-    returns-7)
+    (λ c. search needs) returns returns-2 returns-3 returns-4 returns-5 (λ c. search needs) returns-6 (λ c. search needs) returns-7)

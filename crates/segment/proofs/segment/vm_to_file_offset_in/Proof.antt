@@ -21,62 +21,11 @@ abbrev μ-loop : tie.MeasureT-loop
 loop-holds : tie.Need-loop-holds Inv-loop μ-loop
 loop-holds c = (omega arith, refl)
 
-sub-loop : tie.Need-sub-loop Inv-loop μ-loop
-sub-loop c = search needs
-
-mul-look-up : tie.Need-mul-look-up Inv-loop μ-loop
-mul-look-up c = search needs
-
-shared-slice-read-look-up : tie.Need-shared-slice-read-look-up Inv-loop μ-loop
-shared-slice-read-look-up c = search needs
-
-add-look-up : tie.Need-add-look-up Inv-loop μ-loop
-add-look-up c = search needs
-
-mul-look-up-2 : tie.Need-mul-look-up-2 Inv-loop μ-loop
-mul-look-up-2 c = search needs
-
-shared-slice-read-look-up-2 : tie.Need-shared-slice-read-look-up-2 Inv-loop μ-loop
-shared-slice-read-look-up-2 c = search needs
-
-add-look-up-2 : tie.Need-add-look-up-2 Inv-loop μ-loop
-add-look-up-2 c = search needs
-
-mul-look-up-3 : tie.Need-mul-look-up-3 Inv-loop μ-loop
-mul-look-up-3 c = search needs
-
-shared-slice-read-look-up-3 : tie.Need-shared-slice-read-look-up-3 Inv-loop μ-loop
-shared-slice-read-look-up-3 c = search needs
-
-add-look-up-3 : tie.Need-add-look-up-3 Inv-loop μ-loop
-add-look-up-3 c = search needs
-
-mul-look-up-4 : tie.Need-mul-look-up-4 Inv-loop μ-loop
-mul-look-up-4 c = search needs
-
-shared-slice-read-look-up-4 : tie.Need-shared-slice-read-look-up-4 Inv-loop μ-loop
-shared-slice-read-look-up-4 c = search needs
-
-look-up-requires : tie.Need-look-up-requires Inv-loop μ-loop
-look-up-requires c κs = search needs
-
-enum-known-found : tie.Need-enum-known-found Inv-loop μ-loop
-enum-known-found c = search needs
-
 returns : tie.Need-returns Inv-loop μ-loop
 returns c =
     let p = c .before .before .before .before .before .before .before .before .before in
     lookup-answer (now (p .before .before .args .segments)) (p .loop .i) (p .before .before .args .vmaddr) _ (p .loop .inv .1) _ _
     (c .before .before .before .look-up .ensures) (c .before .found .given .1) (omega arith)
-
-enum-told : tie.Need-enum-told Inv-loop μ-loop
-enum-told c = search needs
-
-add-i : tie.Need-add-i Inv-loop μ-loop
-add-i c = search needs
-
-loop-less : tie.Need-loop-less Inv-loop μ-loop
-loop-less c = search needs
 
 loop-again : tie.Need-loop-again Inv-loop μ-loop
 loop-again c =
@@ -95,26 +44,6 @@ pub vm-to-file-offset-in-spec : {M : Type 1} → statement M
 vm-to-file-offset-in-spec =
     tie.close
     (tie.spec
-    Inv-loop
-    μ-loop
-    loop-holds
-    sub-loop
-    mul-look-up
-    shared-slice-read-look-up
-    add-look-up
-    mul-look-up-2
-    shared-slice-read-look-up-2
-    add-look-up-2
-    mul-look-up-3
-    shared-slice-read-look-up-3
-    add-look-up-3
-    mul-look-up-4
-    shared-slice-read-look-up-4
-    look-up-requires
-    enum-known-found
-    returns
-    enum-told
-    add-i
-    loop-less
-    loop-again
-    returns-2)
+    Inv-loop μ-loop loop-holds (λ c. search needs) (λ c. search needs) (λ c. search needs) (λ c. search needs) (λ c. search needs) (λ c. search needs)
+    (λ c. search needs) (λ c. search needs) (λ c. search needs) (λ c. search needs) (λ c. search needs) (λ c. search needs) (λ c κs. search needs)
+    (λ c. search needs) returns (λ c. search needs) (λ c. search needs) (λ c. search needs) loop-again returns-2)

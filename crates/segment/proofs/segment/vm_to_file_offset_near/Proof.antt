@@ -5,18 +5,6 @@ use borrow.Author.Needs.{needs}
 use Rattle.segment.proofs.segment.vm_to_file_offset_near.Statement.{statement}
 use Rattle.segment.proofs.segment.vm_to_file_offset_near.Tie as tie
 
-look-up-requires : tie.Need-look-up-requires
-look-up-requires c κs = search needs
-
-enum-known-found : tie.Need-enum-known-found
-enum-known-found c = search needs
-
-enum-told : tie.Need-enum-told
-enum-told c = search needs
-
-vm-to-file-offset-in-requires : tie.Need-vm-to-file-offset-in-requires
-vm-to-file-offset-in-requires c κs = search needs
-
 returns : tie.Need-returns
 returns c = near-answer _ _ _ _ (c .before .before .before .look-up .ensures) _ (c .before .found .given .1)
 
@@ -27,9 +15,4 @@ pub vm-to-file-offset-near-spec : {M : Type 1} → statement M
 vm-to-file-offset-near-spec =
     tie.close
     (tie.spec
-    look-up-requires
-    enum-known-found
-    enum-told
-    vm-to-file-offset-in-requires
-    returns
-    returns-2)
+    (λ c κs. search needs) (λ c. search needs) (λ c. search needs) (λ c κs. search needs) returns returns-2)

@@ -14,24 +14,6 @@ use Rattle.steps.proofs.blocks.block_of_kind.Tie as tie
 returns : tie.Need-returns
 returns c = ragged _ _ (c .if1 .taken)
 
-trailing-requires : tie.Need-trailing-requires
-trailing-requires c κs = search needs
-
-enum-known-trailing : tie.Need-enum-known-trailing
-enum-known-trailing c = search needs
-
-block-of-kind-requires : tie.Need-block-of-kind-requires
-block-of-kind-requires c κs = search needs
-
-enum-known-block : tie.Need-enum-known-block
-enum-known-block c = search needs
-
-enum-told : tie.Need-enum-told
-enum-told c = search needs
-
-enum-told-2 : tie.Need-enum-told-2
-enum-told-2 c = search needs
-
 returns-2 : tie.Need-returns-2
 returns-2 c = whole-as _ _ _ (ap answered (told blockReadOf (c .before .before .before .block-of-kind .ensures) (c .before .block .given .1) ∙ ap (kindFrom _ _ _) (told trailersOf (c .before .before .before .before .before .before .before .trailing .ensures) (c .before .before .before .before .before .trailing2 .given .1)))) (c .before .before .before .before .before .before .before .before .if1 .left)
 
@@ -45,13 +27,5 @@ pub block-of-kind-spec : {M : Type 1} → statement M
 block-of-kind-spec =
     tie.close
     (tie.spec
-    returns
-    trailing-requires
-    enum-known-trailing
-    block-of-kind-requires
-    enum-known-block
-    enum-told
-    enum-told-2
-    returns-2
-    returns-3
-    returns-4)
+    returns (λ c κs. search needs) (λ c. search needs) (λ c κs. search needs) (λ c. search needs) (λ c. search needs) (λ c. search needs) returns-2
+    returns-3 returns-4)

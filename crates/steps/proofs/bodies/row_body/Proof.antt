@@ -10,11 +10,9 @@ use Rattle.steps.proofs.bodies.row_body.Tie as tie
 returns : tie.Need-returns
 returns c = ragged _ _ (c .if1 .taken)
 
-decode-body-requires : tie.Need-decode-body-requires
-decode-body-requires c κs = search needs
-
 returns-2 : tie.Need-returns-2
 returns-2 c = whole-as _ _ _ (ap answered (c .decode-body .ensures)) (c .before .if1 .left)
 
 pub row-body-spec : {M : Type 1} → statement M
-row-body-spec = tie.close (tie.spec returns decode-body-requires returns-2)
+row-body-spec = tie.close (tie.spec
+    returns (λ c κs. search needs) returns-2)

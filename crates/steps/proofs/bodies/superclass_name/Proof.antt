@@ -10,11 +10,9 @@ use Rattle.steps.proofs.bodies.superclass_name.Tie as tie
 returns : tie.Need-returns
 returns c = ragged _ _ (c .if1 .taken)
 
-superclass-name-requires : tie.Need-superclass-name-requires
-superclass-name-requires c κs = search needs
-
 returns-2 : tie.Need-returns-2
 returns-2 c = whole-as _ _ _ (ap answered (c .superclass-name .ensures)) (c .before .if1 .left)
 
 pub superclass-name-spec : {M : Type 1} → statement M
-superclass-name-spec = tie.close (tie.spec returns superclass-name-requires returns-2)
+superclass-name-spec = tie.close (tie.spec
+    returns (λ c κs. search needs) returns-2)

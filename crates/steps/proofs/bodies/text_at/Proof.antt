@@ -10,11 +10,9 @@ use Rattle.steps.proofs.bodies.text_at.Tie as tie
 returns : tie.Need-returns
 returns c = ragged _ _ (c .if1 .taken)
 
-read-cstr-requires : tie.Need-read-cstr-requires
-read-cstr-requires c κs = search needs
-
 returns-2 : tie.Need-returns-2
 returns-2 c = whole-as _ _ _ (ap answered (c .read-cstr .ensures)) (c .before .if1 .left)
 
 pub text-at-spec : {M : Type 1} → statement M
-text-at-spec = tie.close (tie.spec returns read-cstr-requires returns-2)
+text-at-spec = tie.close (tie.spec
+    returns (λ c κs. search needs) returns-2)

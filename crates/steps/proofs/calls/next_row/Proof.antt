@@ -12,14 +12,8 @@ use Rattle.steps.proofs.calls.next_row.Tie as tie
 returns : tie.Need-returns
 returns c = ragged _ _ (c .if1 .taken)
 
-next-requires : tie.Need-next-requires
-next-requires c κs = search needs
-
 enum-known-slot : tie.Need-enum-known-slot
 enum-known-slot c = search needs
-
-enum-told : tie.Need-enum-told
-enum-told c = search needs
 
 returns-2 : tie.Need-returns-2
 returns-2 c = whole-as _ _ _ (ap answered (told (typeStepOf _) (c .before .before .before .next .ensures) (c .before .slot .given .1))) (c .before .before .before .before .if1 .left)
@@ -29,4 +23,5 @@ returns-3 c = whole-as _ _ _ (ap answered (told (typeStepOf _) (c .before .befor
 
 pub next-row-spec : {M : Type 1} → statement M
 next-row-spec =
-    tie.close (tie.spec returns next-requires enum-known-slot enum-told returns-2 returns-3)
+    tie.close (tie.spec
+    returns (λ c κs. search needs) enum-known-slot (λ c. search needs) returns-2 returns-3)

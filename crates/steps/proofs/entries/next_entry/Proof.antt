@@ -10,11 +10,9 @@ use Rattle.steps.proofs.entries.next_entry.Tie as tie
 returns : tie.Need-returns
 returns c = ragged _ _ (c .if1 .taken)
 
-next-requires : tie.Need-next-requires
-next-requires c κs = search needs
-
 returns-2 : tie.Need-returns-2
 returns-2 c = whole-as _ _ _ (ap answered (c .next .ensures)) (c .before .if1 .left)
 
 pub next-entry-spec : {M : Type 1} → statement M
-next-entry-spec = tie.close (tie.spec returns next-requires returns-2)
+next-entry-spec = tie.close (tie.spec
+    returns (λ c κs. search needs) returns-2)

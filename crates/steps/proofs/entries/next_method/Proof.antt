@@ -10,11 +10,9 @@ use Rattle.steps.proofs.entries.next_method.Tie as tie
 returns : tie.Need-returns
 returns c = ragged _ _ (c .if1 .taken)
 
-method-step-requires : tie.Need-method-step-requires
-method-step-requires c κs = search needs
-
 returns-2 : tie.Need-returns-2
 returns-2 c = whole-as _ _ _ (ap answered (c .method-step .ensures)) (c .before .if1 .left)
 
 pub next-method-spec : {M : Type 1} → statement M
-next-method-spec = tie.close (tie.spec returns method-step-requires returns-2)
+next-method-spec = tie.close (tie.spec
+    returns (λ c κs. search needs) returns-2)

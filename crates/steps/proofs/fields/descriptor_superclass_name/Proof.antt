@@ -10,11 +10,9 @@ use Rattle.steps.proofs.fields.descriptor_superclass_name.Tie as tie
 returns : tie.Need-returns
 returns c = ragged _ _ (c .if1 .taken)
 
-superclass-mangled-name-requires : tie.Need-superclass-mangled-name-requires
-superclass-mangled-name-requires c κs = search needs
-
 returns-2 : tie.Need-returns-2
 returns-2 c = whole-as _ _ _ (ap answered (c .superclass-mangled-name .ensures)) (c .before .if1 .left)
 
 pub descriptor-superclass-name-spec : {M : Type 1} → statement M
-descriptor-superclass-name-spec = tie.close (tie.spec returns superclass-mangled-name-requires returns-2)
+descriptor-superclass-name-spec = tie.close (tie.spec
+    returns (λ c κs. search needs) returns-2)

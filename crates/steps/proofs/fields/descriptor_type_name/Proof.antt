@@ -10,11 +10,9 @@ use Rattle.steps.proofs.fields.descriptor_type_name.Tie as tie
 returns : tie.Need-returns
 returns c = ragged _ _ (c .if1 .taken)
 
-mangled-type-name-requires : tie.Need-mangled-type-name-requires
-mangled-type-name-requires c κs = search needs
-
 returns-2 : tie.Need-returns-2
 returns-2 c = whole-as _ _ _ (ap answered (c .mangled-type-name .ensures)) (c .before .if1 .left)
 
 pub descriptor-type-name-spec : {M : Type 1} → statement M
-descriptor-type-name-spec = tie.close (tie.spec returns mangled-type-name-requires returns-2)
+descriptor-type-name-spec = tie.close (tie.spec
+    returns (λ c κs. search needs) returns-2)

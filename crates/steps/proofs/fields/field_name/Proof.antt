@@ -10,11 +10,9 @@ use Rattle.steps.proofs.fields.field_name.Tie as tie
 returns : tie.Need-returns
 returns c = ragged _ _ (c .if1 .taken)
 
-field-name-requires : tie.Need-field-name-requires
-field-name-requires c κs = search needs
-
 returns-2 : tie.Need-returns-2
 returns-2 c = whole-as _ _ _ (ap answered (c .field-name .ensures)) (c .before .if1 .left)
 
 pub field-name-spec : {M : Type 1} → statement M
-field-name-spec = tie.close (tie.spec returns field-name-requires returns-2)
+field-name-spec = tie.close (tie.spec
+    returns (λ c κs. search needs) returns-2)

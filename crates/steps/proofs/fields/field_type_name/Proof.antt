@@ -10,11 +10,9 @@ use Rattle.steps.proofs.fields.field_type_name.Tie as tie
 returns : tie.Need-returns
 returns c = ragged _ _ (c .if1 .taken)
 
-record-type-name-requires : tie.Need-record-type-name-requires
-record-type-name-requires c κs = search needs
-
 returns-2 : tie.Need-returns-2
 returns-2 c = whole-as _ _ _ (ap answered (c .record-type-name .ensures)) (c .before .if1 .left)
 
 pub field-type-name-spec : {M : Type 1} → statement M
-field-type-name-spec = tie.close (tie.spec returns record-type-name-requires returns-2)
+field-type-name-spec = tie.close (tie.spec
+    returns (λ c κs. search needs) returns-2)

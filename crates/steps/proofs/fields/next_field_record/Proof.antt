@@ -12,14 +12,9 @@ use Rattle.steps.proofs.fields.next_field_record.Tie as tie
 returns : tie.Need-returns
 returns c = ragged _ _ (c .if1 .taken)
 
-empty-requires : tie.Need-empty-requires
-empty-requires c κs = search needs
-
-next-requires : tie.Need-next-requires
-next-requires c κs = search needs
-
 returns-2 : tie.Need-returns-2
 returns-2 c = whole-as _ _ _ (ap answered (c .next .ensures ∙ record-mapped _ _ _ _ (empty-mapped _ _ (c .before .empty .ensures)))) (c .before .before .if1 .left)
 
 pub next-field-record-spec : {M : Type 1} → statement M
-next-field-record-spec = tie.close (tie.spec returns empty-requires next-requires returns-2)
+next-field-record-spec = tie.close (tie.spec
+    returns (λ c κs. search needs) (λ c κs. search needs) returns-2)

@@ -10,11 +10,9 @@ use Rattle.steps.proofs.offsets.field_offsets.Tie as tie
 returns : tie.Need-returns
 returns c = ragged _ _ (c .if1 .taken)
 
-field-offsets-requires : tie.Need-field-offsets-requires
-field-offsets-requires c κs = search needs
-
 returns-2 : tie.Need-returns-2
 returns-2 c = whole-as _ _ _ (ap answered (c .field-offsets .ensures)) (c .before .if1 .left)
 
 pub field-offsets-spec : {M : Type 1} → statement M
-field-offsets-spec = tie.close (tie.spec returns field-offsets-requires returns-2)
+field-offsets-spec = tie.close (tie.spec
+    returns (λ c κs. search needs) returns-2)

@@ -10,11 +10,9 @@ use Rattle.steps.proofs.offsets.static_field_offsets.Tie as tie
 returns : tie.Need-returns
 returns c = ragged _ _ (c .if1 .taken)
 
-static-field-offsets-requires : tie.Need-static-field-offsets-requires
-static-field-offsets-requires c κs = search needs
-
 returns-2 : tie.Need-returns-2
 returns-2 c = whole-as _ _ _ (ap answered (c .static-field-offsets .ensures)) (c .before .if1 .left)
 
 pub static-field-offsets-spec : {M : Type 1} → statement M
-static-field-offsets-spec = tie.close (tie.spec returns static-field-offsets-requires returns-2)
+static-field-offsets-spec = tie.close (tie.spec
+    returns (λ c κs. search needs) returns-2)

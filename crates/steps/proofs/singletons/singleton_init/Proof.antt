@@ -10,11 +10,9 @@ use Rattle.steps.proofs.singletons.singleton_init.Tie as tie
 returns : tie.Need-returns
 returns c = ragged _ _ (c .if1 .taken)
 
-singleton-metadata-init-requires : tie.Need-singleton-metadata-init-requires
-singleton-metadata-init-requires c κs = search needs
-
 returns-2 : tie.Need-returns-2
 returns-2 c = whole-as _ _ _ (ap answered (c .singleton-metadata-init .ensures)) (c .before .if1 .left)
 
 pub singleton-init-spec : {M : Type 1} → statement M
-singleton-init-spec = tie.close (tie.spec returns singleton-metadata-init-requires returns-2)
+singleton-init-spec = tie.close (tie.spec
+    returns (λ c κs. search needs) returns-2)

@@ -10,11 +10,9 @@ use Rattle.steps.proofs.singletons.singleton_pointer.Tie as tie
 returns : tie.Need-returns
 returns c = ragged _ _ (c .if1 .taken)
 
-singleton-metadata-pointer-requires : tie.Need-singleton-metadata-pointer-requires
-singleton-metadata-pointer-requires c κs = search needs
-
 returns-2 : tie.Need-returns-2
 returns-2 c = whole-as _ _ _ (ap answered (c .singleton-metadata-pointer .ensures)) (c .before .if1 .left)
 
 pub singleton-pointer-spec : {M : Type 1} → statement M
-singleton-pointer-spec = tie.close (tie.spec returns singleton-metadata-pointer-requires returns-2)
+singleton-pointer-spec = tie.close (tie.spec
+    returns (λ c κs. search needs) returns-2)

@@ -9,20 +9,11 @@ use Rattle.test_lines.proofs.hex.digit.Tie as tie
 returns : tie.Need-returns
 returns c = digit-other _ (λ l h. omega arith) (λ l h. omega arith)
 
-cast-result : tie.Need-cast-result
-cast-result c = search needs
-
 returns-2 : tie.Need-returns-2
 returns-2 c = digit-decimal _ (omega arith) (omega arith)
 
 returns-3 : tie.Need-returns-3
 returns-3 c = digit-other _ (λ l h. omega arith) (λ l h. omega arith)
-
-cast-result-2 : tie.Need-cast-result-2
-cast-result-2 c = search needs
-
-add-result : tie.Need-add-result
-add-result c = search needs
 
 returns-4 : tie.Need-returns-4
 returns-4 c = digit-letter _ (omega arith) (omega arith)
@@ -33,4 +24,5 @@ returns-5 c = digit-other _ (λ l h. omega arith) (λ l h. omega arith)
 pub digit-spec : {M : Type 1} → statement M
 digit-spec =
     tie.close
-    (tie.spec returns cast-result returns-2 returns-3 cast-result-2 add-result returns-4 returns-5)
+    (tie.spec
+    returns (λ c. search needs) returns-2 returns-3 (λ c. search needs) (λ c. search needs) returns-4 returns-5)

@@ -10,12 +10,6 @@ use borrow.Author.Needs.{needs}
 use Rattle.test_lines.proofs.hex.parse_bytes.Statement.{statement}
 use Rattle.test_lines.proofs.hex.parse_bytes.Tie as tie
 
-slice-aggregate-same : tie.Need-slice-aggregate-same
-slice-aggregate-same c = search needs
-
-same-requires : tie.Need-same-requires
-same-requires c κs = search needs
-
 returns : tie.Need-returns
 returns c = answered _ _ _ (fitting-all _ _ _ (bytes-dash _ (sym (c .if1 .taken) ∙ c .before .same .ensures)) (omega arith))
 
@@ -24,9 +18,6 @@ returns-2 c = answered _ _ _ (fitting-none _ _ (bytes-empty _ (sym (c .before .i
 
 returns-3 : tie.Need-returns-3
 returns-3 c = answered _ _ _ (fitting-none _ _ (bytes-odd _ (sym (c .before .before .if1 .left) ∙ c .before .before .before .same .ensures) (λ e. omega arith)))
-
-all-digits-requires : tie.Need-all-digits-requires
-all-digits-requires c κs = search needs
 
 returns-4 : tie.Need-returns-4
 returns-4 c =
@@ -43,9 +34,6 @@ returns-5 c =
 write-pairs-requires : tie.Need-write-pairs-requires
 write-pairs-requires c κs = (sym (c .before .before .before .all-digits .ensures) ∙ not-false _ (c .before .before .if4 .left), omega arith)
 
-same-length : tie.Need-same-length
-same-length c = search needs
-
 returns-6 : tie.Need-returns-6
 returns-6 c =
     let t = c .before .before .before .before .before .before .before .before .before in
@@ -60,14 +48,5 @@ pub parse-bytes-spec : {M : Type 1} → statement M
 parse-bytes-spec =
     tie.close
     (tie.spec
-    slice-aggregate-same
-    same-requires
-    returns
-    returns-2
-    returns-3
-    all-digits-requires
-    returns-4
-    returns-5
-    write-pairs-requires
-    same-length
-    returns-6)
+    (λ c. search needs) (λ c κs. search needs) returns returns-2 returns-3 (λ c κs. search needs) returns-4 returns-5 write-pairs-requires
+    (λ c. search needs) returns-6)

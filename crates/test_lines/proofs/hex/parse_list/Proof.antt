@@ -10,18 +10,6 @@ use borrow.Author.Needs.{needs}
 use Rattle.test_lines.proofs.hex.parse_list.Statement.{statement}
 use Rattle.test_lines.proofs.hex.parse_list.Tie as tie
 
-field-requires : tie.Need-field-requires
-field-requires c κs = search needs
-
-parse-number-requires : tie.Need-parse-number-requires
-parse-number-requires c κs = search needs
-
-enum-known-count : tie.Need-enum-known-count
-enum-known-count c = search needs
-
-enum-told : tie.Need-enum-told
-enum-told c = search needs
-
 returns : tie.Need-returns
 returns c = list-none _ _ (now (c .before .before .before .before .before .before .args .out)) (told numberOf (c .before .before .parse-number .ensures) (c .enum-told .given .1) ∙ ap hexNumber (c .before .before .before .field .ensures))
 
@@ -31,23 +19,11 @@ returns-2 c = list-long _ _ (now (c .before .before .before .before .before .bef
 add-parse-numbers : tie.Need-add-parse-numbers
 add-parse-numbers c = let h = number-within (now (c .before .before .before .before .before .before .before .before .args .line)) (c .before .before .before .before .before .before .before .before .args .from) _ (told numberOf (c .before .before .before .before .parse-number .ensures) (c .before .before .count .given .1) ∙ ap hexNumber (c .before .before .before .before .before .field .ensures)) in search needs
 
-slice-relend-prefix-parse-numbers : tie.Need-slice-relend-prefix-parse-numbers
-slice-relend-prefix-parse-numbers c = search needs
-
 slice-aggregate-parse-numbers : tie.Need-slice-aggregate-parse-numbers
 slice-aggregate-parse-numbers c = part-long (now (c .before .before .before .before .before .before .before .before .before .args .line)) (c .before .before .before .before .before .before .before .before .before .args .from) (now (c .before .before .before .before .before .before .before .before .before .args .out)) _ (told numberOf (c .before .before .before .before .before .parse-number .ensures) (c .before .before .before .count .given .1) ∙ ap hexNumber (c .before .before .before .before .before .before .field .ensures)) (omega arith) _ _ refl refl
 
-parse-numbers-requires : tie.Need-parse-numbers-requires
-parse-numbers-requires c κs = search needs
-
-same-length : tie.Need-same-length
-same-length c = search needs
-
 returns-3 : tie.Need-returns-3
 returns-3 c = list-all (now (c .before .before .before .before .before .before .before .before .before .before .before .before .before .args .line)) (c .before .before .before .before .before .before .before .before .before .before .before .before .before .args .from) (now (c .before .before .before .before .before .before .before .before .before .before .before .before .before .args .out)) _ (told numberOf (c .before .before .before .before .before .before .before .before .before .parse-number .ensures) (c .before .before .before .before .before .before .before .count .given .1) ∙ ap hexNumber (c .before .before .before .before .before .before .before .before .before .before .field .ensures)) (omega arith) _ _ refl (c .before .before .before .parse-numbers .ensures .1) (sym (c .if2 .taken) ∙ c .before .before .before .parse-numbers .ensures .0)
-
-same-length-2 : tie.Need-same-length-2
-same-length-2 c = search needs
 
 returns-4 : tie.Need-returns-4
 returns-4 c = list-part (now (c .before .before .before .before .before .before .before .before .before .before .before .before .before .args .line)) (c .before .before .before .before .before .before .before .before .before .before .before .before .before .args .from) (now (c .before .before .before .before .before .before .before .before .before .before .before .before .before .args .out)) _ (told numberOf (c .before .before .before .before .before .before .before .before .before .parse-number .ensures) (c .before .before .before .before .before .before .before .count .given .1) ∙ ap hexNumber (c .before .before .before .before .before .before .before .before .before .before .field .ensures)) (omega arith) _ _ refl (c .before .before .before .parse-numbers .ensures .1) (sym (c .if2 .left) ∙ c .before .before .before .parse-numbers .ensures .0)
@@ -56,17 +32,5 @@ pub parse-list-spec : {M : Type 1} → statement M
 parse-list-spec =
     tie.close
     (tie.spec
-    field-requires
-    parse-number-requires
-    enum-known-count
-    enum-told
-    returns
-    returns-2
-    add-parse-numbers
-    slice-relend-prefix-parse-numbers
-    slice-aggregate-parse-numbers
-    parse-numbers-requires
-    same-length
-    returns-3
-    same-length-2
-    returns-4)
+    (λ c κs. search needs) (λ c κs. search needs) (λ c. search needs) (λ c. search needs) returns returns-2 add-parse-numbers (λ c. search needs)
+    slice-aggregate-parse-numbers (λ c κs. search needs) (λ c. search needs) returns-3 (λ c. search needs) returns-4)

@@ -6,12 +6,6 @@ use borrow.Author.Needs.{needs}
 use Rattle.test_lines.proofs.line.after_line.Statement.{statement}
 use Rattle.test_lines.proofs.line.after_line.Tie as tie
 
-find-requires : tie.Need-find-requires
-find-requires c κs = search needs
-
-add-result : tie.Need-add-result
-add-result c = search needs
-
 returns : tie.Need-returns
 returns c = after-found _ _ _ (c .before .find .ensures) (c .if1 .taken)
 
@@ -19,4 +13,5 @@ returns-2 : tie.Need-returns-2
 returns-2 c = after-last _ _ _ (c .before .find .ensures) (omega arith)
 
 pub after-line-spec : {M : Type 1} → statement M
-after-line-spec = tie.close (tie.spec find-requires add-result returns returns-2)
+after-line-spec = tie.close (tie.spec
+    (λ c κs. search needs) (λ c. search needs) returns returns-2)

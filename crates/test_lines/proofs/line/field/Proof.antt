@@ -20,12 +20,6 @@ abbrev μ-loop : tie.MeasureT-loop
 loop-holds : tie.Need-loop-holds Inv-loop μ-loop
 loop-holds c = (omega arith, refl)
 
-find-requires : tie.Need-find-requires Inv-loop μ-loop
-find-requires c κs = search needs
-
-slice-aggregate-result : tie.Need-slice-aggregate-result Inv-loop μ-loop
-slice-aggregate-result c = search needs
-
 returns : tie.Need-returns Inv-loop μ-loop
 returns c =
     let p = c .before .before .before .before in
@@ -37,12 +31,6 @@ add-at c =
     let b = find-bounds _ _ _ _ (c .before .find .ensures) (c .before .before .before .loop .inv .0) in
     search needs
 
-sub-left : tie.Need-sub-left Inv-loop μ-loop
-sub-left c = search needs
-
-loop-less : tie.Need-loop-less Inv-loop μ-loop
-loop-less c = search needs
-
 loop-again : tie.Need-loop-again Inv-loop μ-loop
 loop-again c =
     let p = c .before .before .before in
@@ -50,9 +38,6 @@ loop-again c =
       omega arith,
       p .loop .inv .1 ∙ field-next (now (p .before .before .args .line)) (p .loop .at) _ (c .before .find .ensures) (p .loop .left) (omega arith),
     )
-
-find-requires-2 : tie.Need-find-requires-2 Inv-loop μ-loop
-find-requires-2 c κs = search needs
 
 sub-result : tie.Need-sub-result Inv-loop μ-loop
 sub-result c =
@@ -78,18 +63,5 @@ pub field-spec : {M : Type 1} → statement M
 field-spec =
     tie.close
     (tie.spec
-    Inv-loop
-    μ-loop
-    loop-holds
-    find-requires
-    slice-aggregate-result
-    returns
-    add-at
-    sub-left
-    loop-less
-    loop-again
-    find-requires-2
-    sub-result
-    part-result-start
-    part-result-end
-    returns-2)
+    Inv-loop μ-loop loop-holds (λ c κs. search needs) (λ c. search needs) returns add-at (λ c. search needs) (λ c. search needs) loop-again
+    (λ c κs. search needs) sub-result part-result-start part-result-end returns-2)

@@ -11,9 +11,6 @@ use Rattle.test_lines.proofs.line.first.Tie as tie
 slice-aggregate-result : tie.Need-slice-aggregate-result
 slice-aggregate-result c = sym (length-take-le _ _ (omega arith))
 
-slice-aggregate-result-2 : tie.Need-slice-aggregate-result-2
-slice-aggregate-result-2 c = search needs
-
 returns : tie.Need-returns
 returns c = first-in _ _ (omega arith)
 
@@ -21,4 +18,5 @@ returns-2 : tie.Need-returns-2
 returns-2 c = first-out _ _ (omega arith)
 
 pub first-spec : {M : Type 1} → statement M
-first-spec = tie.close (tie.spec slice-aggregate-result slice-aggregate-result-2 returns returns-2)
+first-spec = tie.close (tie.spec
+    slice-aggregate-result (λ c. search needs) returns returns-2)

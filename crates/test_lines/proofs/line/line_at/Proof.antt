@@ -6,14 +6,8 @@ use borrow.Author.Needs.{needs}
 use Rattle.test_lines.proofs.line.line_at.Statement.{statement}
 use Rattle.test_lines.proofs.line.line_at.Tie as tie
 
-slice-aggregate-result : tie.Need-slice-aggregate-result
-slice-aggregate-result c = search needs
-
 returns : tie.Need-returns
 returns c = line-past _ _ (c .before .if1 .taken)
-
-find-requires : tie.Need-find-requires
-find-requires c κs = search needs
 
 sub-result : tie.Need-sub-result
 sub-result c = let b = find-bounds _ _ _ _ (c .find .ensures) (omega arith) in search needs
@@ -31,10 +25,4 @@ pub line-at-spec : {M : Type 1} → statement M
 line-at-spec =
     tie.close
     (tie.spec
-    slice-aggregate-result
-    returns
-    find-requires
-    sub-result
-    part-result-start
-    part-result-end
-    returns-2)
+    (λ c. search needs) returns (λ c κs. search needs) sub-result part-result-start part-result-end returns-2)

@@ -6,18 +6,10 @@ use borrow.Author.Needs.{needs}
 use Rattle.test_replay_full.proofs.fields.all_fields.Statement.{statement}
 use Rattle.test_replay_full.proofs.fields.all_fields.Tie as tie
 
-new-requires : tie.Need-new-requires
-new-requires c κs = search needs
-
-walk-fields-requires : tie.Need-walk-fields-requires
-walk-fields-requires c κs = search needs
-
-walk-fields-requires-2 : tie.Need-walk-fields-requires-2
-walk-fields-requires-2 c κs = search needs
-
 returns : tie.Need-returns
 returns c = c .walk-fields2 .ensures ∙ ap (walkEnd _ _ 4096) (c .before .walk-fields .ensures ∙ ap (walkEnd _ _ 4096) (c .before .before .new .ensures))
 
 pub all-fields-spec : {M : Type 1} → statement M
 all-fields-spec =
-    tie.close (tie.spec new-requires walk-fields-requires walk-fields-requires-2 returns)
+    tie.close (tie.spec
+    (λ c κs. search needs) (λ c κs. search needs) (λ c κs. search needs) returns)

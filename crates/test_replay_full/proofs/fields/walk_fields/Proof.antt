@@ -21,35 +21,11 @@ abbrev μ-loop : tie.MeasureT-loop
 loop-holds : tie.Need-loop-holds Inv-loop μ-loop
 loop-holds c = (omega arith, refl)
 
-next-requires : tie.Need-next-requires Inv-loop μ-loop
-next-requires c κs = search needs
-
-enum-known-step : tie.Need-enum-known-step Inv-loop μ-loop
-enum-known-step c = search needs
-
-descriptor-lines-requires : tie.Need-descriptor-lines-requires Inv-loop μ-loop
-descriptor-lines-requires c κs = search needs
-
-add-given : tie.Need-add-given Inv-loop μ-loop
-add-given c = search needs
-
-loop-less : tie.Need-loop-less Inv-loop μ-loop
-loop-less c = search needs
-
 loop-again : tie.Need-loop-again Inv-loop μ-loop
 loop-again c = (omega (arith, c .before .before .before .before .before .loop-test .taken), c .before .before .before .before .before .before .loop .inv .1 ∙ end-further _ _ _ _ _ (told fieldStepOf (c .before .before .before .before .next .ensures) (c .before .before .step .given .1)) (c .before .before .before .before .before .loop-test .taken) _ refl)
 
-enum-known-step-2 : tie.Need-enum-known-step-2 Inv-loop μ-loop
-enum-known-step-2 c = search needs
-
-end-line-requires : tie.Need-end-line-requires Inv-loop μ-loop
-end-line-requires c κs = search needs
-
 returns : tie.Need-returns Inv-loop μ-loop
 returns c = sym (c .before .before .before .before .before .before .loop .inv .1 ∙ end-here _ _ _ _ _ (told fieldStepOf (c .before .before .before .before .next .ensures) (c .before .before .step2 .given .1)) (c .before .before .before .before .before .loop-test .taken) refl)
-
-bad-line-requires : tie.Need-bad-line-requires Inv-loop μ-loop
-bad-line-requires c κs = search needs
 
 returns-2 : tie.Need-returns-2 Inv-loop μ-loop
 returns-2 c = end-over _ _ _ _ (omega (arith, c .before .loop-test .left)) ∙ sym (c .before .before .loop .inv .1)
@@ -58,17 +34,5 @@ pub walk-fields-spec : {M : Type 1} → statement M
 walk-fields-spec =
     tie.close
     (tie.spec
-    Inv-loop
-    μ-loop
-    loop-holds
-    next-requires
-    enum-known-step
-    descriptor-lines-requires
-    add-given
-    loop-less
-    loop-again
-    enum-known-step-2
-    end-line-requires
-    returns
-    bad-line-requires
-    returns-2)
+    Inv-loop μ-loop loop-holds (λ c κs. search needs) (λ c. search needs) (λ c κs. search needs) (λ c. search needs) (λ c. search needs) loop-again
+    (λ c. search needs) (λ c κs. search needs) returns (λ c κs. search needs) returns-2)

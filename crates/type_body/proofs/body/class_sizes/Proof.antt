@@ -5,18 +5,6 @@ use borrow.Author.Needs.{needs}
 use Rattle.type_body.proofs.body.class_sizes.Statement.{statement}
 use Rattle.type_body.proofs.body.class_sizes.Tie as tie
 
-address-in-requires : tie.Need-address-in-requires
-address-in-requires c κs = search needs
-
-u32-at-requires : tie.Need-u32-at-requires
-u32-at-requires c κs = search needs
-
-u32-at-requires-2 : tie.Need-u32-at-requires-2
-u32-at-requires-2 c κs = search needs
-
-u32-at-requires-3 : tie.Need-u32-at-requires-3
-u32-at-requires-3 c κs = search needs
-
 returns : tie.Need-returns
 returns c = resilient-at _ _ _ _ _ (c .before .before .if1 .taken) (c .before .address-in .ensures) (c .u32-at .ensures)
 
@@ -27,9 +15,4 @@ pub class-sizes-spec : {M : Type 1} → statement M
 class-sizes-spec =
     tie.close
     (tie.spec
-    address-in-requires
-    u32-at-requires
-    u32-at-requires-2
-    u32-at-requires-3
-    returns
-    returns-2)
+    (λ c κs. search needs) (λ c κs. search needs) (λ c κs. search needs) (λ c κs. search needs) returns returns-2)

@@ -7,14 +7,9 @@ use borrow.Author.Needs.{needs}
 use Rattle.type_body.proofs.body.decode_body.Statement.{statement}
 use Rattle.type_body.proofs.body.decode_body.Tie as tie
 
-empty-requires : tie.Need-empty-requires
-empty-requires c κs = search needs
-
-decode-body-near-requires : tie.Need-decode-body-near-requires
-decode-body-near-requires c κs = search needs
-
 returns : tie.Need-returns
 returns c = c .decode-body-near .ensures ∙ run-mapped _ _ _ (empty-mapped _ _ (c .before .empty .ensures)) _
 
 pub decode-body-spec : {M : Type 1} → statement M
-decode-body-spec = tie.close (tie.spec empty-requires decode-body-near-requires returns)
+decode-body-spec = tie.close (tie.spec
+    (λ c κs. search needs) (λ c κs. search needs) returns)

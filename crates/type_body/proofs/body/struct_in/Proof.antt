@@ -5,14 +5,9 @@ use borrow.Author.Needs.{needs}
 use Rattle.type_body.proofs.body.struct_in.Statement.{statement}
 use Rattle.type_body.proofs.body.struct_in.Tie as tie
 
-u32-at-requires : tie.Need-u32-at-requires
-u32-at-requires c κs = search needs
-
-u32-at-requires-2 : tie.Need-u32-at-requires-2
-u32-at-requires-2 c κs = search needs
-
 returns : tie.Need-returns
 returns c = struct-at _ _ _ (c .before .u32-at .ensures) (c .u32-at2 .ensures)
 
 pub struct-in-spec : {M : Type 1} → statement M
-struct-in-spec = tie.close (tie.spec u32-at-requires u32-at-requires-2 returns)
+struct-in-spec = tie.close (tie.spec
+    (λ c κs. search needs) (λ c κs. search needs) returns)

@@ -8,44 +8,14 @@ use borrow.Author.Needs.{needs}
 use Rattle.type_body.proofs.singleton.singleton_metadata_init.Statement.{statement}
 use Rattle.type_body.proofs.singleton.singleton_metadata_init.Tie as tie
 
-read-bytes-requires : tie.Need-read-bytes-requires
-read-bytes-requires c κs = search needs
-
 returns : tie.Need-returns
 returns c = no-init _ _ _ _ (c .before .read-bytes .ensures) (omega arith)
-
-target-in-requires : tie.Need-target-in-requires
-target-in-requires c κs = search needs
-
-enum-known-cache : tie.Need-enum-known-cache
-enum-known-cache c = search needs
-
-enum-told : tie.Need-enum-told
-enum-told c = search needs
 
 returns-2 : tie.Need-returns-2
 returns-2 c = no-cache _ _ _ _ (c .before .before .before .before .read-bytes .ensures) (omega arith) (told targetOf (c .before .before .target-in .ensures) (c .enum-told .given .1))
 
-target-in-requires-2 : tie.Need-target-in-requires-2
-target-in-requires-2 c κs = search needs
-
-enum-known-incomplete : tie.Need-enum-known-incomplete
-enum-known-incomplete c = search needs
-
-enum-told-2 : tie.Need-enum-told-2
-enum-told-2 c = search needs
-
 returns-3 : tie.Need-returns-3
 returns-3 c = no-incomplete _ _ _ _ (c .before .before .before .before .before .before .before .before .read-bytes .ensures) (omega arith) _ (told targetOf (c .before .before .before .before .before .before .target-in .ensures) (c .before .before .before .before .cache .given .1)) (told targetOf (c .before .before .target-in2 .ensures) (c .enum-told2 .given .1))
-
-target-in-requires-3 : tie.Need-target-in-requires-3
-target-in-requires-3 c κs = search needs
-
-enum-known-completion : tie.Need-enum-known-completion
-enum-known-completion c = search needs
-
-enum-told-3 : tie.Need-enum-told-3
-enum-told-3 c = search needs
 
 returns-4 : tie.Need-returns-4
 returns-4 c = no-completion _ _ _ _ (c .before .before .before .before .before .before .before .before .before .before .before .before .read-bytes .ensures) (omega arith) _ (told targetOf (c .before .before .before .before .before .before .before .before .before .before .target-in .ensures) (c .before .before .before .before .before .before .before .before .cache .given .1)) _ (told targetOf (c .before .before .before .before .before .before .target-in2 .ensures) (c .before .before .before .before .incomplete .given .1)) (told targetOf (c .before .before .target-in3 .ensures) (c .enum-told3 .given .1))
@@ -57,18 +27,5 @@ pub singleton-metadata-init-spec : {M : Type 1} → statement M
 singleton-metadata-init-spec =
     tie.close
     (tie.spec
-    read-bytes-requires
-    returns
-    target-in-requires
-    enum-known-cache
-    enum-told
-    returns-2
-    target-in-requires-2
-    enum-known-incomplete
-    enum-told-2
-    returns-3
-    target-in-requires-3
-    enum-known-completion
-    enum-told-3
-    returns-4
-    returns-5)
+    (λ c κs. search needs) returns (λ c κs. search needs) (λ c. search needs) (λ c. search needs) returns-2 (λ c κs. search needs) (λ c. search needs)
+    (λ c. search needs) returns-3 (λ c κs. search needs) (λ c. search needs) (λ c. search needs) returns-4 returns-5)

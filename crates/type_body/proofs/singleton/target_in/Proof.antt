@@ -6,23 +6,11 @@ use borrow.Author.Needs.{needs}
 use Rattle.type_body.proofs.singleton.target_in.Statement.{statement}
 use Rattle.type_body.proofs.singleton.target_in.Tie as tie
 
-u32-at-requires : tie.Need-u32-at-requires
-u32-at-requires c κs = search needs
-
 returns : tie.Need-returns
 returns c = zero-target _ _ _ _ (c .before .u32-at .ensures) (c .if1 .taken)
 
-sub-if2 : tie.Need-sub-if2
-sub-if2 c = search needs
-
 returns-2 : tie.Need-returns-2
 returns-2 c = target-wraps _ _ _ _ (c .before .before .u32-at .ensures) (c .before .if1 .left) (omega arith)
-
-add-pointer-in : tie.Need-add-pointer-in
-add-pointer-in c = search needs
-
-pointer-in-requires : tie.Need-pointer-in-requires
-pointer-in-requires c κs = search needs
 
 returns-3 : tie.Need-returns-3
 returns-3 c = target-at _ _ _ _ (c .before .before .before .u32-at .ensures) (c .before .before .if1 .left) _ (c .pointer-in .ensures) (omega arith)
@@ -31,10 +19,4 @@ pub target-in-spec : {M : Type 1} → statement M
 target-in-spec =
     tie.close
     (tie.spec
-    u32-at-requires
-    returns
-    sub-if2
-    returns-2
-    add-pointer-in
-    pointer-in-requires
-    returns-3)
+    (λ c κs. search needs) returns (λ c. search needs) returns-2 (λ c. search needs) (λ c κs. search needs) returns-3)

@@ -6,15 +6,6 @@ use borrow.Author.Needs.{needs}
 use Rattle.type_lines.proofs.digits.digit_of.Statement.{statement}
 use Rattle.type_lines.proofs.digits.digit_of.Tie as tie
 
-cast-d : tie.Need-cast-d
-cast-d c = search needs
-
-add-result : tie.Need-add-result
-add-result c = search needs
-
-add-result-2 : tie.Need-add-result-2
-add-result-2 c = search needs
-
 returns : tie.Need-returns
 returns c = digit-low _ (omega arith)
 
@@ -22,4 +13,5 @@ returns-2 : tie.Need-returns-2
 returns-2 c = digit-high _ (omega arith)
 
 pub digit-of-spec : {M : Type 1} → statement M
-digit-of-spec = tie.close (tie.spec cast-d add-result add-result-2 returns returns-2)
+digit-of-spec = tie.close (tie.spec
+    (λ c. search needs) (λ c. search needs) (λ c. search needs) returns returns-2)

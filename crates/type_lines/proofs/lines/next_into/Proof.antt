@@ -10,32 +10,8 @@ use Rattle.type_lines.proofs.lines.next_into.Tie as tie
 returns : tie.Need-returns
 returns c = step-done _ _ _ _ _ _ (c .if1 .taken)
 
-next-requires : tie.Need-next-requires
-next-requires c κs = search needs
-
-enum-known-row : tie.Need-enum-known-row
-enum-known-row c = search needs
-
-put-row-requires : tie.Need-put-row-requires
-put-row-requires c κs = search needs
-
-wrapping-add-usize-requires : tie.Need-wrapping-add-usize-requires
-wrapping-add-usize-requires c κs = search needs
-
-enum-told : tie.Need-enum-told
-enum-told c = search needs
-
-put-end-requires : tie.Need-put-end-requires
-put-end-requires c κs = search needs
-
-same-length : tie.Need-same-length
-same-length c = search needs
-
 returns-2 : tie.Need-returns-2
 returns-2 c = step-row _ _ _ _ _ _ _ _ (c .before .before .before .before .before .before .before .before .before .if1 .left) _ _ (told (typeStepOf _) (c .before .before .before .before .before .before .before .before .next .ensures) (c .before .before .before .before .before .before .row .given .1)) (c .before .before .before .put-row .ensures) (c .wrapping-add-usize .ensures)
-
-same-length-2 : tie.Need-same-length-2
-same-length-2 c = search needs
 
 returns-3 : tie.Need-returns-3
 returns-3 c = step-end _ _ _ _ _ _ _ _ (c .before .before .before .before .before .before .before .if1 .left) (told (typeStepOf _) (c .before .before .before .before .before .before .next .ensures) (c .before .before .before .before .enum-told .given .1)) (c .before .before .put-end .ensures)
@@ -44,14 +20,5 @@ pub next-into-spec : {M : Type 1} → statement M
 next-into-spec =
     tie.close
     (tie.spec
-    returns
-    next-requires
-    enum-known-row
-    put-row-requires
-    wrapping-add-usize-requires
-    enum-told
-    put-end-requires
-    same-length
-    returns-2
-    same-length-2
-    returns-3)
+    returns (λ c κs. search needs) (λ c. search needs) (λ c κs. search needs) (λ c κs. search needs) (λ c. search needs) (λ c κs. search needs)
+    (λ c. search needs) returns-2 (λ c. search needs) returns-3)

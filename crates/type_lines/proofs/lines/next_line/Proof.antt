@@ -8,11 +8,9 @@ use Rattle.type_lines.proofs.lines.next_line.Tie as tie
 returns : tie.Need-returns
 returns c = line-ragged _ _ _ (c .if1 .taken)
 
-next-into-requires : tie.Need-next-into-requires
-next-into-requires c κs = search needs
-
 returns-2 : tie.Need-returns-2
 returns-2 c = line-whole _ _ _ _ _ (c .next-into .ensures .0, c .next-into .ensures .1) (c .before .before .if1 .left)
 
 pub next-line-spec : {M : Type 1} → statement M
-next-line-spec = tie.close (tie.spec returns next-into-requires returns-2)
+next-line-spec = tie.close (tie.spec
+    returns (λ c κs. search needs) returns-2)

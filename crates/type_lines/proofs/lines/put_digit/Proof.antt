@@ -6,21 +6,10 @@ use borrow.Author.Needs.{needs}
 use Rattle.type_lines.proofs.lines.put_digit.Statement.{statement}
 use Rattle.type_lines.proofs.lines.put_digit.Tie as tie
 
-digit-of-requires : tie.Need-digit-of-requires
-digit-of-requires c κs = search needs
-
-slice-aggregate-put : tie.Need-slice-aggregate-put
-slice-aggregate-put c = search needs
-
-put-requires : tie.Need-put-requires
-put-requires c κs = search needs
-
-same-length : tie.Need-same-length
-same-length c = search needs
-
 returns : tie.Need-returns
 returns c = put-one _ _ _ _ _ _ (c .before .before .put .ensures .0) (c .before .before .put .ensures .1) (c .before .before .before .before .before .digit-of .ensures) (omega arith) (omega arith)
 
 pub put-digit-spec : {M : Type 1} → statement M
 put-digit-spec =
-    tie.close (tie.spec digit-of-requires slice-aggregate-put put-requires same-length returns)
+    tie.close (tie.spec
+    (λ c κs. search needs) (λ c. search needs) (λ c κs. search needs) (λ c. search needs) returns)

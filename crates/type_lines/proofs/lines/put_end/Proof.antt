@@ -8,25 +8,10 @@ use borrow.Author.Needs.{needs}
 use Rattle.type_lines.proofs.lines.put_end.Statement.{statement}
 use Rattle.type_lines.proofs.lines.put_end.Tie as tie
 
-slice-aggregate-put : tie.Need-slice-aggregate-put
-slice-aggregate-put c = search needs
-
-put-requires : tie.Need-put-requires
-put-requires c κs = search needs
-
 put-decimal-requires : tie.Need-put-decimal-requires
 put-decimal-requires c κs =
     let u = put-fits _ _ _ _ _ (c .before .before .before .put .ensures .0) (c .before .before .before .put .ensures .1) (omega arith) in
     omega (arith, u .ends, decimal-length 20 (c .before .before .before .before .before .before .before .args .given), c .before .before .before .put .kept)
-
-slice-aggregate-put-2 : tie.Need-slice-aggregate-put-2
-slice-aggregate-put-2 c = search needs
-
-put-requires-2 : tie.Need-put-requires-2
-put-requires-2 c κs = search needs
-
-same-length : tie.Need-same-length
-same-length c = search needs
 
 returns : tie.Need-returns
 returns c =
@@ -37,10 +22,4 @@ pub put-end-spec : {M : Type 1} → statement M
 put-end-spec =
     tie.close
     (tie.spec
-    slice-aggregate-put
-    put-requires
-    put-decimal-requires
-    slice-aggregate-put-2
-    put-requires-2
-    same-length
-    returns)
+    (λ c. search needs) (λ c κs. search needs) put-decimal-requires (λ c. search needs) (λ c κs. search needs) (λ c. search needs) returns)

@@ -6,22 +6,10 @@ use borrow.Author.Needs.{needs}
 use Rattle.type_lines.proofs.lines.put_row.Statement.{statement}
 use Rattle.type_lines.proofs.lines.put_row.Tie as tie
 
-put-head-requires : tie.Need-put-head-requires
-put-head-requires c κs = search needs
-
 put-name-requires : tie.Need-put-name-requires
 put-name-requires c κs =
     let row = c .before .before .before .before .before .before .before .before .args .row in
     omega (arith, c .before .before .before .put-head .ensures .ends, c .before .before .before .put-head .kept, head-length (row .address) (row .flags))
-
-slice-aggregate-put : tie.Need-slice-aggregate-put
-slice-aggregate-put c = search needs
-
-put-requires : tie.Need-put-requires
-put-requires c κs = search needs
-
-same-length : tie.Need-same-length
-same-length c = search needs
 
 returns : tie.Need-returns
 returns c =
@@ -32,9 +20,4 @@ pub put-row-spec : {M : Type 1} → statement M
 put-row-spec =
     tie.close
     (tie.spec
-    put-head-requires
-    put-name-requires
-    slice-aggregate-put
-    put-requires
-    same-length
-    returns)
+    (λ c κs. search needs) put-name-requires (λ c. search needs) (λ c κs. search needs) (λ c. search needs) returns)

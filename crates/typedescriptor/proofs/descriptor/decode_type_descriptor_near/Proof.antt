@@ -8,38 +8,14 @@ use borrow.Author.Needs.{needs}
 use Rattle.typedescriptor.proofs.descriptor.decode_type_descriptor_near.Statement.{statement}
 use Rattle.typedescriptor.proofs.descriptor.decode_type_descriptor_near.Tie as tie
 
-read-bytes-near-requires : tie.Need-read-bytes-near-requires
-read-bytes-near-requires c κs = search needs
-
 returns : tie.Need-returns
 returns c = no-header _ _ _ _ (c .before .read-bytes-near .ensures) (omega arith)
 
 returns-2 : tie.Need-returns-2
 returns-2 c = no-slot _ _ _ _ (c .before .before .read-bytes-near .ensures) (omega arith) (omega arith)
 
-add-pointer-in : tie.Need-add-pointer-in
-add-pointer-in c = search needs
-
-pointer-in-requires : tie.Need-pointer-in-requires
-pointer-in-requires c κs = search needs
-
-read-cstr-near-requires : tie.Need-read-cstr-near-requires
-read-cstr-near-requires c κs = search needs
-
-enum-known-place : tie.Need-enum-known-place
-enum-known-place c = search needs
-
 u32-at-requires : tie.Need-u32-at-requires
 u32-at-requires c κs = search needs
-
-add-address-in : tie.Need-add-address-in
-add-address-in c = search needs
-
-address-in-requires : tie.Need-address-in-requires
-address-in-requires c κs = search needs
-
-enum-told : tie.Need-enum-told
-enum-told c = search needs
 
 returns-3 : tie.Need-returns-3
 returns-3 c =
@@ -53,16 +29,5 @@ pub decode-type-descriptor-near-spec : {M : Type 1} → statement M
 decode-type-descriptor-near-spec =
     tie.close
     (tie.spec
-    read-bytes-near-requires
-    returns
-    returns-2
-    add-pointer-in
-    pointer-in-requires
-    read-cstr-near-requires
-    enum-known-place
-    u32-at-requires
-    add-address-in
-    address-in-requires
-    enum-told
-    returns-3
-    returns-4)
+    (λ c κs. search needs) returns returns-2 (λ c. search needs) (λ c κs. search needs) (λ c κs. search needs) (λ c. search needs) u32-at-requires
+    (λ c. search needs) (λ c κs. search needs) (λ c. search needs) returns-3 returns-4)

@@ -7,14 +7,9 @@ use borrow.Author.Needs.{needs}
 use Rattle.typedescriptor.proofs.iter.slot_row.Statement.{statement}
 use Rattle.typedescriptor.proofs.iter.slot_row.Tie as tie
 
-empty-requires : tie.Need-empty-requires
-empty-requires c κs = search needs
-
-slot-row-near-requires : tie.Need-slot-row-near-requires
-slot-row-near-requires c κs = search needs
-
 returns : tie.Need-returns
 returns c = c .slot-row-near .ensures ∙ run-mapped _ _ _ (empty-mapped _ _ (c .before .empty .ensures)) _
 
 pub slot-row-spec : {M : Type 1} → statement M
-slot-row-spec = tie.close (tie.spec empty-requires slot-row-near-requires returns)
+slot-row-spec = tie.close (tie.spec
+    (λ c κs. search needs) (λ c κs. search needs) returns)

@@ -14,37 +14,10 @@ use Rattle.typedescriptor.proofs.iter.slot_row_near.Tie as tie
 returns : tie.Need-returns
 returns c = past-slots _ _ _ _ _ (omega arith)
 
-mul-off : tie.Need-mul-off
-mul-off c = search needs
-
-add-pointer : tie.Need-add-pointer
-add-pointer c = search needs
-
-sub-pointer : tie.Need-sub-pointer
-sub-pointer c = search needs
-
-part-pointer-start : tie.Need-part-pointer-start
-part-pointer-start c = search needs
-
-part-pointer-end : tie.Need-part-pointer-end
-part-pointer-end c = search needs
-
-u32-at-requires : tie.Need-u32-at-requires
-u32-at-requires c κs = search needs
-
 returns-2 : tie.Need-returns-2
 returns-2 c =
     let p = c .before .before .before .before .before .before .before in
     zero-slot _ _ _ _ _ (sym (unsigned-part 4 (now (p .args .types)) (4 * p .args .slot) _ refl (omega arith)) ∙ sym (c .before .u32-at .ensures) ∙ c .if2 .taken) (omega arith)
-
-wrapping-add-u64-requires : tie.Need-wrapping-add-u64-requires
-wrapping-add-u64-requires c κs = search needs
-
-pointer-in-requires : tie.Need-pointer-in-requires
-pointer-in-requires c κs = search needs
-
-decode-type-descriptor-near-requires : tie.Need-decode-type-descriptor-near-requires
-decode-type-descriptor-near-requires c κs = search needs
 
 returns-3 : tie.Need-returns-3
 returns-3 c =
@@ -56,15 +29,5 @@ pub slot-row-near-spec : {M : Type 1} → statement M
 slot-row-near-spec =
     tie.close
     (tie.spec
-    returns
-    mul-off
-    add-pointer
-    sub-pointer
-    part-pointer-start
-    part-pointer-end
-    u32-at-requires
-    returns-2
-    wrapping-add-u64-requires
-    pointer-in-requires
-    decode-type-descriptor-near-requires
-    returns-3)
+    returns (λ c. search needs) (λ c. search needs) (λ c. search needs) (λ c. search needs) (λ c. search needs) (λ c κs. search needs) returns-2
+    (λ c κs. search needs) (λ c κs. search needs) (λ c κs. search needs) returns-3)

@@ -8,39 +8,9 @@ use borrow.Author.Needs.{needs}
 use Rattle.util.proofs.big_endian.read_u64_be_at.Statement.{statement}
 use Rattle.util.proofs.big_endian.read_u64_be_at.Tie as tie
 
-read-u32-be-at-requires : tie.Need-read-u32-be-at-requires
-read-u32-be-at-requires c κs = search needs
-
-enum-known-high : tie.Need-enum-known-high
-enum-known-high c = search needs
-
 add-read-u32-be-at : tie.Need-add-read-u32-be-at
 add-read-u32-be-at c =
     omega (arith, big-within 4 _ _ _ (told u32Value (c .before .before .before .read-u32-be-at .ensures) (c .before .high .given .1)))
-
-read-u32-be-at-requires-2 : tie.Need-read-u32-be-at-requires-2
-read-u32-be-at-requires-2 c κs = search needs
-
-enum-known-low : tie.Need-enum-known-low
-enum-known-low c = search needs
-
-cast-t10 : tie.Need-cast-t10
-cast-t10 c = search needs
-
-cast-t11 : tie.Need-cast-t11
-cast-t11 c = search needs
-
-mul-t12 : tie.Need-mul-t12
-mul-t12 c = search needs
-
-add-t13 : tie.Need-add-t13
-add-t13 c = search needs
-
-enum-told : tie.Need-enum-told
-enum-told c = search needs
-
-enum-told-2 : tie.Need-enum-told-2
-enum-told-2 c = search needs
 
 returns : tie.Need-returns
 returns c =
@@ -59,17 +29,5 @@ pub read-u64-be-at-spec : {M : Type 1} → statement M
 read-u64-be-at-spec =
     tie.close
     (tie.spec
-    read-u32-be-at-requires
-    enum-known-high
-    add-read-u32-be-at
-    read-u32-be-at-requires-2
-    enum-known-low
-    cast-t10
-    cast-t11
-    mul-t12
-    add-t13
-    enum-told
-    enum-told-2
-    returns
-    returns-2
-    returns-3)
+    (λ c κs. search needs) (λ c. search needs) add-read-u32-be-at (λ c κs. search needs) (λ c. search needs) (λ c. search needs) (λ c. search needs)
+    (λ c. search needs) (λ c. search needs) (λ c. search needs) (λ c. search needs) returns returns-2 returns-3)

@@ -6,11 +6,9 @@ use borrow.Author.Needs.{needs}
 use Rattle.util.proofs.cstr.cstr_from_fixed.Statement.{statement}
 use Rattle.util.proofs.cstr.cstr_from_fixed.Tie as tie
 
-cstr-at-requires : tie.Need-cstr-at-requires
-cstr-at-requires c κs = search needs
-
 returns : tie.Need-returns
 returns c = c .cstr-at .ensures ∙ fixed-text _
 
 pub cstr-from-fixed-spec : {M : Type 1} → statement M
-cstr-from-fixed-spec = tie.close (tie.spec cstr-at-requires returns)
+cstr-from-fixed-spec = tie.close (tie.spec
+    (λ c κs. search needs) returns)

@@ -11,24 +11,6 @@ use Rattle.util.proofs.cstr.read_cstr_at.Tie as tie
 returns : tie.Need-returns
 returns c = text-past _ _ (omega arith)
 
-sub-scan-text : tie.Need-sub-scan-text
-sub-scan-text c = search needs
-
-part-scan-text-start : tie.Need-part-scan-text-start
-part-scan-text-start c = search needs
-
-part-scan-text-end : tie.Need-part-scan-text-end
-part-scan-text-end c = search needs
-
-scan-text-requires : tie.Need-scan-text-requires
-scan-text-requires c κs = search needs
-
-enum-known-length : tie.Need-enum-known-length
-enum-known-length c = search needs
-
-enum-told : tie.Need-enum-told
-enum-told c = search needs
-
 returns-2 : tie.Need-returns-2
 returns-2 c = text-scanned _ _ _ (told scanned (c .before .before .before .scan-text .ensures) (c .before .length .given .1)) (omega arith)
 
@@ -39,12 +21,5 @@ pub read-cstr-at-spec : {M : Type 1} → statement M
 read-cstr-at-spec =
     tie.close
     (tie.spec
-    returns
-    sub-scan-text
-    part-scan-text-start
-    part-scan-text-end
-    scan-text-requires
-    enum-known-length
-    enum-told
-    returns-2
+    returns (λ c. search needs) (λ c. search needs) (λ c. search needs) (λ c κs. search needs) (λ c. search needs) (λ c. search needs) returns-2
     returns-3)

@@ -8,15 +8,10 @@ use borrow.Author.Needs.{needs}
 use Rattle.util.proofs.header.address_in.Statement.{statement}
 use Rattle.util.proofs.header.address_in.Tie as tie
 
-i32-at-requires : tie.Need-i32-at-requires
-i32-at-requires c κs = search needs
-
-relative-address-requires : tie.Need-relative-address-requires
-relative-address-requires c κs = search needs
-
 returns : tie.Need-returns
 returns c =
     c .relative-address .ensures ∙ ap (relativeAddress _) (toZ-ofZ {w = w32} (record { sfits = c .before .i32-at .ok }) ∙ c .before .i32-at .ensures)
 
 pub address-in-spec : {M : Type 1} → statement M
-address-in-spec = tie.close (tie.spec i32-at-requires relative-address-requires returns)
+address-in-spec = tie.close (tie.spec
+    (λ c κs. search needs) (λ c κs. search needs) returns)

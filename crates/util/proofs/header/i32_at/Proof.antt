@@ -11,15 +11,6 @@ use borrow.Author.Needs.{needs}
 use Rattle.util.proofs.header.i32_at.Statement.{statement}
 use Rattle.util.proofs.header.i32_at.Tie as tie
 
-read-i32-le-at-requires : tie.Need-read-i32-le-at-requires
-read-i32-le-at-requires c κs = search needs
-
-enum-known-n : tie.Need-enum-known-n
-enum-known-n c = search needs
-
-enum-told : tie.Need-enum-told
-enum-told c = search needs
-
 returns : tie.Need-returns
 returns c =
     toZ-ofZ {w = w32} (record { sfits = omega arith })
@@ -29,4 +20,5 @@ returns-2 : tie.Need-returns-2
 returns-2 c = signed-in 4 _ _ _ (told i32Value (c .before .before .read-i32-le-at .ensures) (c .enum-told .given .1))
 
 pub i32-at-spec : {M : Type 1} → statement M
-i32-at-spec = tie.close (tie.spec read-i32-le-at-requires enum-known-n enum-told returns returns-2)
+i32-at-spec = tie.close (tie.spec
+    (λ c κs. search needs) (λ c. search needs) (λ c. search needs) returns returns-2)

@@ -7,15 +7,6 @@ use borrow.Author.Needs.{needs}
 use Rattle.util.proofs.header.u32_at.Statement.{statement}
 use Rattle.util.proofs.header.u32_at.Tie as tie
 
-read-u32-le-at-requires : tie.Need-read-u32-le-at-requires
-read-u32-le-at-requires c κs = search needs
-
-enum-known-n : tie.Need-enum-known-n
-enum-known-n c = search needs
-
-enum-told : tie.Need-enum-told
-enum-told c = search needs
-
 returns : tie.Need-returns
 returns c = unsigned-in 4 _ _ _ (told u32Value (c .before .before .before .read-u32-le-at .ensures) (c .before .n .given .1))
 
@@ -23,4 +14,5 @@ returns-2 : tie.Need-returns-2
 returns-2 c = unsigned-in 4 _ _ _ (told u32Value (c .before .before .read-u32-le-at .ensures) (c .enum-told .given .1))
 
 pub u32-at-spec : {M : Type 1} → statement M
-u32-at-spec = tie.close (tie.spec read-u32-le-at-requires enum-known-n enum-told returns returns-2)
+u32-at-spec = tie.close (tie.spec
+    (λ c κs. search needs) (λ c. search needs) (λ c. search needs) returns returns-2)

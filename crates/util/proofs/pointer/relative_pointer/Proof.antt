@@ -9,9 +9,6 @@ use Rattle.util.proofs.pointer.relative_pointer.Tie as tie
 cast-wrapping-add-u64 : tie.Need-cast-wrapping-add-u64
 cast-wrapping-add-u64 c = forward-cast _ (c .before .fits .offset) (c .if1 .taken)
 
-wrapping-add-u64-requires : tie.Need-wrapping-add-u64-requires
-wrapping-add-u64-requires c κs = search needs
-
 cast-wrapping-sub-u64 : tie.Need-cast-wrapping-sub-u64
 cast-wrapping-sub-u64 c = widened _ (c .before .fits .offset)
 
@@ -20,9 +17,6 @@ sub-wrapping-sub-u64 c = negated-fits _ (c .before .fits .offset) (c .if1 .left)
 
 cast-wrapping-sub-u64-2 : tie.Need-cast-wrapping-sub-u64-2
 cast-wrapping-sub-u64-2 c = back-cast _ (c .before .fits .offset) (c .if1 .left)
-
-wrapping-sub-u64-requires : tie.Need-wrapping-sub-u64-requires
-wrapping-sub-u64-requires c κs = search needs
 
 returns : tie.Need-returns
 returns c = forward _ (c .before .before .fits .offset) (c .before .if1 .taken) _ _ (c .wrapping-add-u64 .ensures)
@@ -34,11 +28,5 @@ pub relative-pointer-spec : {M : Type 1} → statement M
 relative-pointer-spec =
     tie.close
     (tie.spec
-    cast-wrapping-add-u64
-    wrapping-add-u64-requires
-    cast-wrapping-sub-u64
-    sub-wrapping-sub-u64
-    cast-wrapping-sub-u64-2
-    wrapping-sub-u64-requires
-    returns
+    cast-wrapping-add-u64 (λ c κs. search needs) cast-wrapping-sub-u64 sub-wrapping-sub-u64 cast-wrapping-sub-u64-2 (λ c κs. search needs) returns
     returns-2)

@@ -10,18 +10,6 @@ use borrow.Author.Needs.{needs}
 use Rattle.util.proofs.read.read_i32_le_at.Statement.{statement}
 use Rattle.util.proofs.read.read_i32_le_at.Tie as tie
 
-read-u32-le-at-requires : tie.Need-read-u32-le-at-requires
-read-u32-le-at-requires c κs = search needs
-
-enum-known-n : tie.Need-enum-known-n
-enum-known-n c = search needs
-
-signed-requires : tie.Need-signed-requires
-signed-requires c κs = search needs
-
-enum-told : tie.Need-enum-told
-enum-told c = search needs
-
 returns : tie.Need-returns
 returns c =
     let p = c .before .before in
@@ -33,4 +21,5 @@ returns-2 c = signed-nothing 4 _ _ (told u32Value (c .before .before .read-u32-l
 pub read-i32-le-at-spec : {M : Type 1} → statement M
 read-i32-le-at-spec =
     tie.close
-    (tie.spec read-u32-le-at-requires enum-known-n signed-requires enum-told returns returns-2)
+    (tie.spec
+    (λ c κs. search needs) (λ c. search needs) (λ c κs. search needs) (λ c. search needs) returns returns-2)

@@ -6,12 +6,6 @@ use borrow.Author.Needs.{needs}
 use Rattle.util.proofs.read.signed.Statement.{statement}
 use Rattle.util.proofs.read.signed.Tie as tie
 
-cast-result : tie.Need-cast-result
-cast-result c = search needs
-
-cast-result-2 : tie.Need-cast-result-2
-cast-result-2 c = search needs
-
 sub-result : tie.Need-sub-result
 sub-result c = minus-fits (c .before .args .n) (omega arith) (omega arith)
 
@@ -26,4 +20,5 @@ returns-2 c = twos-high _ (omega arith) (omega arith)
 
 pub signed-spec : {M : Type 1} → statement M
 signed-spec =
-    tie.close (tie.spec cast-result cast-result-2 sub-result cast-result-3 returns returns-2)
+    tie.close (tie.spec
+    (λ c. search needs) (λ c. search needs) sub-result cast-result-3 returns returns-2)

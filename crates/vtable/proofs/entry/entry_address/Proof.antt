@@ -8,11 +8,6 @@ use Rattle.vtable.proofs.entry.entry_address.Tie as tie
 mul-wrapping-add-u64 : tie.Need-mul-wrapping-add-u64
 mul-wrapping-add-u64 c = record { fits = product (search needs) (search needs) }
 
-wrapping-add-u64-requires : tie.Need-wrapping-add-u64-requires
-wrapping-add-u64-requires c κs = search needs
-
-returns : tie.Need-returns
-returns c = search needs
-
 pub entry-address-spec : {M : Type 1} → statement M
-entry-address-spec = tie.close (tie.spec mul-wrapping-add-u64 wrapping-add-u64-requires returns)
+entry-address-spec = tie.close (tie.spec
+    mul-wrapping-add-u64 (λ c κs. search needs) (λ c. search needs))

@@ -11,64 +11,25 @@ use borrow.Author.Needs.{needs}
 use Rattle.vtable.proofs.iter.table_entry.Statement.{statement}
 use Rattle.vtable.proofs.iter.table_entry.Tie as tie
 
-enum-told : tie.Need-enum-told
-enum-told c = search needs
-
-u32-at-requires : tie.Need-u32-at-requires
-u32-at-requires c κs = search needs
-
-cast-t6 : tie.Need-cast-t6
-cast-t6 c = search needs
-
 add-address-in : tie.Need-add-address-in
 add-address-in c =
     let f : c .before .before .before .before .args .address + (entrySize (kindLayout EntryKind.Method) - 4) < 2 ^ 64 = case (λ (k : EntryKind). c .before .before .before .before .args .address + (entrySize (kindLayout k) - 4) < 2 ^ 64) (c .before .before .before .before .pre) (c .before .enum-told .given .1) in
     record { fits = omega arith }
-
-address-in-requires : tie.Need-address-in-requires
-address-in-requires c κs = search needs
-
-enum-told-2 : tie.Need-enum-told-2
-enum-told-2 c = search needs
-
-address-in-requires-2 : tie.Need-address-in-requires-2
-address-in-requires-2 c κs = search needs
 
 add-address-in-2 : tie.Need-add-address-in-2
 add-address-in-2 c =
     let f : c .before .before .before .before .args .address + (entrySize (kindLayout EntryKind.Override) - 4) < 2 ^ 64 = case (λ (k : EntryKind). c .before .before .before .before .args .address + (entrySize (kindLayout k) - 4) < 2 ^ 64) (c .before .before .before .before .pre) (c .before .enum-told2 .given .1) in
     record { fits = omega arith }
 
-address-in-requires-3 : tie.Need-address-in-requires-3
-address-in-requires-3 c κs = search needs
-
 add-address-in-3 : tie.Need-add-address-in-3
 add-address-in-3 c =
     let f : c .before .before .before .before .before .args .address + (entrySize (kindLayout EntryKind.Override) - 4) < 2 ^ 64 = case (λ (k : EntryKind). c .before .before .before .before .before .args .address + (entrySize (kindLayout k) - 4) < 2 ^ 64) (c .before .before .before .before .before .pre) (c .before .before .enum-told2 .given .1) in
     record { fits = omega arith }
 
-address-in-requires-4 : tie.Need-address-in-requires-4
-address-in-requires-4 c κs = search needs
-
-enum-told-3 : tie.Need-enum-told-3
-enum-told-3 c = search needs
-
-address-in-requires-5 : tie.Need-address-in-requires-5
-address-in-requires-5 c κs = search needs
-
 add-address-in-4 : tie.Need-add-address-in-4
 add-address-in-4 c =
     let f : c .before .before .before .before .args .address + (entrySize (kindLayout EntryKind.DefaultOverride) - 4) < 2 ^ 64 = case (λ (k : EntryKind). c .before .before .before .before .args .address + (entrySize (kindLayout k) - 4) < 2 ^ 64) (c .before .before .before .before .pre) (c .before .enum-told3 .given .1) in
     record { fits = omega arith }
-
-address-in-requires-6 : tie.Need-address-in-requires-6
-address-in-requires-6 c κs = search needs
-
-enum-told-4 : tie.Need-enum-told-4
-enum-told-4 c = search needs
-
-address-in-requires-7 : tie.Need-address-in-requires-7
-address-in-requires-7 c κs = search needs
 
 returns : tie.Need-returns
 returns c = told-words _ EntryKind.Method _ _ (c .before .u32-at .result ∷ c .address-in .result ∷ []) (c .before .before .enum-told .given .1) (c .before .u32-at .ensures, (c .address-in .ensures, tt))
@@ -86,24 +47,6 @@ pub table-entry-spec : {M : Type 1} → statement M
 table-entry-spec =
     tie.close
     (tie.spec
-    enum-told
-    u32-at-requires
-    cast-t6
-    add-address-in
-    address-in-requires
-    enum-told-2
-    address-in-requires-2
-    add-address-in-2
-    address-in-requires-3
-    add-address-in-3
-    address-in-requires-4
-    enum-told-3
-    address-in-requires-5
-    add-address-in-4
-    address-in-requires-6
-    enum-told-4
-    address-in-requires-7
-    returns
-    returns-2
-    returns-3
-    returns-4)
+    (λ c. search needs) (λ c κs. search needs) (λ c. search needs) add-address-in (λ c κs. search needs) (λ c. search needs) (λ c κs. search needs)
+    add-address-in-2 (λ c κs. search needs) add-address-in-3 (λ c κs. search needs) (λ c. search needs) (λ c κs. search needs) add-address-in-4
+    (λ c κs. search needs) (λ c. search needs) (λ c κs. search needs) returns returns-2 returns-3 returns-4)

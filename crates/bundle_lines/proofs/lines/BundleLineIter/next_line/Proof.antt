@@ -11,21 +11,6 @@ use Rattle.bundle_lines.proofs.lines.BundleLineIter.next_line.Tie as ti
 returns : tie.Need-returns
 returns c = line-ragged _ _ _ (c .if1 .taken)
 
-enum-known-self : tie.Need-enum-known-self
-enum-known-self c = search needs
-
-rows-line-requires : tie.Need-rows-line-requires
-rows-line-requires c κs = search needs
-
-enum-known-self-2 : tie.Need-enum-known-self-2
-enum-known-self-2 c = search needs
-
-refused-line-requires : tie.Need-refused-line-requires
-refused-line-requires c κs = search needs
-
-enum-told : tie.Need-enum-told
-enum-told c = search needs
-
 returns-2 : tie.Need-returns-2
 returns-2 c = print-as _ _ _ _ _ _ _ (sym (ap pendingOf (c .before .before .before .self .given .1))) (c .rows-line .ensures .0, c .rows-line .ensures .1)
 
@@ -39,12 +24,4 @@ pub next-line-spec : {M : Type 1} → statement M
 next-line-spec =
     tie.close
     (tie.spec
-    returns
-    enum-known-self
-    rows-line-requires
-    enum-known-self-2
-    refused-line-requires
-    enum-told
-    returns-2
-    returns-3
-    returns-4)
+    returns (λ c. search needs) (λ c κs. search needs) (λ c. search needs) (λ c κs. search needs) (λ c. search needs) returns-2 returns-3 returns-4)

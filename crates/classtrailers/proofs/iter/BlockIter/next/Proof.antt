@@ -20,26 +20,11 @@ abbrev μ-loop : tie.MeasureT-loop
 loop-holds : tie.Need-loop-holds Inv-loop μ-loop
 loop-holds c = refl
 
-kind-there-requires : tie.Need-kind-there-requires Inv-loop μ-loop
-kind-there-requires c κs = search needs
-
-enum-known-kind : tie.Need-enum-known-kind Inv-loop μ-loop
-enum-known-kind c = search needs
-
 step-at-requires : tie.Need-step-at-requires Inv-loop μ-loop
 step-at-requires c κs = (omega arith, is-there _ _ _ (told kindReadOf (c .before .before .before .kind-there .ensures) (c .before .kind .given .1)) .1)
 
 returns : tie.Need-returns Inv-loop μ-loop
 returns c = next-there _ _ _ _ _ _ (is-there _ _ _ (told kindReadOf (c .before .before .before .before .kind-there .ensures) (c .before .before .kind .given .1)) .0) (c .step-at .ensures) (omega arith) ∙ sym (c .before .before .before .before .before .before .loop .inv)
-
-enum-told : tie.Need-enum-told Inv-loop μ-loop
-enum-told c = search needs
-
-add-row : tie.Need-add-row Inv-loop μ-loop
-add-row c = search needs
-
-loop-less : tie.Need-loop-less Inv-loop μ-loop
-loop-less c = search needs
 
 loop-again : tie.Need-loop-again Inv-loop μ-loop
 loop-again c = c .before .before .before .before .loop .inv ∙ next-absent _ _ _ _ _ (is-absent _ _ (told kindReadOf (c .before .before .kind-there .ensures) (c .enum-told .given .1))) (omega arith)
@@ -51,15 +36,5 @@ pub next-spec : {M : Type 1} → statement M
 next-spec =
     tie.close
     (tie.spec
-    Inv-loop
-    μ-loop
-    loop-holds
-    kind-there-requires
-    enum-known-kind
-    step-at-requires
-    returns
-    enum-told
-    add-row
-    loop-less
-    loop-again
-    returns-2)
+    Inv-loop μ-loop loop-holds (λ c κs. search needs) (λ c. search needs) step-at-requires returns (λ c. search needs) (λ c. search needs)
+    (λ c. search needs) loop-again returns-2)

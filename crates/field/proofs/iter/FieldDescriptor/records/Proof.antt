@@ -8,16 +8,11 @@ use borrow.Author.Needs.{needs}
 use Rattle.field.proofs.iter.FieldDescriptor.records.Statement.{statement}
 use Rattle.field.proofs.iter.FieldDescriptor.records.Tie as tie
 
-add-base-va : tie.Need-add-base-va
-add-base-va c = search needs
-
-cast-t5 : tie.Need-cast-t5
-cast-t5 c = search needs
-
 returns : tie.Need-returns
 returns c =
     let d = c .before .before .before .args .self in
     records-of d _ (⊎-elim (λ w. w .1 ∙ base-wraps (d .address) (omega arith)) (λ w. w .2 ∙ base-below (d .address) (omega arith)) (c .before .if1 .came))
 
 pub records-spec : {M : Type 1} → statement M
-records-spec = tie.close (tie.spec add-base-va cast-t5 returns)
+records-spec = tie.close (tie.spec
+    (λ c. search needs) (λ c. search needs) returns)

@@ -8,18 +8,6 @@ use borrow.Author.Needs.{needs}
 use Rattle.field.proofs.record.FieldRecordIter.locate.Statement.{statement}
 use Rattle.field.proofs.record.FieldRecordIter.locate.Tie as tie
 
-locate-requires : tie.Need-locate-requires
-locate-requires c κs = search needs
-
-enum-known-mapping : tie.Need-enum-known-mapping
-enum-known-mapping c = search needs
-
-enum-told : tie.Need-enum-told
-enum-told c = search needs
-
-empty-requires : tie.Need-empty-requires
-empty-requires c κs = search needs
-
 returns : tie.Need-returns
 returns c = case (Located (now (c .before .before .before .before .before .args .segments)) (c .before .before .before .before .before .args .self .«base_va»)) (c .before .before .before .locate .ensures) (c .before .mapping .given .1) .0
 
@@ -29,4 +17,5 @@ returns-2 c = empty-mapped _ _ (c .empty .ensures)
 pub locate-spec : {M : Type 1} → statement M
 locate-spec =
     tie.close
-    (tie.spec locate-requires enum-known-mapping enum-told empty-requires returns returns-2)
+    (tie.spec
+    (λ c κs. search needs) (λ c. search needs) (λ c. search needs) (λ c κs. search needs) returns returns-2)

@@ -11,17 +11,8 @@ use Rattle.field.proofs.record.FieldRecordIter.next.Tie as tie
 returns : tie.Need-returns
 returns c = record-end _ _ _ (omega arith)
 
-add-t9 : tie.Need-add-t9
-add-t9 c = search needs
-
-entry-bytes-requires : tie.Need-entry-bytes-requires
-entry-bytes-requires c κs = search needs
-
 returns-2 : tie.Need-returns-2
 returns-2 c = record-gives _ _ _ _ (no-entry _ _ (recordLayout _) _ _ (omega arith) _ (c .before .entry-bytes .ensures) (c .if2 .taken)) (omega arith)
-
-entry-address-requires : tie.Need-entry-address-requires
-entry-address-requires c κs = search needs
 
 field-record-requires : tie.Need-field-record-requires
 field-record-requires c κs = slots-below _ _ (recordLayout _) _ _ (omega arith) _ (c .before .before .entry-bytes .ensures) (c .before .if2 .left) _ (c .entry-address .ensures)
@@ -33,10 +24,4 @@ pub next-spec : {M : Type 1} → statement M
 next-spec =
     tie.close
     (tie.spec
-    returns
-    add-t9
-    entry-bytes-requires
-    returns-2
-    entry-address-requires
-    field-record-requires
-    returns-3)
+    returns (λ c. search needs) (λ c κs. search needs) returns-2 (λ c κs. search needs) field-record-requires returns-3)

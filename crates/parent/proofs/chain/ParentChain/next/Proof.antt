@@ -11,18 +11,6 @@ use Rattle.parent.proofs.chain.ParentChain.next.Tie as tie
 returns : tie.Need-returns
 returns c = chain-full _ _ _ _ (omega arith)
 
-read-context-requires : tie.Need-read-context-requires
-read-context-requires c κs = search needs
-
-enum-known-context : tie.Need-enum-known-context
-enum-known-context c = search needs
-
-add-t9 : tie.Need-add-t9
-add-t9 c = search needs
-
-enum-told : tie.Need-enum-told
-enum-told c = search needs
-
 returns-2 : tie.Need-returns-2
 returns-2 c = chain-goes-on _ _ _ _ _ (told (contextOf _) (c .before .before .before .read-context .ensures) (c .before .context .given .1)) (omega arith)
 
@@ -33,10 +21,4 @@ pub next-spec : {M : Type 1} → statement M
 next-spec =
     tie.close
     (tie.spec
-    returns
-    read-context-requires
-    enum-known-context
-    add-t9
-    enum-told
-    returns-2
-    returns-3)
+    returns (λ c κs. search needs) (λ c. search needs) (λ c. search needs) (λ c. search needs) returns-2 returns-3)

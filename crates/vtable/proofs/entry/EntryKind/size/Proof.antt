@@ -7,18 +7,6 @@ use borrow.Author.Needs.{needs}
 use Rattle.vtable.proofs.entry.EntryKind.size.Statement.{statement}
 use Rattle.vtable.proofs.entry.EntryKind.size.Tie as tie
 
-enum-told : tie.Need-enum-told
-enum-told c = search needs
-
-enum-told-2 : tie.Need-enum-told-2
-enum-told-2 c = search needs
-
-enum-told-3 : tie.Need-enum-told-3
-enum-told-3 c = search needs
-
-enum-told-4 : tie.Need-enum-told-4
-enum-told-4 c = search needs
-
 returns : tie.Need-returns
 returns c = ap (λ (k : EntryKind). entrySize (kindLayout k)) (sym (c .enum-told .given .1))
 
@@ -34,4 +22,5 @@ returns-4 c = ap (λ (k : EntryKind). entrySize (kindLayout k)) (sym (c .enum-to
 pub size-spec : {M : Type 1} → statement M
 size-spec =
     tie.close
-    (tie.spec enum-told enum-told-2 enum-told-3 enum-told-4 returns returns-2 returns-3 returns-4)
+    (tie.spec
+    (λ c. search needs) (λ c. search needs) (λ c. search needs) (λ c. search needs) returns returns-2 returns-3 returns-4)

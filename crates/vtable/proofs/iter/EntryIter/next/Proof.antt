@@ -10,23 +10,8 @@ use Rattle.vtable.proofs.iter.EntryIter.next.Tie as tie
 returns : tie.Need-returns
 returns c = let s = c .before .before .before .before in kind-end _ _ (s .args .kind) (s .args .self) (omega arith)
 
-moved-requires : tie.Need-moved-requires
-moved-requires c κs = search needs
-
-size-requires : tie.Need-size-requires
-size-requires c κs = search needs
-
-empty-requires : tie.Need-empty-requires
-empty-requires c κs = search needs
-
-entry-bytes-requires : tie.Need-entry-bytes-requires
-entry-bytes-requires c κs = search needs
-
 returns-2 : tie.Need-returns-2
 returns-2 c = let s = c .before .before .before .before .before .before .before .before .before in kind-unreadable _ _ (s .args .kind) (s .args .self) _ (c .before .before .before .size .ensures) _ (empty-mapped _ _ (c .before .before .empty .ensures)) _ (c .before .entry-bytes .ensures) _ (c .before .before .before .before .moved .ensures) (omega arith) (c .if2 .taken)
-
-entry-address-requires : tie.Need-entry-address-requires
-entry-address-requires c κs = search needs
 
 table-entry-requires : tie.Need-table-entry-requires
 table-entry-requires c κs = let s = c .before .before .before .before .before .before .before .before .before .before in kind-below _ _ (s .args .kind) (s .args .self) _ (c .before .before .before .before .size .ensures) _ (empty-mapped _ _ (c .before .before .before .empty .ensures)) _ (c .before .before .entry-bytes .ensures) (c .before .if2 .left) _ (c .entry-address .ensures)
@@ -38,12 +23,5 @@ pub next-spec : {M : Type 1} → statement M
 next-spec =
     tie.close
     (tie.spec
-    returns
-    moved-requires
-    size-requires
-    empty-requires
-    entry-bytes-requires
-    returns-2
-    entry-address-requires
-    table-entry-requires
-    returns-3)
+    returns (λ c κs. search needs) (λ c κs. search needs) (λ c κs. search needs) (λ c κs. search needs) returns-2 (λ c κs. search needs)
+    table-entry-requires returns-3)
