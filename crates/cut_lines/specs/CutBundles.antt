@@ -70,7 +70,7 @@ oak′ = 107 ∷ 0 ∷ 0 ∷ 0 ∷ 1 ∷ 0 ∷ take 107 oakImage ++ behind 113 4
 abbrev layout : ℕ → Layout
 layout n =
     record {
-      oakImage = part 6 n;
+      image = part 6 n;
       segments = part (n + 12) 32;
       types = record { address = 0x2000; part = part (n + 58) 4 };
       fields = record { address = 0; part = part 0 0 };
@@ -85,8 +85,8 @@ pub met : Met
 unfolding openBundle answer takeAt isAt bodyFits sectionIn littleEndian partOf numbers
 met =
     record {
-      clue-27 = record { whole = refl; opened = refl; oakImage = refl; segments = refl; types = refl; typesStart = refl };
-      oak-107 = record { whole = refl; opened = refl; oakImage = refl; segments = refl; types = refl; typesStart = refl };
+      clue-27 = record { whole = refl; opened = refl; image = refl; segments = refl; types = refl; typesStart = refl };
+      oak-107 = record { whole = refl; opened = refl; image = refl; segments = refl; types = refl; typesStart = refl };
     }
 
 -- ---- the premise
