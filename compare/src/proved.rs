@@ -1,4 +1,4 @@
-//! The proved side: the functions of crates/c_rows, each behind a safe function. A slice passes as a pointer and a length.
+//! The proved side: the functions of crates/c_rows and crates/c_listing, each behind a safe function. A slice passes as a pointer and a length.
 
 #[link(name = "c_rows", kind = "static")]
 unsafe extern "C" {
@@ -52,6 +52,10 @@ unsafe extern "C" {
         buffer_len: usize,
         out: &mut [u64; 1],
     ) -> u64;
+}
+
+#[link(name = "c_listing", kind = "static")]
+unsafe extern "C" {
     fn hodrupec_listing(
         image: *const u8,
         image_len: usize,

@@ -64,6 +64,10 @@ unsafe extern "C" {
         record: &[u64; 4],
         out: &mut [u64; 3],
     ) -> u64;
+}
+
+#[link(name = "c_named_records", kind = "static")]
+unsafe extern "C" {
     fn hodrupec_named_records(
         image: *const u8,
         image_len: usize,

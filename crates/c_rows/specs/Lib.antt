@@ -1,4 +1,2 @@
-pub mod AllRows
-pub mod AllRowsLaws
 pub mod Numbers
 pub mod NumbersLaws

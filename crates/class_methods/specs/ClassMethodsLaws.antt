@@ -14,7 +14,7 @@ use lib.Dec.{ltb, eqb}
 use borrow.Author.Tests.{lt-ltb, le-ltb, eq-eqb, ne-eqb, eqb-false}
 use borrow.Rule.Slice.PartMut.{midOf, putMid, mid-len, same-len-mid}
 use Rattle.util.specs.Buffer.{pasted, atStart}
-use Rattle.segment.specs.Mapping.{withMapping, Mapped}
+use Rattle.segment.specs.Mapping.{withMapping, TrueMapping}
 use Rattle.segment.specs.declared.segment.Mapping.{Mapping}
 use Rattle.runtime.specs.Reads.{run, andThen}
 use Rattle.runtime.specs.CallsLaws.{run-mapped}
@@ -37,7 +37,7 @@ use Rattle.class_methods.specs.ClassMethods.{methodTable, Class, classAt
 
 -- ---- the class of a slot
 
-module _ (image segments : List ℕ) (m : Mapping) (w : Mapped segments m) where
+module _ (image segments : List ℕ) (m : Mapping) (w : TrueMapping segments m) where
   kind-mapped : (k : BlockKind) (s : Option Start) → kindFrom image (withMapping m segments) k s ≡ kindFrom image segments k s
   kind-mapped k none = refl
   kind-mapped k (some s) = run-mapped image segments m w (block (s .trailing) (s .start) k)

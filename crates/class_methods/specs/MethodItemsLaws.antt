@@ -14,7 +14,7 @@ use Rattle.type_body.specs.Body.{Body, body}
 use Rattle.type_body.specs.Items.{trailers}
 use Rattle.type_body.specs.PathLaws.{blocks-start}
 use Rattle.vtable.specs.Entries.{method, start}
-use Rattle.vtable.specs.ListLaws.{listed}
+use Rattle.vtable.specs.ListLaws.{listedEntries}
 use Rattle.items.specs.Keys.{Sections, EntryKind, Key, Answer}
 use Rattle.items.specs.Items.{rowOfSlot, Table, tableOf, item}
 use Rattle.items.specs.ProgramLaws.{run-map}
@@ -79,14 +79,14 @@ module _ (image segments : List ℕ) (s : Sections) (i : ℕ) where
 
     -- its methods from the first on, up to the first that cannot be read: method `k` of them is item `k`
     pub class-methods-listed : slotClass image segments (s .types) (s .typesStart) i ≡ some c → (k : ℕ)
-        → Option·map Answer.entry (getElem? (listed image segments method (c .table .count) (start (c .table .base) (c .table .count))) k) ≡ run image segments (item s (Key.entry i EntryKind.methods k))
+        → Option·map Answer.entry (getElem? (listedEntries image segments method (c .table .count) (start (c .table .base) (c .table .count))) k) ≡ run image segments (item s (Key.entry i EntryKind.methods k))
     class-methods-listed e k =
         let w = class-listed e in
         items.entries-listed image segments s i EntryKind.methods (w .vtable) (w .is-vtable) (c .table) (w .is-table) (c .table .count) k (omega arith)
 
   -- and their numbers are those that are told of it
   pub class-methods-numbers : (c : Class)
-      → tableFrom image segments method (c .table .count) (methodsAt (c .table) 0) .numbers ≡ numbersOfAll entryNumbers (listed image segments method (c .table .count) (start (c .table .base) (c .table .count)))
+      → tableFrom image segments method (c .table .count) (methodsAt (c .table) 0) .numbers ≡ numbersOfAll entryNumbers (listedEntries image segments method (c .table .count) (start (c .table .base) (c .table .count)))
   class-methods-numbers c = table-listed entryNumbers image segments method (c .table .count) (methodsAt (c .table) 0) .0
 
   -- a slot without a class has no methods

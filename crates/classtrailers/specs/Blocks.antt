@@ -38,7 +38,7 @@ setBlock s n = record { kind = BlockKind.InvertibleProtocolSet; body = BlockBody
 
 -- a row of the table: when the block is there, how many header bytes are read, how long it is by them, whether it is recorded only if
 -- its end lies below 2^64, and what is recorded by its address and header
-pub record Row : Type 0 where
+pub record BlockRow : Type 0 where
   pub kind : BlockKind
   pub there : Trailing → Bool
   pub header : ℕ
@@ -47,11 +47,11 @@ pub record Row : Type 0 where
   pub recorded : ℕ → List ℕ → BlockBody
 
 -- a block without a header
-abbrev pub plain : BlockKind → (Trailing → Bool) → ℕ → Row
+abbrev pub plain : BlockKind → (Trailing → Bool) → ℕ → BlockRow
 plain k t n = record { kind = k; there = t; header = 0; size = λ _. n; bounded = false; recorded = λ a h. BlockBody.At a }
 
 -- one with a header
-abbrev pub headed : BlockKind → (Trailing → Bool) → ℕ → (List ℕ → ℕ) → (ℕ → List ℕ → BlockBody) → Row
+abbrev pub headed : BlockKind → (Trailing → Bool) → ℕ → (List ℕ → ℕ) → (ℕ → List ℕ → BlockBody) → BlockRow
 headed k t n s r = record { kind = k; there = t; header = n; size = s; bounded = true; recorded = r }
 
 -- the numbers in a header
@@ -59,7 +59,7 @@ abbrev pub u32In : List ℕ → ℕ → ℕ
 u32In h o = unsignedIn 4 h o
 
 -- one whose header is the number of its entries
-abbrev pub listed : BlockKind → (Trailing → Bool) → ℕ → Row
+abbrev pub listed : BlockKind → (Trailing → Bool) → ℕ → BlockRow
 listed k t n = headed k t 4 (λ h. 4 + n * u32In h 0) (λ a h. BlockBody.Table 0 (u32In h 0) (a + 4))
 
 -- `TargetTypeGenericContextDescriptorHeader`: 16 bytes, a byte for each parameter, padded to four, and 12 for each requirement
@@ -78,7 +78,7 @@ ofClass f t = t .isClass && f (typeFlags t)
 abbrev pub hasInitialization : ℕ → Trailing → Bool
 hasInitialization n t = eqb (low 2 (typeFlags t)) n
 
-abbrev pub blockTable : List Row
+abbrev pub blockTable : List BlockRow
 blockTable =
     headed BlockKind.Generic (λ t. isGeneric (t .flags)) 16 (λ h. genericSize (unsignedIn 2 h 8) (unsignedIn 2 h 10)) (λ a h. BlockBody.At a) ∷
     plain BlockKind.ResilientSuperclass (ofClass classHasResilientSuperclass) 4 ∷
@@ -101,7 +101,7 @@ blockTable =
     []
 
 -- the row with a number; past the table's end one that is never there
-unfoldable pub rowAt : ℕ → Row
+unfoldable pub rowAt : ℕ → BlockRow
 rowAt n = getD blockTable n (plain BlockKind.Generic (λ _. false) 0)
 
 -- ---- a block at an address
@@ -126,11 +126,11 @@ ended true b none = nothing
 ended true b (some e) = done (record { block = b; end = some e })
 ended false b e = done (record { block = b; end = e })
 
-unfoldable pub blockAt : Row → ℕ → Reads Ended
+unfoldable pub blockAt : BlockRow → ℕ → Reads Ended
 blockAt r a = readHeader a (r .header) (λ h. ended (r .bounded) (record { kind = r .kind; body = r .recorded a h }) (below (a + r .size h)))
 
 -- what is recorded of it
-unfoldable pub recordAt : Row → ℕ → Reads Block
+unfoldable pub recordAt : BlockRow → ℕ → Reads Block
 recordAt r a = bind (blockAt r a) (λ x. done (x .block))
 
 -- where the next one starts; the walk stops where it starts nowhere
@@ -138,12 +138,12 @@ abbrev pub somewhere : Option ℕ → Reads ℕ
 somewhere none = nothing
 somewhere (some e) = done e
 
-unfoldable pub endAt : Row → ℕ → Reads ℕ
+unfoldable pub endAt : BlockRow → ℕ → Reads ℕ
 endAt r a = bind (blockAt r a) (λ x. somewhere (x .end))
 
 -- ---- the block of a kind: the headers of those before it, and then its own
 
-unfoldable pub passed : Trailing → Row → ℕ → Reads ℕ
+unfoldable pub passed : Trailing → BlockRow → ℕ → Reads ℕ
 passed t r a = cond (r .there t) (endAt r a) (done a)
 
 -- where row `n` of a descriptor lies whose blocks start at an address: past the blocks of the rows before it that are there
@@ -170,7 +170,7 @@ rowNumber BlockKind.DefaultOverrideTable = 10
 
 -- the kind with a number in the table's order, and that kind if a descriptor has a block of it
 unfoldable pub kindNumbered : ℕ → Option BlockKind
-kindNumbered n = getElem? (map (λ (r : Row). r .kind) blockTable) n
+kindNumbered n = getElem? (map (λ (r : BlockRow). r .kind) blockTable) n
 
 unfoldable pub kindThere : Trailing → ℕ → Option BlockKind
 kindThere t n = cond (rowAt n .there t) (kindNumbered n) none
@@ -221,4 +221,4 @@ blocksOf image segments t start (k ∷ ks) = withBlock (run image segments (bloc
 
 -- those of all kinds, in the table's order
 unfoldable pub blocks : List ℕ → List ℕ → Trailing → ℕ → List Block
-blocks image segments t start = blocksOf image segments t start (map (λ (r : Row). r .kind) blockTable)
+blocks image segments t start = blocksOf image segments t start (map (λ (r : BlockRow). r .kind) blockTable)

@@ -16,7 +16,7 @@ use Rattle.runtime.specs.Reads.{done, run, andThen}
 use Rattle.runtime.specs.ReadsLaws.{run-bind}
 use Rattle.runtime.specs.Bytes.{bytesRead}
 use Rattle.runtime.specs.CallsLaws.{run-bytes, run-no-bytes}
-use Rattle.classtrailers.specs.Blocks.{Trailing, setBlock, Row, plain, blockTable, setBits, rowAt, below, Ended, ended, blockAt, recordAt, somewhere, endAt, passed, reached, blockIn, block, rowNumber, kindNumbered, kindThere, after, Step, stepAt, stepIn, nextBlock}
+use Rattle.classtrailers.specs.Blocks.{Trailing, setBlock, BlockRow, plain, blockTable, setBits, rowAt, below, Ended, ended, blockAt, recordAt, somewhere, endAt, passed, reached, blockIn, block, rowNumber, kindNumbered, kindThere, after, Step, stepAt, stepIn, nextBlock}
 use Rattle.classtrailers.specs.declared.block.Block.{Block}
 use Rattle.classtrailers.specs.declared.block.BlockBody.{BlockBody}
 use Rattle.classtrailers.specs.declared.block.BlockKind.{BlockKind}
@@ -96,11 +96,11 @@ past-end (a ∷ l) (suc n) h = past-end l n (omega arith)
 
 pub no-kind : (n : ℕ) → 11 ≤ n → none ≡ kindNumbered n
 unfolding kindNumbered
-no-kind n h = past-end (map (λ (r : Row). r .kind) blockTable) n h
+no-kind n h = past-end (map (λ (r : BlockRow). r .kind) blockTable) n h
 
 none-past : (n : ℕ) → none ≡ kindNumbered n → 11 ≤ n
 unfolding kindNumbered
-none-past n e = there (map (λ (r : Row). r .kind) blockTable) n e
+none-past n e = there (map (λ (r : BlockRow). r .kind) blockTable) n e
   where
     there : (l : List BlockKind) (n : ℕ) → none ≡ getElem? l n → length l ≤ n
     there [] n e = omega arith
@@ -166,7 +166,7 @@ module _ (t : Trailing) (n : ℕ) where
 pub ends-as : (b : Block) (x y : Option ℕ) → x ≡ y → _≡_ {A = Option Ended} (some (record { block = b; end = x })) (some (record { block = b; end = y }))
 ends-as b x y e = rw e
 
-module _ (image segments : List ℕ) (r : Row) (a : ℕ) (x : Option Ended) (e : x ≡ run image segments (blockAt r a)) where
+module _ (image segments : List ℕ) (r : BlockRow) (a : ℕ) (x : Option Ended) (e : x ≡ run image segments (blockAt r a)) where
   pub record-says : Option·map (λ y. y .block) x ≡ run image segments (recordAt r a)
   unfolding recordAt run
   record-says = sym (run-bind image segments (λ y. done (y .block)) (blockAt r a) ∙ rw (← e) (go x))
@@ -188,7 +188,7 @@ module _ (image segments : List ℕ) (r : Row) (a : ℕ) (x : Option Ended) (e :
       go (some y) = at (y .end)
 
 -- with a header of one byte more than `n`
-module _ (image segments : List ℕ) (a n : ℕ) (h : List ℕ) (e : h ≡ bytesRead image segments a (suc n)) (r : Row) (q : r .header ≡ suc n) where
+module _ (image segments : List ℕ) (a n : ℕ) (h : List ℕ) (e : h ≡ bytesRead image segments a (suc n)) (r : BlockRow) (q : r .header ≡ suc n) where
   pub no-header : length h < suc n → none ≡ run image segments (blockAt r a)
   unfolding blockAt
   no-header l = rw q (sym (run-no-bytes image segments a (suc n) _ h e l))
@@ -256,7 +256,7 @@ module _ (image segments : List ℕ) (t : Trailing) (i a : ℕ) where
 -- ---- the block of a kind
 
 module _ (image segments : List ℕ) (t : Trailing) where
-  module _ (r : Row) (a : ℕ) where
+  module _ (r : BlockRow) (a : ℕ) where
     pub pass-absent : r .there t ≡ false → some a ≡ run image segments (passed t r a)
     unfolding passed run
     pass-absent y = rw y

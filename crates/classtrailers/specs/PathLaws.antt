@@ -10,7 +10,7 @@ use Rattle.segment.specs.Segments.{segmentsOf, fileOffset}
 use Rattle.runtime.specs.Reads.{Reads, done, nothing, bind, run, Range, bytesRange, also, path}
 use Rattle.runtime.specs.ReadsLaws.{run-bind, path-bind}
 use Rattle.runtime.specs.PathLaws.{path-bytes, bytes-read}
-use Rattle.classtrailers.specs.Blocks.{Trailing, Row, rowAt, readHeader, below, Ended, ended, blockAt, recordAt, somewhere, endAt, passed, reached, blockIn, rowNumber, block}
+use Rattle.classtrailers.specs.Blocks.{Trailing, BlockRow, rowAt, readHeader, below, Ended, ended, blockAt, recordAt, somewhere, endAt, passed, reached, blockIn, rowNumber, block}
 use Rattle.classtrailers.specs.declared.block.Block.{Block}
 use Rattle.classtrailers.specs.declared.block.BlockKind.{BlockKind}
 
@@ -40,7 +40,7 @@ module _ (image segments : List ℕ) where
         path-bytes image segments a (suc n) k (w .offset) (w .at) (w .inside)
         ∙ rw (w .at, e (take (suc n) (drop (w .offset) image)))
 
-  module _ (r : Row) (a : ℕ) where
+  module _ (r : BlockRow) (a : ℕ) where
     ended-path : (c : Bool) (b : Block) (e : Option ℕ) → path image segments (ended c b e) ≡ []
     unfolding path
     ended-path true b none = refl

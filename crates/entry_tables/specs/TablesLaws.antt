@@ -28,7 +28,7 @@ use Rattle.runtime.specs.Reads.{bytesPlace, run, andThen}
 use Rattle.runtime.specs.CallsLaws.{bytes-at, bytes-past, bytes-nowhere, bytes-within}
 use Rattle.vtable.specs.Entries.{Word, Layout, Entry, entrySize, entryOf, entryAddress, entryAt, Step, entryStep, wordAt, wordsFrom}
 use Rattle.vtable.specs.EntriesLaws.{step-end, step-gives}
-use Rattle.vtable.specs.ListLaws.{iterAt, listed}
+use Rattle.vtable.specs.ListLaws.{iterAt, listedEntries}
 use Rattle.vtable.specs.declared.iter.EntryIter.{EntryIter}
 use Rattle.entry_tables.specs.declared.list.Words.{Words}
 use Rattle.entry_tables.specs.declared.list.Listed.{Listed}
@@ -711,23 +711,23 @@ module _ (say : Entry → List ℕ) (image segments : List ℕ) (l : Layout) whe
   table = tableBy say image segments l
 
   abbrev steps : ℕ → EntryIter → List Entry
-  steps = listed image segments l
+  steps = listedEntries image segments l
 
   -- a table of at most so many entries is what so many steps list, entry by entry
   abbrev Told : ℕ → EntryIter → Type 0
   Told n c = (table n c .numbers ≡ numbersOfAll say (steps n c)) × (table n c .entries ≡ length (steps n c))
 
   pub table-listed : (n : ℕ) (c : EntryIter) → Told n c
-  unfolding tableBy listed
+  unfolding tableBy listedEntries
   table-listed zero c = (refl, refl)
   table-listed (suc n) c = go (table-listed n) (entryStep image segments l c) refl
     where
       found : ((c : EntryIter) → Told n c) → (s : Step) → entryStep image segments l c ≡ some s → (y : Option Entry) → s .found ≡ y → Told (suc n) c
-      found ih s t none e = rw (tableBy, listed, t, e) (refl, refl)
-      found ih s t (some x) e = rw (tableBy, listed, t, e) (ap (λ (m : List ℕ). say x ++ m) (ih (s .next) .0), ap suc (ih (s .next) .1))
+      found ih s t none e = rw (tableBy, listedEntries, t, e) (refl, refl)
+      found ih s t (some x) e = rw (tableBy, listedEntries, t, e) (ap (λ (m : List ℕ). say x ++ m) (ih (s .next) .0), ap suc (ih (s .next) .1))
 
       go : ((c : EntryIter) → Told n c) → (x : Option Step) → entryStep image segments l c ≡ x → Told (suc n) c
-      go ih none t = rw (tableBy, listed, t) (refl, refl)
+      go ih none t = rw (tableBy, listedEntries, t) (refl, refl)
       go ih (some s) t = found ih s t (s .found) refl
 
   -- how many entries, and why no more, does not go by the numbers that are said of an entry
@@ -767,16 +767,16 @@ module _ (image segments : List ℕ) (l : Layout) where
   Whole [] = Unit {0}
   Whole (e ∷ es) = (length (e .words) ≡ length (l .words)) × Whole es
 
-  pub listed-words : (n : ℕ) (c : EntryIter) → Whole (listed image segments l n c)
-  unfolding listed
+  pub listed-words : (n : ℕ) (c : EntryIter) → Whole (listedEntries image segments l n c)
+  unfolding listedEntries
   listed-words zero c = tt
   listed-words (suc n) c = go (listed-words n) (decLt (c .next) (c .count))
     where
-      given : ((c : EntryIter) → Whole (listed image segments l n c)) → c .next < c .count → (y : Option Entry) → run image segments (entryAt l (c .«base_va») (c .next)) ≡ y
-          → Whole (listed image segments l (suc n) c)
-      given ih h none t = rw (listed, sym (step-gives image segments l c none (sym t) h)) tt
-      given ih h (some e) t = rw (listed, sym (step-gives image segments l c (some e) (sym t) h)) (entry-words (c .«base_va») (c .next) e t, ih _)
+      given : ((c : EntryIter) → Whole (listedEntries image segments l n c)) → c .next < c .count → (y : Option Entry) → run image segments (entryAt l (c .«base_va») (c .next)) ≡ y
+          → Whole (listedEntries image segments l (suc n) c)
+      given ih h none t = rw (listedEntries, sym (step-gives image segments l c none (sym t) h)) tt
+      given ih h (some e) t = rw (listedEntries, sym (step-gives image segments l c (some e) (sym t) h)) (entry-words (c .«base_va») (c .next) e t, ih _)
 
-      go : ((c : EntryIter) → Whole (listed image segments l n c)) → Dec (c .next < c .count) → Whole (listed image segments l (suc n) c)
+      go : ((c : EntryIter) → Whole (listedEntries image segments l n c)) → Dec (c .next < c .count) → Whole (listedEntries image segments l (suc n) c)
       go ih (yes h) = given ih h (run image segments (entryAt l (c .«base_va») (c .next))) refl
-      go ih (no h) = rw (listed, sym (step-end image segments l c (omega arith))) tt
+      go ih (no h) = rw (listedEntries, sym (step-end image segments l c (omega arith))) tt

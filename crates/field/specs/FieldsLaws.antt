@@ -119,33 +119,33 @@ module _ (fields : List ℕ) (vmaddr : ℕ) where
       go (some d) e ih = let m = moves at d e in ih (omega arith)
 
   -- the descriptors that at most `n` steps give from an offset on, up to the first step without one
-  unfoldable pub listed : ℕ → ℕ → List FieldDescriptor
-  listed zero at = []
-  listed (suc n) at = elim (foundAt at) [ none ↦ [] | some d ↦ d ∷ listed n (nextOf at) ]
+  unfoldable pub listedDescriptors : ℕ → ℕ → List FieldDescriptor
+  listedDescriptors zero at = []
+  listedDescriptors (suc n) at = elim (foundAt at) [ none ↦ [] | some d ↦ d ∷ listedDescriptors n (nextOf at) ]
 
-  listed-at : (n k at : ℕ) → k < n → getElem? (listed n at) k ≡ descriptorFrom fields vmaddr at k
-  unfolding listed descriptorFrom
+  listed-at : (n k at : ℕ) → k < n → getElem? (listedDescriptors n at) k ≡ descriptorFrom fields vmaddr at k
+  unfolding listedDescriptors descriptorFrom
   listed-at zero k at l = absurd (omega arith)
   listed-at (suc n) zero at l = go (foundAt at)
     where
-      go : (x : Option FieldDescriptor) → getElem? {A = FieldDescriptor} (elim x as (λ _. List FieldDescriptor) [ none ↦ [] | some d ↦ d ∷ listed n (nextOf at) ]) 0 ≡ x
+      go : (x : Option FieldDescriptor) → getElem? {A = FieldDescriptor} (elim x as (λ _. List FieldDescriptor) [ none ↦ [] | some d ↦ d ∷ listedDescriptors n (nextOf at) ]) 0 ≡ x
       go none = refl
       go (some d) = refl
   listed-at (suc n) (suc k) at l = go (foundAt at) (listed-at n k (nextOf at) (omega arith))
     where
-      go : (x : Option FieldDescriptor) → getElem? (listed n (nextOf at)) k ≡ descriptorFrom fields vmaddr (nextOf at) k
-          → getElem? {A = FieldDescriptor} (elim x as (λ _. List FieldDescriptor) [ none ↦ [] | some d ↦ d ∷ listed n (nextOf at) ]) (suc k)
+      go : (x : Option FieldDescriptor) → getElem? (listedDescriptors n (nextOf at)) k ≡ descriptorFrom fields vmaddr (nextOf at) k
+          → getElem? {A = FieldDescriptor} (elim x as (λ _. List FieldDescriptor) [ none ↦ [] | some d ↦ d ∷ listedDescriptors n (nextOf at) ]) (suc k)
           ≡ andThen x (λ _. descriptorFrom fields vmaddr (nextOf at) k)
       go none ih = refl
       go (some d) ih = ih
 
-  length-listed : (n at : ℕ) → length (listed n at) ≤ n
-  unfolding listed
+  length-listed : (n at : ℕ) → length (listedDescriptors n at) ≤ n
+  unfolding listedDescriptors
   length-listed zero at = omega arith
   length-listed (suc n) at = go (foundAt at) (length-listed n (nextOf at))
     where
-      go : (x : Option FieldDescriptor) → length (listed n (nextOf at)) ≤ n
-          → length {A = FieldDescriptor} (elim x as (λ _. List FieldDescriptor) [ none ↦ [] | some d ↦ d ∷ listed n (nextOf at) ]) ≤ suc n
+      go : (x : Option FieldDescriptor) → length (listedDescriptors n (nextOf at)) ≤ n
+          → length {A = FieldDescriptor} (elim x as (λ _. List FieldDescriptor) [ none ↦ [] | some d ↦ d ∷ listedDescriptors n (nextOf at) ]) ≤ suc n
       go none ih = omega arith
       go (some d) ih = omega arith
 
@@ -176,13 +176,13 @@ module _ (fields : List ℕ) (vmaddr : ℕ) where
 
     -- the list of a caller who steps until there is no descriptor: its descriptor `k` is what the program of descriptor `k` gives, for every `k`;
     -- as many steps as the section has room for headers are enough
-    pub descriptors-listed-all : (n k : ℕ) → length fields < 16 * (n + 1) → getElem? (listed n 0) k ≡ run image segments (descriptorAt fields vmaddr k)
+    pub descriptors-listed-all : (n k : ℕ) → length fields < 16 * (n + 1) → getElem? (listedDescriptors n 0) k ≡ run image segments (descriptorAt fields vmaddr k)
     unfolding descriptorAt
     descriptors-listed-all n k h = go (decLt k n) ∙ run-given (descriptorFrom fields vmaddr 0 k)
       where
-        go : Dec (k < n) → getElem? (listed n 0) k ≡ descriptorFrom fields vmaddr 0 k
+        go : Dec (k < n) → getElem? (listedDescriptors n 0) k ≡ descriptorFrom fields vmaddr 0 k
         go (yes l) = listed-at n k 0 l
-        go (no l) = past-end (listed n 0) k (omega (arith, length-listed n 0)) ∙ sym (few k 0 (omega arith))
+        go (no l) = past-end (listedDescriptors n 0) k (omega (arith, length-listed n 0)) ∙ sym (few k 0 (omega arith))
 
     -- the step after `k` steps gives what the program of descriptor `k` gives, as long as each earlier step gave one
     pub stepped-descriptor : (k : ℕ) → ((j : ℕ) → j < k → foundAt (offsetAfter j 0) ≡ none → ⊥)

@@ -2,7 +2,7 @@
 ghost use mathlib.Core.Path.{_≡_};
 ghost use Prim.Native.Nat.{_+_, _^_, _<_};
 ghost use Rattle.util.specs.Cstr.{textOf};
-ghost use Rattle.segment.specs.Mapping.{withMapping, Mapped};
+ghost use Rattle.segment.specs.Mapping.{withMapping, TrueMapping};
 ghost use Rattle.runtime.specs.Reads.{textPlace};
 ghost use Rattle.runtime.specs.FieldName.{fieldName, fieldNameOf};
 ghost use Rattle.vtable.specs.Entries.{packed, entryOf};
@@ -58,7 +58,7 @@ fn field_record(bytes: &[u8], address: u64) -> FieldRecord
 impl FieldRecordIter {
     // What is in the file around the records' start. With it a step need not go through the segments again; without it the answers are the same.
     pub fn locate(self, segments: &[u64]) -> Mapping
-        ensures { λ r. ⌜ Mapped (now (segments .entry)) r ⌝ }
+        ensures { λ r. ⌜ TrueMapping (now (segments .entry)) r ⌝ }
     {
         match segment::locate(segments, self.base_va) {
             Around::Mapping(mapping) => mapping,

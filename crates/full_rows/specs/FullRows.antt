@@ -59,7 +59,7 @@ kindFours image segments s (k ∷ ks) = blockFour (kindFrom image segments k s) 
 
 -- those of all kinds, in the table's order
 unfoldable pub blockFours : List ℕ → List ℕ → Option Start → List ℕ
-blockFours image segments s = kindFours image segments s (map (λ (r : blocks.Row). r .kind) blocks.blockTable)
+blockFours image segments s = kindFours image segments s (map (λ (r : blocks.BlockRow). r .kind) blocks.blockTable)
 
 -- what follows the body of a descriptor at an address with these flags, and the body itself
 abbrev pub bodyAndBlocks : List ℕ → List ℕ → ℕ → ℕ → Option Body → List ℕ

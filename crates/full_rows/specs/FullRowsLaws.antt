@@ -12,7 +12,7 @@ use lib.ListN.{length, take, drop, length-append, length-drop, drop-of-length-le
 use lib.Seq.{take-all, take-at, drop-drop, drop-nil, drop-append-add}
 use Rattle.util.specs.Buffer.{pasted, atStart}
 use Rattle.steps.specs.Blocks.{kindFrom}
-use Rattle.segment.specs.Mapping.{withMapping, Mapped}
+use Rattle.segment.specs.Mapping.{withMapping, TrueMapping}
 use Rattle.segment.specs.declared.segment.Mapping.{Mapping}
 use Rattle.runtime.specs.Reads.{run}
 use Rattle.runtime.specs.CallsLaws.{run-mapped}
@@ -49,7 +49,7 @@ module _ (image segments : List ℕ) where
 
   pub blocks-long : (s : Option Start) → length (blockFours image segments s) ≡ 44
   unfolding blockFours
-  blocks-long s = kinds-long s (map (λ (r : blocks.Row). r .kind) blocks.blockTable)
+  blocks-long s = kinds-long s (map (λ (r : blocks.BlockRow). r .kind) blocks.blockTable)
 
   pub full-row-long : (slot : ℕ) (r : TypeRow) → length (fullRow image segments slot r) ≡ 58
   unfolding fullRow
@@ -80,7 +80,7 @@ pub class-known : (class : ClassBody) (s : ClassSizes) → class .sizes ≡ s
 class-known class s e = rw e
 
 -- a true mapping changes no record
-module _ (image segments : List ℕ) (m : Mapping) (w : Mapped segments m) where
+module _ (image segments : List ℕ) (m : Mapping) (w : TrueMapping segments m) where
   kinds-mapped : (s : Option Start) (ks : List BlockKind) → kindFours image (withMapping m segments) s ks ≡ kindFours image segments s ks
   kinds-mapped s [] = refl
   kinds-mapped none (k ∷ ks) = ap (λ (l : List ℕ). blockFour none ++ l) (kinds-mapped none ks)
@@ -91,7 +91,7 @@ module _ (image segments : List ℕ) (m : Mapping) (w : Mapped segments m) where
   row-mapped slot r =
       rw (
         run-mapped image segments m w (body (r .address) (r .flags)),
-        kinds-mapped (trailers (r .address) (r .flags) (run image segments (body (r .address) (r .flags)))) (map (λ (r : blocks.Row). r .kind) blocks.blockTable),
+        kinds-mapped (trailers (r .address) (r .flags) (run image segments (body (r .address) (r .flags)))) (map (λ (r : blocks.BlockRow). r .kind) blocks.blockTable),
       )
 
 -- ---- row after row

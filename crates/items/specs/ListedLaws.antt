@@ -15,7 +15,7 @@ use borrow.Author.Tests.{lt-ltb, le-ltb}
 use Rattle.runtime.specs.Reads.{Reads, done, nothing, andThen, run, bind}
 use Rattle.runtime.specs.ReadsLaws.{run-bind}
 use Rattle.runtime.specs.PathLaws.{bytes-read}
-use Rattle.classtrailers.specs.Blocks.{Trailing, placedBlock, tableBlock, Row, blockTable, rowAt, rowNumber, block, withBlock, blocksOf, blocks}
+use Rattle.classtrailers.specs.Blocks.{Trailing, placedBlock, tableBlock, BlockRow, blockTable, rowAt, rowNumber, block, withBlock, blocksOf, blocks}
 use Rattle.classtrailers.specs.BlocksLaws.{steppedBlocks, stepped-blocks, RecordedAs, block-recorded}
 use Rattle.classtrailers.specs.declared.block.Block.{Block}
 use Rattle.classtrailers.specs.declared.block.BlockKind.{BlockKind}
@@ -32,12 +32,12 @@ use Rattle.field_offsets.specs.Offsets.{fieldOffsets, Offsets, offsetsPlace, st
 use Rattle.field_offsets.specs.OffsetsLaws as Vector
 use Rattle.field_offsets.specs.OffsetsLaws.{offsetList}
 use Rattle.vtable.specs.Entries.{Layout, method, override, defaultOverride, prespecialization, Entry, entry, start}
-use Rattle.vtable.specs.ListLaws.{listed as listedEntries, entries-listed-all}
+use Rattle.vtable.specs.ListLaws.{listedEntries, entries-listed-all}
 use Rattle.field.specs.declared.iter.FieldDescriptor.{FieldDescriptor}
 use Rattle.field.specs.Fields.{descriptorAt}
-use Rattle.field.specs.FieldsLaws.{listed as listedDescriptors, descriptors-listed-all as descriptors-all}
+use Rattle.field.specs.FieldsLaws.{listedDescriptors, descriptors-listed-all as descriptors-all}
 use Rattle.field.specs.Records.{recordsOf, descriptorRecord}
-use Rattle.field.specs.RecordsLaws.{listed as steppedRecords, listed-records}
+use Rattle.field.specs.RecordsLaws.{listedRecords as steppedRecords, listed-records}
 use Rattle.parent.specs.Context.{Header, Context, name, contextName, withName}
 use Rattle.parent.specs.Chain.{contextsMost, headerAt, contextAt, chain}
 use Rattle.parent.specs.ChainLaws.{chain-at, steppedChain as steppedContexts, stepped-chain-all}
@@ -129,7 +129,7 @@ blockKeys i [] = []
 blockKeys i (k ∷ ks) = Key.block i k ∷ blockKeys i ks
 
 abbrev pub blockKinds : List BlockKind
-blockKinds = map (λ (r : Row). r .kind) blockTable
+blockKinds = map (λ (r : BlockRow). r .kind) blockTable
 
 -- each kind is one of them
 pub kind-in : (k : BlockKind) → getElem? blockKinds (rowNumber k) ≡ some k

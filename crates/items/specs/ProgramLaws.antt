@@ -13,7 +13,7 @@ use Rattle.runtime.specs.ReadsLaws.{run-bind, path-bind}
 use Rattle.util.specs.LittleEndian.{unsignedIn}
 use Rattle.context.specs.Context.{contextKind, hasName}
 use Rattle.context.specs.declared.descriptor.ContextDescriptorKind.{ContextDescriptorKind}
-use Rattle.classtrailers.specs.Blocks.{Trailing, Row, rowAt, readHeader, below, ended, blockAt, recordAt, somewhere, endAt, passed, reached, blockIn, rowNumber, block}
+use Rattle.classtrailers.specs.Blocks.{Trailing, BlockRow, rowAt, readHeader, below, ended, blockAt, recordAt, somewhere, endAt, passed, reached, blockIn, rowNumber, block}
 use Rattle.classtrailers.specs.declared.block.Block.{Block}
 use Rattle.classtrailers.specs.declared.block.BlockKind.{BlockKind}
 use Rattle.typedescriptor.specs.Slots.{slots, slotAddress}
@@ -158,7 +158,7 @@ module _ (image segments : List ℕ) (P : Range → Type 0) (onBytes : (o n : �
       go (ContextDescriptorKind.Other n) = on-nothing
 
   -- blocks
-  on-block-at : (r : Row) (a : ℕ) → On (blockAt r a)
+  on-block-at : (r : BlockRow) (a : ℕ) → On (blockAt r a)
   unfolding blockAt
   on-block-at r a = on-header a (r .header) (λ h. go (r .bounded) (record { kind = r .kind; body = r .recorded a h }) (below (a + r .size h)))
     where
@@ -180,7 +180,7 @@ module _ (image segments : List ℕ) (P : Range → Type 0) (onBytes : (o n : �
   pub on-block : (t : Trailing) (start : ℕ) (k : BlockKind) → On (block t start k)
   unfolding block blockIn recordAt
   on-block t start k =
-      let r : Row = rowAt (rowNumber k) in
+      let r : BlockRow = rowAt (rowNumber k) in
       on-bind (on-reached t start (rowNumber k)) (λ a. on-cond (r .there t) (on-bind (on-block-at r a) (λ x. on-done (x .block))) on-nothing)
 
   -- entries

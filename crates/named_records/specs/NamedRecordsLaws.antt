@@ -10,7 +10,7 @@ use lib.ListN.{length, length-append}
 use Rattle.util.specs.Buffer.{pasted}
 use Rattle.util.specs.Cstr.{Place, textOf}
 use Rattle.util.specs.declared.cstr.Text.{Text}
-use Rattle.segment.specs.Mapping.{withMapping, Mapped}
+use Rattle.segment.specs.Mapping.{withMapping, TrueMapping}
 use Rattle.segment.specs.declared.segment.Mapping.{Mapping}
 use Rattle.runtime.specs.Reads.{textPlace, run}
 use Rattle.runtime.specs.CallsLaws.{text-mapped, name-mapped}
@@ -66,12 +66,12 @@ module _ (image segments strings : List ℕ) (start : ℕ) where
       pasted-then b (own ++ textNumbers x) (fieldNumbers y) b₂ b₃ at 7 two seven e₃ (omega arith) ∙ ap (pasted b at) same
 
   -- a true mapping changes none
-  pub named-mapped : (m : Mapping) → Mapped segments m → (e : Entry) → namedNumbers image (withMapping m segments) strings start e ≡ numbers e
+  pub named-mapped : (m : Mapping) → TrueMapping segments m → (e : Entry) → namedNumbers image (withMapping m segments) strings start e ≡ numbers e
   named-mapped m w e = rw (text-mapped image segments m w, name-mapped image segments m w)
 
 -- ---- a step
 
-module _ (image segments : List ℕ) (m : Mapping) (w : Mapped segments m) (c : FieldRecordIter) where
+module _ (image segments : List ℕ) (m : Mapping) (w : TrueMapping segments m) (c : FieldRecordIter) where
   pub step-ended : none ≡ recordStep image (withMapping m segments) c → c .count ≤ c .cursor
   step-ended e = go (decLt (c .cursor) (c .count))
     where

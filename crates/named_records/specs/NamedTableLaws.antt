@@ -20,7 +20,7 @@ use Rattle.runtime.specs.Reads.{within, bytesPlace, textOffset, textPlace, run}
 use Rattle.runtime.specs.FieldName.{NamePlace, inImage, inStrings, sectionText, fieldName}
 use Rattle.runtime.specs.PlaceNumbers.{textNumbers, fieldNumbers}
 use Rattle.vtable.specs.Entries.{Layout, Entry, entryAt, entryStep}
-use Rattle.vtable.specs.ListLaws.{listed}
+use Rattle.vtable.specs.ListLaws.{listedEntries}
 use Rattle.field.specs.declared.record.FieldRecordIter.{FieldRecordIter}
 use Rattle.field.specs.Records.{recordLayout, entriesOf}
 use Rattle.entry_tables.specs.Tables.{entryNumbers, WholeTable, counts, tableBy, tableFrom}
@@ -103,14 +103,14 @@ module _ (image segments strings : List ℕ) (start : ℕ) where
       pub named-counts : counts named ≡ counts own
       named-counts = same-counts all image segments layout entryNumbers n (entriesOf c)
 
-      pub named-listed : (named .numbers ≡ numbersOfAll all (listed image segments layout n (entriesOf c))) × (named .entries ≡ length (listed image segments layout n (entriesOf c)))
+      pub named-listed : (named .numbers ≡ numbersOfAll all (listedEntries image segments layout n (entriesOf c))) × (named .entries ≡ length (listedEntries image segments layout n (entriesOf c)))
       named-listed = table-listed all image segments layout n (entriesOf c)
 
       -- record `k` of the table
       pub named-record : (k : ℕ) → k < own .entries → Named (drop (10 * k) (named .numbers)) (drop (4 * k) (own .numbers))
       named-record k h =
           let told = table-listed entryNumbers image segments layout n (entriesOf c) in
-          rw (named-listed .0, told .0) (in-list (listed image segments layout n (entriesOf c)) (listed-words image segments layout n (entriesOf c)) k (omega (arith, told .1)))
+          rw (named-listed .0, told .0) (in-list (listedEntries image segments layout n (entriesOf c)) (listed-words image segments layout n (entriesOf c)) k (omega (arith, told .1)))
 
 -- ---- by examples
 

@@ -14,7 +14,7 @@ use Rattle.util.specs.declared.cstr.Text.{Text}
 use Rattle.runtime.specs.Reads.{done, bytes, run, textPlace}
 use Rattle.runtime.specs.Bytes.{bytesRead}
 use Rattle.segment.specs.Segments.{segmentsOf, fileOffset}
-use Rattle.segment.specs.Mapping.{withMapping, Mapped}
+use Rattle.segment.specs.Mapping.{withMapping, TrueMapping}
 use Rattle.segment.specs.declared.segment.Mapping.{Mapping}
 use Rattle.runtime.specs.CallsLaws.{text-within, bytes-nowhere, read-nothing, run-bytes, run-no-bytes, run-text, run-no-text, run-mapped}
 use Rattle.context.specs.Context.{contextKind, hasName}
@@ -100,7 +100,7 @@ module _ (image segments : List ℕ) (a : ℕ) where
   context-at h n e en = rw (← e, en)
 
   -- the same, read with a true mapping
-  module _ (m : Mapping) (w : Mapped segments m) where
+  module _ (m : Mapping) (w : TrueMapping segments m) where
     pub no-context-near : none ≡ run image (withMapping m segments) (header a) → none ≡ contextRead image segments a
     no-context-near e = no-context (e ∙ run-mapped image segments m w (header a))
 

@@ -10,7 +10,7 @@ use lib.Dec.{leb, ltb}
 use Rattle.refusal.specs.Refusal.{Guarded, answered, refused, refusalNumber}
 use Rattle.util.specs.Buffer.{atStart}
 use Rattle.util.specs.Cstr.{place, partOf}
-use Rattle.segment.specs.Mapping.{Mapped}
+use Rattle.segment.specs.Mapping.{TrueMapping}
 use Rattle.segment.specs.declared.segment.Around.{Around}
 use Rattle.parent.specs.Context.{contextRead}
 use Rattle.parent.specs.Chain.{chain}
@@ -20,7 +20,7 @@ use Rattle.qualified_name.specs.declared.name.Walk.{Walk}
 
 -- what is in the file around a context
 abbrev pub ContextLocated : List ℕ → ℕ → Around → Type 0
-ContextLocated segments a (Around.Mapping m) = Mapped segments m
+ContextLocated segments a (Around.Mapping m) = TrueMapping segments m
 ContextLocated segments a Around.Nothing = (image : List ℕ) → none ≡ contextRead image segments a
 
 -- whether more than `left` contexts can be read from an address on, and the hops of those that are read to see it

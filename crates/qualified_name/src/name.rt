@@ -7,7 +7,7 @@ ghost use Rattle.qualified_name.specs.Walk.{ContextLocated, gathered, Wa
 ghost use Rattle.qualified_name.specs.Name.{nameAnswer, lengthOf};
 ghost use Rattle.typedescriptor.specs.Row.{rowOf};
 ghost use Rattle.util.specs.Buffer.{Put, overwritten};
-ghost use Rattle.segment.specs.Mapping.{Mapped};
+ghost use Rattle.segment.specs.Mapping.{TrueMapping};
 use parent::CONTEXTS;
 use parent::HeaderRead;
 use parent::has_name;
@@ -77,7 +77,7 @@ fn collect(
     places: &mut [usize],
     lengths: &mut [usize],
 ) -> Walk
-    requires { ⌜ Mapped (now segments) mapping ⌝ }
+    requires { ⌜ TrueMapping (now segments) mapping ⌝ }
     requires { ⌜ (length (now places) ≡ 8) × (length (now lengths) ≡ 8) ⌝ }
     ensures { λ r. ⌜ Walked (now (image .entry)) (now (segments .entry)) left «descriptor_va» rest (now (places .exit)) (now (lengths .exit)) r ⌝ }
 {

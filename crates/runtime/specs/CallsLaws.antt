@@ -12,7 +12,7 @@ use borrow.Author.Tests.{le-leb, lt-leb, lt-ltb, le-ltb, eq-eqb, ne-eqb}
 use Rattle.utf8.specs.Text.{untilNul, textLength}
 use Rattle.utf8.specs.Utf8Laws.{text-bytes, text-length-le}
 use Rattle.segment.specs.Segments.{segmentsOf, fileOffset}
-use Rattle.segment.specs.Mapping.{withMapping, Mapped}
+use Rattle.segment.specs.Mapping.{withMapping, TrueMapping}
 use Rattle.segment.specs.declared.segment.Mapping.{Mapping}
 use Rattle.util.specs.Cstr.{Place, place, textAt, partOf}
 use Rattle.util.specs.CstrLaws.{part-in}
@@ -21,7 +21,7 @@ use Rattle.runtime.specs.Bytes.{bytesRead, bytesFrom}
 use Rattle.runtime.specs.FieldName.{inImage, inStrings, sectionText, fieldName}
 
 -- a true mapping changes no answer
-module _ (image segments : List ℕ) (m : Mapping) (w : Mapped segments m) where
+module _ (image segments : List ℕ) (m : Mapping) (w : TrueMapping segments m) where
   pub place-mapped : (a n : ℕ) → bytesPlace image (withMapping m segments) a n ≡ bytesPlace image segments a n
   unfolding bytesPlace
   place-mapped a n = simp (w .same)

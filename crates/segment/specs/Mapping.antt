@@ -12,7 +12,7 @@ unfoldable pub withMapping : Mapping → List ℕ → List ℕ
 withMapping m segments = m .vmaddr ∷ (m .size ∷ (m .fileoff ∷ (m .size ∷ segments)))
 
 -- a mapping is true of the segments: with it before them every address has the offset that it has without
-pub record Mapped (segments : List ℕ) (m : Mapping) : Type 0 where
+pub record TrueMapping (segments : List ℕ) (m : Mapping) : Type 0 where
   pub same : (v : ℕ) → fileOffset (segmentsOf (withMapping m segments)) v ≡ fileOffset (segmentsOf segments) v
 
 -- an address is one of them
@@ -27,12 +27,12 @@ pub record Exact (segments : List ℕ) (m : Mapping) : Type 0 where
 -- the answer of `locate`: a mapping with the address that was looked for, or that this address is not in the file. How many addresses
 -- around it the mapping has is left open.
 abbrev pub Located : List ℕ → ℕ → Around → Type 0
-Located segments v (Around.Mapping m) = Mapped segments m × Has m v × Exact segments m
+Located segments v (Around.Mapping m) = TrueMapping segments m × Has m v × Exact segments m
 Located segments v Around.Nothing = none ≡ fileOffset (segmentsOf segments) v
 
 -- the same with a mapping at hand, which is the answer where it has the address: true if it is
 abbrev pub LocatedNear : List ℕ → Mapping → ℕ → Around → Type 0
-LocatedNear segments m v (Around.Mapping r) = (Mapped segments m → Mapped segments r) × Has r v
+LocatedNear segments m v (Around.Mapping r) = (TrueMapping segments m → TrueMapping segments r) × Has r v
 LocatedNear segments m v Around.Nothing = none ≡ fileOffset (segmentsOf segments) v
 
 -- a segment has an address in the file, between `low` and `high`

@@ -11,7 +11,7 @@ use lib.Dec.{ltb}
 use borrow.Author.Tests.{ltb-true}
 use Rattle.segment.specs.Segments.{Segment, segmentsOf, fileOffset, decides, inFile, decided, offsetOf}
 use Rattle.segment.specs.SegmentsLaws.{wraps, below, above, no-bytes, held, past-file, offset-wraps, in-file, segmentAt, segments-step}
-use Rattle.segment.specs.Mapping.{LocatedNear, withMapping, Mapped, Has, Exact, Located, InFile, Clipped}
+use Rattle.segment.specs.Mapping.{LocatedNear, withMapping, TrueMapping, Has, Exact, Located, InFile, Clipped}
 use Rattle.segment.specs.declared.segment.Mapping.{Mapping}
 use Rattle.segment.specs.declared.segment.Around.{Around}
 use Rattle.segment.specs.declared.segment.FileOffset.{FileOffset}
@@ -49,10 +49,10 @@ module _ (segments : List ℕ) (m : Mapping) (ends : m .vmaddr + m .size < 2 ^ 6
             ]
       ]
 
-  pub mapped : Mapped segments m
+  pub mapped : TrueMapping segments m
   mapped = record { same = mapped-at }
 
-pub empty-mapped : (segments : List ℕ) (m : Mapping) → (m .vmaddr ≡ 0) × (m .size ≡ 0) × (m .fileoff ≡ 0) → Mapped segments m
+pub empty-mapped : (segments : List ℕ) (m : Mapping) → (m .vmaddr ≡ 0) × (m .size ≡ 0) × (m .fileoff ≡ 0) → TrueMapping segments m
 empty-mapped segments m e = mapped segments m (omega (arith, e)) (omega (arith, e)) (λ v g h. absurd (omega (arith, e)))
 
 -- a part of a segment, from `start` up to `end`
@@ -227,7 +227,7 @@ module _ (l : List ℕ) (i low high : ℕ)
             (ap some (omega (arith, w .from, w .offset, u .from)) ∙ in-file s (v - s .vmaddr) (omega (arith, w .from, w .to, u .from, u .to)) (omega (arith, w .from, w .offset, w .fits, u .from, u .to))) in
             inv v (omega (arith, w .from, u .from)) (omega (arith, w .to, u .to)) ∙ rw (segments-step l i 0 h, ← d)
 
-    pub around-mapped : Mapped l m
+    pub around-mapped : TrueMapping l m
     around-mapped = mapped l m (omega (arith, w .to)) (w .fits) (λ v f t. around-exact .offset v (record { from = f; to = t }))
 
 -- ---- what `locate` promises fixes the address's offset, and where it has none, the answer
@@ -255,7 +255,7 @@ pub near-found : (segments : List ℕ) (m : Mapping) (v : ℕ) (r : Around) → 
 near-found segments m v (Around.Mapping r) l = (λ w. l .0, l .1)
 near-found segments m v Around.Nothing l = l
 
-pub near-mapped : (segments : List ℕ) (m : Mapping) (v : ℕ) (r : Around) (n : Mapping) → r ≡ Around.Mapping n → LocatedNear segments m v r → Mapped segments m → Mapped segments n
+pub near-mapped : (segments : List ℕ) (m : Mapping) (v : ℕ) (r : Around) (n : Mapping) → r ≡ Around.Mapping n → LocatedNear segments m v r → TrueMapping segments m → TrueMapping segments n
 near-mapped segments m v r n e l = subst (LocatedNear segments m v) e l .0
 
 pub near-nowhere : (segments : List ℕ) (m : Mapping) (v : ℕ) (r : Around) → r ≡ Around.Nothing → LocatedNear segments m v r → none ≡ fileOffset (segmentsOf segments) v

@@ -2,7 +2,7 @@
 use Prim.Native.Nat.{ℕ}
 use mathlib.Core.Path.{_≡_}
 use mathlib.Core.List.{List}
-use Rattle.segment.specs.Mapping.{Mapped}
+use Rattle.segment.specs.Mapping.{TrueMapping}
 use Rattle.segment.specs.declared.segment.Mapping.{Mapping}
 use Rattle.runtime.specs.Reads.{run}
 use Rattle.typedescriptor.specs.Row.{descriptorOf}
@@ -11,5 +11,5 @@ use Rattle.typedescriptor.specs.declared.descriptor.Descriptor.{Descript
 
 -- a mapping that is true of the segments leads to another that is, and the row is the slot's
 pub record RowMoved (image segments : List ℕ) (m : Mapping) (types : List ℕ) (start i : ℕ) (d : Descriptor) (r : Mapping) : Type 0 where
-  pub mapped : Mapped segments m → Mapped segments r
-  pub row : Mapped segments m → descriptorOf image d ≡ run image segments (slotRow types start i)
+  pub mapped : TrueMapping segments m → TrueMapping segments r
+  pub row : TrueMapping segments m → descriptorOf image d ≡ run image segments (slotRow types start i)

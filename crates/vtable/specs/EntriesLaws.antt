@@ -12,7 +12,7 @@ use lib.ListN.{length, take, length-take, length-drop}
 use borrow.Author.Tests.{le-leb, lt-leb, lt-ltb, le-ltb}
 use Rattle.util.specs.LittleEndian.{signedIn}
 use Rattle.util.specs.Pointer.{relativeAddress}
-use Rattle.segment.specs.Mapping.{withMapping, Mapped}
+use Rattle.segment.specs.Mapping.{withMapping, TrueMapping}
 use Rattle.segment.specs.declared.segment.Mapping.{Mapping}
 use Rattle.runtime.specs.Reads.{Reads, bytesPlace, run, done}
 use Rattle.runtime.specs.Bytes.{bytesFrom, bytesRead}
@@ -55,7 +55,7 @@ module _ (image segments : List ℕ) (size stride base k : ℕ) where
   below r h w e = simp (le-ltb size 4 h, lt-leb (2 ^ 64) (base + stride * k + (size - 4)) w) e
 
   -- a true mapping changes none
-  pub bytes-mapped : (m : Mapping) → Mapped segments m → entryBytes image (withMapping m segments) size stride base k ≡ entryBytes image segments size stride base k
+  pub bytes-mapped : (m : Mapping) → TrueMapping segments m → entryBytes image (withMapping m segments) size stride base k ≡ entryBytes image segments size stride base k
   unfolding entryBytes
   bytes-mapped m w = rw (read-mapped image segments m w (base + stride * k) size)
 
@@ -148,7 +148,7 @@ module _ (image segments : List ℕ) (layout : Layout) (c : EntryIter) where
   step-moves x n e f l = rw f (step-gives x e l)
 
   -- a true mapping changes no step
-  pub step-mapped : (m : Mapping) → Mapped segments m → entryStep image (withMapping m segments) layout c ≡ entryStep image segments layout c
+  pub step-mapped : (m : Mapping) → TrueMapping segments m → entryStep image (withMapping m segments) layout c ≡ entryStep image segments layout c
   unfolding entryStep
   step-mapped m w = rw (run-mapped image segments m w (entryAt layout (c .«base_va») (c .next)))
 
@@ -180,7 +180,7 @@ module _ (image segments : List ℕ) (kind : EntryKind) (c : EntryIter) where
   pub kind-end : c .count ≤ c .next → EntryStep.End ≡ answer
   kind-end h = ap stepAnswer (step-end image segments (kindLayout kind) c h)
 
-  module _ (size : ℕ) (es : size ≡ entrySize (kindLayout kind)) (m : Mapping) (em : Mapped segments m) (h : List ℕ) (eh : h ≡ entryBytes image (withMapping m segments) size size (c .«base_va») (c .next)) where
+  module _ (size : ℕ) (es : size ≡ entrySize (kindLayout kind)) (m : Mapping) (em : TrueMapping segments m) (h : List ℕ) (eh : h ≡ entryBytes image (withMapping m segments) size size (c .«base_va») (c .next)) where
     bytes-sized : h ≡ entryBytes image segments (entrySize (kindLayout kind)) (entrySize (kindLayout kind)) (c .«base_va») (c .next)
     bytes-sized = eh ∙ bytes-mapped image segments size size (c .«base_va») (c .next) m em ∙ ap (λ (s : ℕ). entryBytes image segments s s (c .«base_va») (c .next)) es
 

@@ -80,12 +80,12 @@ module _ (image segments : List ℕ) (layout : Layout) where
   -- ---- as a list
 
   -- the entries that at most `n` steps give, up to the first unreadable one
-  unfoldable pub listed : ℕ → EntryIter → List Entry
-  listed zero c = []
-  listed (suc n) c =
+  unfoldable pub listedEntries : ℕ → EntryIter → List Entry
+  listedEntries zero c = []
+  listedEntries (suc n) c =
       elim (entryStep image segments layout c) [
         | none ↦ []
-        | some s ↦ elim (s .found) [ none ↦ [] | some e ↦ e ∷ listed n (s .next) ]
+        | some s ↦ elim (s .found) [ none ↦ [] | some e ↦ e ∷ listedEntries n (s .next) ]
       ]
 
   module _ (base count : ℕ) where
@@ -116,14 +116,14 @@ module _ (image segments : List ℕ) (layout : Layout) where
         ∙ sym (run-bind image segments (λ _. entryAt layout base (suc k)) (upTo layout base k))
 
     listed-by : (n i : ℕ) → i < count → (x : Option Entry) → run image segments (entryAt layout base i) ≡ x
-        → listed (suc n) (iterAt base count i) ≡ (elim x as (λ _. List Entry) [ none ↦ [] | some e ↦ e ∷ listed n (iterAt base count (i + 1)) ])
-    unfolding listed
-    listed-by n i l x e = rw (listed, sym (step-gives image segments layout (iterAt base count i) x (sym e) l))
+        → listedEntries (suc n) (iterAt base count i) ≡ (elim x as (λ _. List Entry) [ none ↦ [] | some e ↦ e ∷ listedEntries n (iterAt base count (i + 1)) ])
+    unfolding listedEntries
+    listed-by n i l x e = rw (listedEntries, sym (step-gives image segments layout (iterAt base count i) x (sym e) l))
 
-    listed-none : (n i : ℕ) → count ≤ i → listed n (iterAt base count i) ≡ []
-    unfolding listed
+    listed-none : (n i : ℕ) → count ≤ i → listedEntries n (iterAt base count i) ≡ []
+    unfolding listedEntries
     listed-none zero i l = refl
-    listed-none (suc n) i l = rw (listed, sym (step-end image segments layout (iterAt base count i) l))
+    listed-none (suc n) i l = rw (listedEntries, sym (step-end image segments layout (iterAt base count i) l))
 
     from-none : (i k : ℕ) → run image segments (entryAt layout base i) ≡ none → from i k ≡ none
     unfolding from
@@ -157,24 +157,24 @@ module _ (image segments : List ℕ) (layout : Layout) where
     place-past : (i k : ℕ) → count ≤ i → place i k ≡ none
     place-past i k l = let j : count ≤ k + i = omega arith in simp (le-ltb (k + i) count j)
 
-    listed-at : (n i k : ℕ) → k < n → getElem? (listed n (iterAt base count i)) k ≡ place i k
+    listed-at : (n i k : ℕ) → k < n → getElem? (listedEntries n (iterAt base count i)) k ≡ place i k
     listed-at zero i k l = absurd (omega arith)
     listed-at (suc n) i k l = go (listed-at n (i + 1)) (decLt i count)
       where
-        with-first : ((j : ℕ) → j < n → getElem? (listed n (iterAt base count (i + 1))) j ≡ place (i + 1) j) → i < count
+        with-first : ((j : ℕ) → j < n → getElem? (listedEntries n (iterAt base count (i + 1))) j ≡ place (i + 1) j) → i < count
             → (x : Option Entry) → run image segments (entryAt layout base i) ≡ x → (k : ℕ) → k < suc n
-            → getElem? (elim x as (λ _. List Entry) [ none ↦ [] | some e ↦ e ∷ listed n (iterAt base count (i + 1)) ]) k ≡ place i k
+            → getElem? (elim x as (λ _. List Entry) [ none ↦ [] | some e ↦ e ∷ listedEntries n (iterAt base count (i + 1)) ]) k ≡ place i k
         with-first ih h none e k l = sym (place-none i k e)
         with-first ih h (some a) e zero l = sym (place-first i a h e)
         with-first ih h (some a) e (suc k) l = ih k (omega arith) ∙ sym (place-some i k a e)
 
-        go : ((j : ℕ) → j < n → getElem? (listed n (iterAt base count (i + 1))) j ≡ place (i + 1) j) → Dec (i < count)
-            → getElem? (listed (suc n) (iterAt base count i)) k ≡ place i k
+        go : ((j : ℕ) → j < n → getElem? (listedEntries n (iterAt base count (i + 1))) j ≡ place (i + 1) j) → Dec (i < count)
+            → getElem? (listedEntries (suc n) (iterAt base count i)) k ≡ place i k
         go ih (yes h) = rw (listed-by n i h (run image segments (entryAt layout base i)) refl) (with-first ih h (run image segments (entryAt layout base i)) refl k l)
         go ih (no h) = rw (listed-none (suc n) i (omega arith)) (sym (place-past i k (omega arith)))
 
     -- entry `k` of the list of a caller who steps `n` times is what its program reads
-    pub listed-entry : (n k : ℕ) → k < n → getElem? (listed n (start base count)) k ≡ run image segments (entry layout base count k)
+    pub listed-entry : (n k : ℕ) → k < n → getElem? (listedEntries n (start base count)) k ≡ run image segments (entry layout base count k)
     unfolding entry run
     listed-entry n k l = listed-at n 0 k l ∙ rw (from-start k) (ap (λ (j : ℕ). cond (ltb j count) (run image segments (upTo layout base k)) none) (omega arith) ∙ go (ltb k count))
       where
@@ -182,17 +182,17 @@ module _ (image segments : List ℕ) (layout : Layout) where
         go true = refl
         go false = refl
 
-    few : (n i : ℕ) → length (listed n (iterAt base count i)) ≤ n
-    unfolding listed
+    few : (n i : ℕ) → length (listedEntries n (iterAt base count i)) ≤ n
+    unfolding listedEntries
     few zero i = omega arith
     few (suc n) i = go (few n (i + 1)) (decLt i count)
       where
-        with-first : length (listed n (iterAt base count (i + 1))) ≤ n → (x : Option Entry)
-            → length {A = Entry} (elim x as (λ _. List Entry) [ none ↦ [] | some e ↦ e ∷ listed n (iterAt base count (i + 1)) ]) ≤ suc n
+        with-first : length (listedEntries n (iterAt base count (i + 1))) ≤ n → (x : Option Entry)
+            → length {A = Entry} (elim x as (λ _. List Entry) [ none ↦ [] | some e ↦ e ∷ listedEntries n (iterAt base count (i + 1)) ]) ≤ suc n
         with-first ih none = omega arith
         with-first ih (some a) = omega arith
 
-        go : length (listed n (iterAt base count (i + 1))) ≤ n → Dec (i < count) → length (listed (suc n) (iterAt base count i)) ≤ suc n
+        go : length (listedEntries n (iterAt base count (i + 1))) ≤ n → Dec (i < count) → length (listedEntries (suc n) (iterAt base count i)) ≤ suc n
         go ih (yes h) = rw (listed-by n i h (run image segments (entryAt layout base i)) refl) (with-first ih (run image segments (entryAt layout base i)))
         go ih (no h) = rw (listed-none (suc n) i (omega arith)) (omega arith)
 
@@ -203,10 +203,10 @@ module _ (image segments : List ℕ) (layout : Layout) where
     past-end (a ∷ l) (suc k) h = past-end l k (omega arith)
 
     -- the list of a caller who steps to the end: its entry `k` is what the program of entry `k` reads, for every `k`
-    pub entries-listed-all : (n k : ℕ) → count ≤ n → getElem? (listed n (start base count)) k ≡ run image segments (entry layout base count k)
+    pub entries-listed-all : (n k : ℕ) → count ≤ n → getElem? (listedEntries n (start base count)) k ≡ run image segments (entry layout base count k)
     unfolding entry run
     entries-listed-all n k c = go (decLt k n)
       where
-        go : Dec (k < n) → getElem? (listed n (start base count)) k ≡ run image segments (entry layout base count k)
+        go : Dec (k < n) → getElem? (listedEntries n (start base count)) k ≡ run image segments (entry layout base count k)
         go (yes l) = listed-entry n k l
-        go (no l) = past-end (listed n (start base count)) k (omega (arith, few n 0)) ∙ simp (le-ltb k count (omega arith))
+        go (no l) = past-end (listedEntries n (start base count)) k (omega (arith, few n 0)) ∙ simp (le-ltb k count (omega arith))

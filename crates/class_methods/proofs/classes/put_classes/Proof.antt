@@ -4,7 +4,7 @@ use native.Mathlib.Omega.{arith}
 use Prim.Native.Nat.{_-_}
 use mathlib.Core.Path.{_∙_}
 use Rattle.util.specs.AnswersLaws.{told}
-use Rattle.segment.specs.Mapping.{Mapped}
+use Rattle.segment.specs.Mapping.{TrueMapping}
 use Rattle.segment.specs.MappingLaws.{empty-mapped}
 use Rattle.typedescriptor.specs.Row.{descriptorOf}
 use Rattle.class_methods.specs.ClassMethods.{tableAt}
@@ -15,7 +15,7 @@ use Rattle.class_methods.proofs.classes.put_classes.Tie as tie
 
 abbrev Inv-loop : tie.InvT-loop
 Inv-loop image segments types vmaddr start first buffer₀ count mapping₀ slot₀ method₀ classes₀ at₀ buffer mapping slot method classes at =
-    Mapped segments mapping × Going image segments types vmaddr start first buffer₀ slot method classes at buffer
+    TrueMapping segments mapping × Going image segments types vmaddr start first buffer₀ slot method classes at buffer
 
 abbrev μ-loop : tie.MeasureT-loop
 μ-loop image segments types vmaddr start first buffer₀ count mapping₀ slot₀ method₀ classes₀ at₀ buffer mapping slot method classes at =

@@ -3,7 +3,7 @@
 use native.Mathlib.Omega.{arith}
 use Prim.Native.Nat.{_-_, _*_}
 use Rattle.util.specs.AnswersLaws.{told}
-use Rattle.segment.specs.Mapping.{Mapped}
+use Rattle.segment.specs.Mapping.{TrueMapping}
 use Rattle.segment.specs.MappingLaws.{empty-mapped}
 use Rattle.typedescriptor.specs.Row.{rowOf, descriptorOf}
 use Rattle.entry_tables.specs.PastedLaws.{pasted-as}
@@ -14,7 +14,7 @@ use Rattle.full_rows.proofs.rows.put_rows.Tie as tie
 
 abbrev Inv-loop : tie.InvT-loop
 Inv-loop image segments types vmaddr start buffer₀ count room mapping₀ slot₀ n₀ buffer mapping slot n =
-    Mapped segments mapping × Going image segments types vmaddr start buffer₀ slot n buffer
+    TrueMapping segments mapping × Going image segments types vmaddr start buffer₀ slot n buffer
 
 abbrev μ-loop : tie.MeasureT-loop
 μ-loop image segments types vmaddr start buffer₀ count room mapping₀ slot₀ n₀ buffer mapping slot n = count - slot

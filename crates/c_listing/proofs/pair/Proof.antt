@@ -1,10 +1,10 @@
--- `c_rows::all_rows::pair` meets its contract.
+-- `c_listing::pair` meets its contract.
 -- Assumes nothing.
 use mathlib.Core.Path.{refl}
-use Rattle.c_rows.specs.AllRows.{twoNumbers}
+use Rattle.c_listing.specs.Listing.{twoNumbers}
 use borrow.Author.Needs.{needs}
-use Rattle.c_rows.proofs.all_rows.pair.Statement.{statement}
-use Rattle.c_rows.proofs.all_rows.pair.Tie as tie
+use Rattle.c_listing.proofs.pair.Statement.{statement}
+use Rattle.c_listing.proofs.pair.Tie as tie
 
 returns : tie.Need-returns
 unfolding twoNumbers

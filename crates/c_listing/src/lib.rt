@@ -1,4 +1,5 @@
-// All rows of a types section, in as many calls as the buffer's size asks for.
+// All rows of a types section, in as many calls as the buffer's size asks for, for programs in C or Rust, by the rules of the crate `c_rows`, in an
+// archive of its own: a reader that one loop uses is compiled into it.
 ghost use Prim.Native.Nat.{_+_, _≤_};
 ghost use mathlib.Core.Path.{_≡_};
 ghost use lib.ListN.{length};
@@ -6,14 +7,16 @@ ghost use Rattle.refusal.specs.Refusal.{answered, mapped, answerOf};
 ghost use Rattle.util.specs.Buffer.{Put, putEnd, putInto, atStart, overwritten};
 ghost use Rattle.typedescriptor.specs.Row.{rowOf};
 ghost use Rattle.refusal.specs.Guarded.{guarded};
 ghost use Rattle.c_rows.specs.Numbers.{Tells};
-ghost use Rattle.c_rows.specs.AllRows.{twoNumbers, headBytes, rowBytes, listingFrom, listingNumbers, listingBytes};
-use crate::calls::ANSWERED;
+ghost use Rattle.c_listing.specs.Listing.{twoNumbers, headBytes, rowBytes, listingFrom, listingNumbers, listingBytes};
 use qualified_name::QualifiedName;
 use refusal::Refusal;
 use segment::Mapping;
 use typedescriptor::Descriptor;
 use typedescriptor::Row;
+
+// The status of a call that answers.
+const ANSWERED: u64 = 0;
 
 // How many bytes of a record come before the name.
 const HEAD: usize = 32;

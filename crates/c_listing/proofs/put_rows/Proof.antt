@@ -1,23 +1,23 @@
--- `c_rows::all_rows::put_rows` meets its contract. The invariant: what is listed so far, and then the rows that are left, is the listing; the mapping is
+-- `c_listing::put_rows` meets its contract. The invariant: what is listed so far, and then the rows that are left, is the listing; the mapping is
 -- true.
 -- Assumes nothing.
 use native.Mathlib.Omega.{arith}
 use Prim.Native.Nat.{_-_, _≤_, max}
 use mathlib.Core.Path.{_≡_, refl, _∙_}
 use Rattle.util.specs.AnswersLaws.{told}
-use Rattle.segment.specs.Mapping.{Mapped}
+use Rattle.segment.specs.Mapping.{TrueMapping}
 use Rattle.segment.specs.MappingLaws.{empty-mapped}
 use Rattle.typedescriptor.specs.Row.{descriptorOf}
 use Rattle.typedescriptor.specs.Slots.{slots, rowsFrom}
 use Rattle.typedescriptor.specs.SlotsLaws.{slot-left, slot-without, rows-out}
-use Rattle.c_rows.specs.AllRowsLaws.{Going, start-going, left-as, ended, stops, goes-on}
+use Rattle.c_listing.specs.ListingLaws.{Going, start-going, left-as, ended, stops, goes-on}
 use borrow.Author.Needs.{needs}
-use Rattle.c_rows.proofs.all_rows.put_rows.Statement.{statement}
-use Rattle.c_rows.proofs.all_rows.put_rows.Tie as tie
+use Rattle.c_listing.proofs.put_rows.Statement.{statement}
+use Rattle.c_listing.proofs.put_rows.Tie as tie
 
 abbrev Inv-loop : tie.InvT-loop
 Inv-loop image segments types vmaddr start buffer₀ count mapping₀ slot₀ at₀ buffer mapping slot at =
-    Mapped segments mapping
+    TrueMapping segments mapping
     × ((count ≡ slots types)
     × ((start ≤ slot)
     × ((slot ≤ max (slots types) start)

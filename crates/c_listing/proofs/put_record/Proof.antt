@@ -1,4 +1,4 @@
--- `c_rows::all_rows::put_record` meets its contract: the name is written behind the room for its head, and then the head.
+-- `c_listing::put_record` meets its contract: the name is written behind the room for its head, and then the head.
 -- Assumes nothing.
 use native.Mathlib.Omega.{arith}
 use Prim.Native.Nat.{_+_, _-_}
@@ -10,10 +10,10 @@ use Rattle.util.specs.BufferLaws.{past-end, past-into}
 use Rattle.typedescriptor.specs.Row.{rowOf}
 use Rattle.qualified_name.specs.Name.{lengthOf}
 use Rattle.qualified_name.specs.NameLaws.{name-length}
-use Rattle.c_rows.specs.AllRowsLaws.{head-long, row-long, written-bytes, refused-bytes, kept-part, part-long, record-put, head-alone}
+use Rattle.c_listing.specs.ListingLaws.{head-long, row-long, written-bytes, refused-bytes, kept-part, part-long, record-put, head-alone}
 use borrow.Author.Needs.{needs}
-use Rattle.c_rows.proofs.all_rows.put_record.Statement.{statement}
-use Rattle.c_rows.proofs.all_rows.put_record.Tie as tie
+use Rattle.c_listing.proofs.put_record.Statement.{statement}
+use Rattle.c_listing.proofs.put_record.Tie as tie
 
 returns : tie.Need-returns
 returns c = (past-end _ _ _ (omega arith), past-into _ _ _ (omega arith))

@@ -1,9 +1,9 @@
--- `c_rows::all_rows::put_head` meets its contract: one pair after the other.
+-- `c_listing::put_head` meets its contract: one pair after the other.
 -- Assumes nothing.
-use Rattle.c_rows.specs.AllRowsLaws.{head-put}
+use Rattle.c_listing.specs.ListingLaws.{head-put}
 use borrow.Author.Needs.{needs}
-use Rattle.c_rows.proofs.all_rows.put_head.Statement.{statement}
-use Rattle.c_rows.proofs.all_rows.put_head.Tie as tie
+use Rattle.c_listing.proofs.put_head.Statement.{statement}
+use Rattle.c_listing.proofs.put_head.Tie as tie
 
 returns : tie.Need-returns
 returns c = head-put _ _ _ _ _ _ _ _ _ _ _ _ (c .before .before .before .before .before .before .before .before .before .before .before .before .pair .ensures) (c .before .before .before .before .before .before .before .before .before .before .pair2 .ensures) (c .before .before .before .before .before .before .before .put .ensures .0) (c .before .before .before .before .before .before .before .put .ensures .1) (c .before .before .put2 .ensures .0) (c .before .before .put2 .ensures .1) (c .before .before .before .before .before .before .before .before .before .before .before .before .before .before .pre)

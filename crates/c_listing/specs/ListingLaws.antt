@@ -22,7 +22,7 @@ use Rattle.typedescriptor.specs.Slots.{slots, slotRow, Found, found, rowsFrom}
 use Rattle.typedescriptor.specs.SlotsLaws.{rows-out}
 use Rattle.qualified_name.specs.Name.{tooDeep, qualifiedName, nameAnswer}
 use Rattle.qualified_name.specs.NameLaws.{name-length}
-use Rattle.c_rows.specs.AllRows.{eightBytes, twoNumbers, headBytes, rowBytes, RowListing, recordThen, recordsIn, listingFrom, listingNumbers, listingBytes}
+use Rattle.c_listing.specs.Listing.{eightBytes, twoNumbers, headBytes, rowBytes, RowListing, recordThen, recordsIn, listingFrom, listingNumbers, listingBytes}
 
 -- the records of all these rows
 unfoldable pub records : List ℕ → List ℕ → List Found → List ℕ

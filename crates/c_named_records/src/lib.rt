@@ -1,7 +1,7 @@
-// The same with both names of each record.
+// The records of a field descriptor with both names for programs in C or Rust, by the rules of the crate `c_rows`, in an archive of its own: a reader
+// that one loop uses is compiled into it.
 ghost use Rattle.named_records.specs.NamedRecords.{guardedNamed};
 ghost use Rattle.c_tables.specs.Tables.{TellsTable};
-ghost use Rattle.c_fields.specs.Fields.{recordsAt};
 use field::FieldRecordIter;
 
 // Ten for each field record: the four of `hodrupec_field_records`; of the type's name the three of `hodrupec_text_at`; and of the field's the three of
@@ -20,7 +20,7 @@ pub extern "C" fn hodrupec_named_records(
     buffer: &mut [u64],
     out: &mut [u64; 2],
 ) -> u64
-    ensures { λ r. ⌜ TellsTable (guardedNamed (now (image .entry)) (now (segments .entry)) (now (strings .entry)) «strings_va» (recordsAt «base_va» count size next) (now (buffer .entry))) (now (out .entry)) (now (buffer .entry)) r (now (out .exit)) (now (buffer .exit)) ⌝ }
+    ensures { λ r. ⌜ TellsTable (guardedNamed (now (image .entry)) (now (segments .entry)) (now (strings .entry)) «strings_va» (record { «base_va» = «base_va»; count = count; «entry_size» = size; cursor = next }) (now (buffer .entry))) (now (out .entry)) (now (buffer .entry)) r (now (out .exit)) (now (buffer .exit)) ⌝ }
 {
     let walk = FieldRecordIter {
         base_va,

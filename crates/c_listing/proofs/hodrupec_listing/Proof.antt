@@ -1,10 +1,10 @@
--- `c_rows::all_rows::hodrupec_listing` meets its contract.
+-- `c_listing::hodrupec_listing` meets its contract.
 -- Assumes nothing.
-use Rattle.c_rows.specs.AllRows.{listingNumbers, listingBytes}
+use Rattle.c_listing.specs.Listing.{listingNumbers, listingBytes}
 use Rattle.c_rows.specs.NumbersLaws.{tells-whole, tells-ragged, writes-whole, keeps-ragged}
 use borrow.Author.Needs.{needs}
-use Rattle.c_rows.proofs.all_rows.hodrupec_listing.Statement.{statement}
-use Rattle.c_rows.proofs.all_rows.hodrupec_listing.Tie as tie
+use Rattle.c_listing.proofs.hodrupec_listing.Statement.{statement}
+use Rattle.c_listing.proofs.hodrupec_listing.Tie as tie
 
 returns : tie.Need-returns
 returns c = (tells-ragged _ _ listingNumbers _ _ (c .before .if1 .taken) (c .number .ensures), keeps-ragged _ _ listingBytes _ (c .before .if1 .taken))

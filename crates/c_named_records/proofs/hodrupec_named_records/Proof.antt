@@ -1,9 +1,9 @@
--- `c_fields::named::hodrupec_named_records` meets its contract.
+-- `c_named_records::hodrupec_named_records` meets its contract.
 -- Assumes nothing.
 use Rattle.c_tables.specs.TablesLaws.{tells-table}
 use borrow.Author.Needs.{needs}
-use Rattle.c_fields.proofs.named.hodrupec_named_records.Statement.{statement}
-use Rattle.c_fields.proofs.named.hodrupec_named_records.Tie as tie
+use Rattle.c_named_records.proofs.hodrupec_named_records.Statement.{statement}
+use Rattle.c_named_records.proofs.hodrupec_named_records.Tie as tie
 
 returns : tie.Need-returns
 returns c = tells-table _ (c .before .before .before .before .named-records .result) _ _ _ _ _ (c .before .before .before .before .named-records .ensures) (c .tell-counts .ensures)
