@@ -1,4 +1,4 @@
--- A piece of a text in a buffer: docs/SPECIFICATION.md, "Lent buffers".
+-- A piece of a text in a buffer: docs/SPECIFICATION.md, "The caller's buffers".
 use Prim.Native.Nat.{ℕ, _+_}
 use mathlib.Core.Path.{_≡_}
 use mathlib.Core.List.{List, _++_}
