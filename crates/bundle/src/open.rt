@@ -1,4 +1,4 @@
-// Opening a bundle: the five kinds in turn, each taken where its record comes next, and nothing left over.
+// Opens a bundle: takes the five kinds in turn, each if its record comes next, and leaves nothing over.
 ghost use mathlib.Core.Path.{_≡_};
 ghost use Rattle.bundle.specs.Bundle.{bodyFits, sectionIn};
 ghost use Rattle.bundle.specs.Open.{takeAt, openBundle, opened, Within};
@@ -22,7 +22,7 @@ pub struct Section {
     pub part: Part,
 }
 
-// Where everything lies. What is missing has only zeros.
+// Where everything lies. A part that is missing has only zeros.
 pub struct Layout {
     pub image: Part,
     pub segments: Part,
@@ -43,7 +43,7 @@ pub struct Taken {
     pub next: usize,
 }
 
-// Whether a body of a kind may have so many bytes.
+// Whether a body of a kind may have `length` bytes.
 pub fn body_fits(kind: u16, length: usize) -> bool
     ensures { λ r. ⌜ r ≡ bodyFits kind length ⌝ }
 {
@@ -96,7 +96,7 @@ fn take_record(bytes: &[u8], at: usize, kind: u16) -> Taken
     }
 }
 
-// The section whose body this is; one under 8 bytes is a missing one.
+// The section that has this body; a body of fewer than 8 bytes is a missing section.
 fn section_of(bytes: &[u8], body: Part) -> Section
     requires { ⌜ Within (now bytes) body ⌝ }
     ensures { λ r. ⌜ r ≡ sectionIn (now (bytes .entry)) body ⌝ }

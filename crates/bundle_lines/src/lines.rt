@@ -20,7 +20,7 @@ use type_lines::refused_line;
 // No bundle has more lines.
 pub const LINES: usize = 16385;
 
-// What is left to print: the lines of a bundle's rows from where the walk stands, the line of a refused bundle, or nothing.
+// What is left to print: the lines of a bundle's rows from the walk's position on, the line of a refused bundle, or nothing.
 pub enum BundleLineIter {
     Rows { layout: Layout, walk: LineIter },
     Refused(Refusal),
@@ -28,7 +28,7 @@ pub enum BundleLineIter {
 }
 
 pub enum PrintStep {
-    // A line of so many bytes at the buffer's start, and what is left then.
+    // A line of `length` bytes at the buffer's start, and what is then left.
     Line { length: usize, next: BundleLineIter },
     Done,
     Refused(Refusal),

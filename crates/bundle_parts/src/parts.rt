@@ -3,7 +3,7 @@ ghost use mathlib.Core.Path.{_≡_};
 ghost use Rattle.bundle_parts.specs.Parts.{bytesOf};
 use bundle::Layout;
 
-// What a segment says of its place.
+// Where a segment lies, in memory and in the file.
 pub struct Segment {
     pub vmaddr: u64,
     pub vmsize: u64,

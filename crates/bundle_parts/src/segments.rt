@@ -9,7 +9,7 @@ use crate::parts::SegmentRead;
 use bundle::Layout;
 use util::ReadU64;
 
-// How many numbers a list has that takes the segments of every bundle.
+// The length of a list that holds the segment numbers of every bundle.
 pub const SEGMENT_NUMBERS: usize = 8192;
 
 // The number in the eight bytes from an offset on.
@@ -23,7 +23,7 @@ fn u64_in(body: &[u8], at: usize) -> u64
     }
 }
 
-// The segment of a number, or nothing past the last.
+// The segment with a number; nothing past the last.
 pub fn segment(bytes: &[u8], layout: Layout, number: usize) -> SegmentRead
     ensures { λ r. ⌜ segmentOf r ≡ segmentIn (segmentBytes (now (bytes .entry)) layout) number ⌝ }
 {
@@ -65,7 +65,7 @@ fn fill(bytes: &[u8], layout: Layout, out: &mut [u64]) -> usize
     4 * k
 }
 
-// The numbers of all segments, four to a segment, at the start of a list, and how many they are.
+// Writes the numbers of all segments, four to a segment, at the start of a list, and returns how many there are.
 pub fn segment_numbers(bytes: &[u8], layout: Layout, out: &mut [u64; SEGMENT_NUMBERS]) -> usize
     ensures { λ r. ⌜ r ≡ length (listedNumbers (now (bytes .entry)) layout) ⌝ }
     ensures { λ _. ⌜ now (out .exit) ≡ atStart (listedNumbers (now (bytes .entry)) layout) (now (out .entry)) ⌝ }

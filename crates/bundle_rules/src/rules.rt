@@ -22,7 +22,7 @@ pub enum Rule {
 }
 
 pub enum Broken {
-    // The rule, and the offset of the record that breaks it; of a missing image, the bytes' end.
+    // The rule, and the offset of the record that breaks it; for a missing image, the end of the bytes.
     At { rule: Rule, at: usize },
     // The bundle is not refused for a rule.
     Whole,

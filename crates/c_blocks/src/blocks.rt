@@ -1,4 +1,4 @@
-// The blocks that trail a descriptor. Kinds are told by their numbers in the order in which blocks follow each other, and a block's three numbers are
+// The blocks that trail a descriptor. A kind is its number in the order in which blocks follow each other, and a block's three numbers are
 // those of a full row.
 ghost use mathlib.Core.Path.{_≡_};
 ghost use Rattle.refusal.specs.Refusal.{answered, mapped};
@@ -32,7 +32,7 @@ fn start_numbers(read: TrailingRead) -> [u64; 4]
     }
 }
 
-// The block of a kind, by the kind's number, of the descriptor at an address, which has these flags.
+// The block of the kind with a number, for the descriptor with these flags at an address.
 fn block_numbered(
     image: &[u8],
     segments: &[u64],
@@ -53,7 +53,7 @@ fn block_numbered(
     }
 }
 
-// Where the walk over a descriptor's blocks starts: 1, whether it is a class, the extra class flags (0 where there are none), and the
+// Where the walk over a descriptor's blocks starts: 1, whether it is a class, the extra class flags (0 if there are none), and the
 // address of the first block. A walk starts at row 0.
 #[no_mangle]
 pub extern "C" fn hodrupec_first_block(
@@ -121,7 +121,7 @@ pub extern "C" fn hodrupec_next_block(
     }
 }
 
-// 1, the kind and the three numbers of the block of a kind of the descriptor at an address. A kind above 10 has none.
+// The block of a kind of the descriptor at an address: 1, the kind and its three numbers. There is none for a kind above 10.
 #[no_mangle]
 pub extern "C" fn hodrupec_block_of_kind(
     image: &[u8],

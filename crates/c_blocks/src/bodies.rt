@@ -17,7 +17,7 @@ use type_body::TypeBody;
 // The status of a call that answers.
 pub const ANSWERED: u64 = 0;
 
-// The first number of an answer: that there is something, and for a body which one.
+// The first number of an answer: that there is something, and for a body its kind.
 pub const THERE: u64 = 1;
 
 const CLASS: u64 = 1;
@@ -108,9 +108,9 @@ fn body_numbers(body: TypeBody) -> [u64; 8]
     }
 }
 
-// The body of the descriptor at an address, which has these flags. Of a class: 1, the address of the superclass's name (0: none), 1 if the
+// The body of the descriptor with these flags at an address. For a class: 1, the address of the superclass's name (0: none), 1 if the
 // superclass is resilient, the metadata's negative and positive words or the address of its bounds and the extra class flags, immediate
-// members, fields, the offset vector's word. Of a struct: 2, fields, the offset vector's word. Of an enum: 3, payload cases, the payload
+// members, fields, the offset vector's word. For a struct: 2, fields, the offset vector's word. For an enum: 3, payload cases, the payload
 // size's word, empty cases.
 #[no_mangle]
 pub extern "C" fn hodrupec_body(

@@ -1,5 +1,5 @@
-// The entries of tables: each call is a step of a walk that stands at entry `next`. Told are: 1, the next entry's number, the entry's
-// address and what its words say; 2, the next entry's number and no more for an entry that cannot be read; only 0 at the end.
+// The entries of tables: each call is a step of a walk that stands at entry `next`. It writes 1, the next entry's number, the entry's
+// address and what its words say; 2, the next entry's number and zeros for an entry that cannot be read; zeros at the end.
 ghost use mathlib.Core.Path.{_≡_};
 ghost use Rattle.refusal.specs.Refusal.{answered, mapped};
 ghost use Rattle.vtable.specs.Entries.{method, override, defaultOverride, prespecialization, entryStep, stepAnswer};

@@ -4,8 +4,8 @@ ghost use Rattle.entry_tables.specs.Tables.{guardedTable};
 ghost use Rattle.c_tables.specs.Tables.{cursorAt, TellsTable};
 use vtable::EntryIter;
 
-// Three numbers for each method: its address, its flags, the implementation.
-// How many entries were written, and why no more: 0 the table's end, 1 the buffer is full, 2 an entry that cannot be read.
+// Writes three numbers for each method: its address, its flags, the implementation. `out` says how many entries were
+// written, and why no more: 0 the table's end, 1 the buffer is full, 2 an entry that cannot be read.
 #[no_mangle]
 pub extern "C" fn hodrupec_methods(
     image: &[u8],

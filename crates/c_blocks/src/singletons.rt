@@ -12,7 +12,7 @@ use steps::PointerAnswer;
 use type_body::SingletonMetadataInit;
 use type_body::SingletonMetadataPointer;
 
-// 1, and the addresses of the initialization cache, the incomplete metadata and the completion function, each 0 where there is none.
+// 1, and the addresses of the initialization cache, the incomplete metadata and the completion function, each 0 if there is none.
 #[no_mangle]
 pub extern "C" fn hodrupec_singleton_init(
     image: &[u8],

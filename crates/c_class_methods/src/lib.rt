@@ -1,5 +1,5 @@
-// The methods of the classes of a types section for programs in C or Rust, by the rules of the crate `c_rows`, in an archive of its own: a reader
-// that one loop uses is compiled into it.
+// The methods of the classes of a types section for programs in C or Rust, by the rules of the crate `c_rows`, in an archive of its own: a
+// reader that only one loop uses is compiled into that loop.
 ghost use mathlib.Core.Path.{_≡_};
 ghost use lib.ListN.{length};
 ghost use Rattle.refusal.specs.Refusal.{answered, mapped, answerOf};
@@ -13,10 +13,10 @@ use class_methods::ClassMethods;
 // The status of a call that answers.
 const ANSWERED: u64 = 0;
 
-// The methods of the classes that have a vtable, from a slot on and of its class from method `first` on, as many as the buffer holds. Four numbers
-// for each class: its slot, its address, how many of its methods follow, and why no more (0 the table ends, 1 the buffer is full, 2 the next method
-// cannot be read); then three for each method: its address, its flags, its implementation's address (0: none). Told are: how many classes were
-// written, the slot and the method to go on from, and 1 if all are given, 0 if the buffer was full.
+// The methods of the classes that have a vtable, from a slot on and, for its class, from method `first` on, as many as the buffer holds.
+// Four numbers for each class: its slot, its address, how many of its methods follow, and why no more (0 the table ends, 1 the buffer is
+// full, 2 the next method cannot be read); then three for each method: its address, its flags, its implementation's address (0: none).
+// `out` says how many classes were written, the slot and the method to go on from, and 1 if all are given, 0 if the buffer was full.
 #[no_mangle]
 pub extern "C" fn hodrupec_class_methods(
     image: &[u8],

@@ -1,4 +1,4 @@
-// What can be known of an image by its first bytes.
+// What is certain of an image by its first bytes.
 ghost use Rattle.refusal.specs.Refusal.{answered, mapped};
 ghost use Rattle.typedescriptor.specs.Slots.{slotRow};
 ghost use Rattle.refusal.specs.Guarded.{guarded};
@@ -10,7 +10,7 @@ ghost use Rattle.c_fields.specs.Certain.{certainNumber};
 use crate::fields::ANSWERED;
 use certainty::Certainty;
 
-// The first number of an answer that no further byte changes.
+// The number of an answer that no further byte changes.
 const CERTAIN: u64 = 1;
 
 fn tell_certainty(answer: Certainty, out: &mut [u64; 1]) -> u64
@@ -29,8 +29,8 @@ fn tell_certainty(answer: Certainty, out: &mut [u64; 1]) -> u64
     }
 }
 
-// Of a slot of a types section whose first byte is at `vmaddr`: 1 if its row, or that it has none, is that of every image that starts with these
-// bytes; 0 if a byte that follows can change it.
+// For a slot of a types section whose first byte is at `vmaddr`: 1 if its row, or that it has none, is the same in every image that starts
+// with these bytes; 0 if a byte that follows can change it.
 #[no_mangle]
 pub extern "C" fn hodrupec_row_certain(
     image: &[u8],
@@ -48,7 +48,7 @@ pub extern "C" fn hodrupec_row_certain(
     )
 }
 
-// The same of the row and its joined name.
+// The same for the row with its joined name.
 #[no_mangle]
 pub extern "C" fn hodrupec_name_certain(
     image: &[u8],

@@ -1,4 +1,4 @@
-// The descriptors of a fields section and their records: each call is a step of a walk. Their names are calls of their own, in names.rt.
+// The descriptors of a fields section and their records: each call is a step of a walk. The calls for their names are in names.rt.
 ghost use mathlib.Core.Path.{_≡_};
 ghost use Rattle.refusal.specs.Refusal.{answered, mapped};
 ghost use Rattle.field.specs.Fields.{fieldStep};
@@ -20,8 +20,9 @@ pub const THERE: u64 = 1;
 
 const UNREADABLE: u64 = 2;
 
-// From an offset of the section on: 1, the offset to go on from, the descriptor's address, kind, record size, count of records, and the
-// addresses of the type's and the superclass's name, 0 where there is none. Where there is no descriptor all are 0 but the offset.
+// The descriptor at an offset of the section: 1, the offset to go on from, the descriptor's address, kind, record size, count of
+// records, and the addresses of the type's and the superclass's name, 0 if there is none. Without a descriptor all but the offset are
+// 0.
 #[no_mangle]
 pub extern "C" fn hodrupec_next_field(
     fields: &[u8],
@@ -53,8 +54,8 @@ pub extern "C" fn hodrupec_next_field(
     }
 }
 
-// Record `next` of so many, `size` bytes from one to the next: 1, the next record's number, the record's address, its flags, and the addresses of
-// the type's and the field's name, 0 where there is none; 2 and the next record's number where it cannot be read.
+// Record `next` of `count` records, `size` bytes from one to the next: 1, the next record's number, the record's address, its flags, and
+// the addresses of the type's and the field's name, 0 if there is none; 2 and the next record's number if it cannot be read.
 #[no_mangle]
 pub extern "C" fn hodrupec_next_field_record(
     image: &[u8],

@@ -1,5 +1,5 @@
 // The names of field descriptors and of field records. A record is the four numbers that `hodrupec_field_records` writes for it, and
-// `hodrupec_next_field_record` behind its first two; a descriptor is the six that `hodrupec_next_field` writes behind its first two.
+// `hodrupec_next_field_record` after its first two; a descriptor is the six that `hodrupec_next_field` writes after its first two.
 ghost use mathlib.Core.Path.{_≡_};
 ghost use Rattle.refusal.specs.Refusal.{answered, mapped};
 ghost use Rattle.runtime.specs.Reads.{textPlace};
@@ -66,7 +66,7 @@ pub extern "C" fn hodrupec_descriptor_type_name(
     tell_text(name, out)
 }
 
-// The same of its superclass.
+// The same for its superclass.
 #[no_mangle]
 pub extern "C" fn hodrupec_descriptor_superclass_name(
     image: &[u8],
@@ -80,7 +80,7 @@ pub extern "C" fn hodrupec_descriptor_superclass_name(
     tell_text(name, out)
 }
 
-// The same of the type of a record's field.
+// The same for the type of a record's field.
 #[no_mangle]
 pub extern "C" fn hodrupec_record_type_name(
     image: &[u8],
@@ -94,7 +94,8 @@ pub extern "C" fn hodrupec_record_type_name(
     tell_text(name, out)
 }
 
-// Of a record's field: 1 for a name in the image, 2 for one in the string section, whose first byte is at `strings_va`, and its place and length.
+// The name of a record's field: 1 if it is in the image, 2 if it is in the string section, whose first byte is at `strings_va`, and its
+// place and length.
 #[no_mangle]
 pub extern "C" fn hodrupec_record_field_name(
     image: &[u8],

@@ -22,8 +22,8 @@ fn offsets_numbers(offsets: FieldOffsets) -> [u64; 3]
     }
 }
 
-// Where the offsets lie of the fields of the struct whose descriptor is at an address and has these flags, by the metadata at another: 1, their
-// place in the image, and how many there are.
+// Where the field offsets lie of the struct whose descriptor is at an address and has these flags, for metadata at another address: 1,
+// their place in the image, and how many there are.
 #[no_mangle]
 pub extern "C" fn hodrupec_field_offsets(
     image: &[u8],
@@ -45,7 +45,7 @@ pub extern "C" fn hodrupec_field_offsets(
     }
 }
 
-// The same by the metadata that the descriptor's singleton pointer refers to.
+// The same for the metadata that the descriptor's singleton pointer refers to.
 #[no_mangle]
 pub extern "C" fn hodrupec_static_field_offsets(
     image: &[u8],
@@ -65,7 +65,8 @@ pub extern "C" fn hodrupec_static_field_offsets(
     }
 }
 
-// 1 and the offset of the field with this number, of so many offsets from a place of the image on. It takes no segments, and refuses nothing.
+// 1 and the offset of the field with this number, out of `count` offsets that start at a place of the image. It takes no segments, and
+// refuses nothing.
 #[no_mangle]
 pub extern "C" fn hodrupec_field_offset(
     image: &[u8],

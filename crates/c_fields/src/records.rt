@@ -4,8 +4,9 @@ ghost use Rattle.entry_tables.specs.Tables.{guardedTable};
 ghost use Rattle.c_tables.specs.Tables.{cursorAt, TellsTable};
 use field::FieldRecordIter;
 
-// Four for each field record, `size` bytes from one to the next: its address, its flags, the addresses of the type's name and of the field's.
-// How many entries were written, and why no more: 0 the table's end, 1 the buffer is full, 2 an entry that cannot be read.
+// Writes four numbers for each field record, `size` bytes from one to the next: its address, its flags, the addresses of the type's name
+// and of the field's. `out` says how many records were written, and why no more: 0 the table's end, 1 the buffer is full, 2 a record that
+// cannot be read.
 #[no_mangle]
 pub extern "C" fn hodrupec_field_records(
     image: &[u8],

@@ -1,5 +1,5 @@
-// The rows of a types section with body and all trailing blocks for programs in C or Rust, by the rules of the crate `c_rows`, in an archive of
-// its own: a reader that one loop uses is compiled into it.
+// The rows of a types section with body and all trailing blocks for programs in C or Rust, by the rules of the crate `c_rows`, in an
+// archive of its own: a reader that only one loop uses is compiled into that loop.
 ghost use mathlib.Core.Path.{_≡_};
 ghost use lib.ListN.{length};
 ghost use Rattle.refusal.specs.Refusal.{answered, mapped, answerOf};
@@ -15,9 +15,10 @@ const ANSWERED: u64 = 0;
 
 // The records of the rows from a slot on, as many as the buffer holds. A record has 58 numbers:
 //   0  the row's slot, address, flags, parent (0: none), and the name's place in the image and length;
-//   6  the body as `hodrupec_body` gives it, eight numbers;
-//  14  for each kind of block, in the order in which they follow a descriptor, 1 and the three numbers of `hodrupec_next_block`, or four times 0.
-// Told are: how many records were written, the slot to go on from, and 1 if all rows are given, 0 if the buffer was full before the row of that slot.
+//   6  the body as `hodrupec_body` writes it, eight numbers;
+//  14  for each kind of block, in the order in which they follow a descriptor, 1 and the three numbers of `hodrupec_next_block`, or four zeros.
+// `out` says how many records were written, the slot to go on from, and 1 if all rows are given, 0 if the buffer was full before the row of
+// that slot.
 #[no_mangle]
 pub extern "C" fn hodrupec_full_rows(
     image: &[u8],

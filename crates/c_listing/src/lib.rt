@@ -1,5 +1,5 @@
-// All rows of a types section, in as many calls as the buffer's size asks for, for programs in C or Rust, by the rules of the crate `c_rows`, in an
-// archive of its own: a reader that one loop uses is compiled into it.
+// All rows of a types section, in as many calls as the buffer's size needs, for programs in C or Rust, by the rules of the crate `c_rows`,
+// in an archive of its own: a reader that only one loop uses is compiled into that loop.
 ghost use Prim.Native.Nat.{_+_, _≤_};
 ghost use mathlib.Core.Path.{_≡_};
 ghost use lib.ListN.{length};
@@ -21,7 +21,7 @@ const ANSWERED: u64 = 0;
 // How many bytes of a record come before the name.
 const HEAD: usize = 32;
 
-// The refusal of a name that no buffer would hold, and what stands for the name's length then: 2^64 - 4.
+// The refusal that no larger buffer would avoid, and what then stands for the name's length: 2^64 - 4.
 const DEEP_CONTEXTS: u64 = 4;
 
 const TOO_DEEP: u64 = 0xffff_ffff_ffff_fffc;
@@ -66,7 +66,7 @@ fn put_head(slot: usize, row: Row, name_length: u64, buffer: &mut [u8], at: usiz
     util::put(&second, buffer, middle)
 }
 
-// Puts a row's record at a place, and returns where it ends: where it starts, if it does not fit.
+// Puts a row's record at a place, and returns where it ends, or its start if it does not fit.
 fn put_record(
     image: &[u8],
     segments: &[u64],
@@ -134,8 +134,9 @@ fn put_rows(
 }
 
 // The records of the rows from a slot on, one after the other, as long as they fit: a row's slot, its address, its flags and the length
-// of its joined name, eight bytes each, and the name. A name that is refused with 4 has the length 2^64 - 4 and no bytes. Told are: how
-// many bytes were written, the slot to go on from, and 1 if all rows are given, 0 if the buffer was full before the row of that slot.
+// of its joined name, eight bytes each, and the name. A name that is refused with 4 has the length 2^64 - 4 and no bytes. `out` says
+// how many bytes were written, the slot to go on from, and 1 if all rows are given, 0 if the buffer was full before the row of that
+// slot.
 #[no_mangle]
 pub extern "C" fn hodrupec_listing(
     image: &[u8],

@@ -1,12 +1,12 @@
-// The records of a field descriptor with both names for programs in C or Rust, by the rules of the crate `c_rows`, in an archive of its own: a reader
-// that one loop uses is compiled into it.
+// The records of a field descriptor with both names for programs in C or Rust, by the rules of the crate `c_rows`, in an archive of its
+// own: a reader that only one loop uses is compiled into that loop.
 ghost use Rattle.named_records.specs.NamedRecords.{guardedNamed};
 ghost use Rattle.c_tables.specs.Tables.{TellsTable};
 use field::FieldRecordIter;
 
-// Ten for each field record: the four of `hodrupec_field_records`; of the type's name the three of `hodrupec_text_at`; and of the field's the three of
-// `hodrupec_field_name`, with a string section whose first byte is at `strings_va`. How many records were written, and why no more: 0 the table's end,
-// 1 the buffer is full, 2 a record that cannot be read.
+// Writes ten numbers for each field record: the four of `hodrupec_field_records`; for the type's name the three of `hodrupec_text_at`; and
+// for the field's name the three of `hodrupec_field_name`, with a string section whose first byte is at `strings_va`. `out` says how many
+// records were written, and why no more: 0 the table's end, 1 the buffer is full, 2 a record that cannot be read.
 #[no_mangle]
 pub extern "C" fn hodrupec_named_records(
     image: &[u8],

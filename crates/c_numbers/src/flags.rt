@@ -1,5 +1,5 @@
-// The flag words, each accessor's answer as a number: what the comparison holds against the Rust's. A kind is its place in the enumeration, or 256 and
-// its number where no kind has it. The first number is always 1: every word has an answer.
+// The flag words, each accessor's answer as a number, which the comparison compares with the Rust's. A kind is its place in the
+// enumeration, or 256 plus its number if no kind has it. The first number is always 1: every word has an answer.
 ghost use mathlib.Core.Path.{_≡_};
 ghost use Rattle.c_numbers.specs.Flags.{flagNumber, kindNumber, initializationNumber, referenceNumber, fieldKindNumber, methodNumber, contextFlagNumbers, typeFlagNumbers, classFlagNumbers, conformanceFlagNumbers, fieldKindNumbers, fieldFlagNumbers, methodFlagNumbers};
 use context::ConformanceFlags;
@@ -139,8 +139,8 @@ pub extern "C" fn hodrupec_type_flags(word: u16, out: &mut [u64; 7]) -> u64
     0
 }
 
-// Of a class: 1, default override table, actor, default actor, the kind of the reference to the superclass, negative members, resilient superclass,
-// override table, vtable.
+// For a class: 1, default override table, actor, default actor, the kind of the reference to the superclass, negative members, resilient
+// superclass, override table, vtable.
 #[no_mangle]
 pub extern "C" fn hodrupec_class_flags(word: u16, out: &mut [u64; 9]) -> u64
     ensures { λ r. ⌜ (r ≡ 0) × (now (out .exit) ≡ classFlagNumbers word) ⌝ }

@@ -57,7 +57,7 @@ pub extern "C" fn hodrupec_uleb128(bytes: &[u8], out: &mut [u64; 3]) -> u64
     0
 }
 
-// The same of a signed number, by its 64 bits.
+// The same for a signed number, as its 64 bits.
 #[no_mangle]
 pub extern "C" fn hodrupec_sleb128(bytes: &[u8], out: &mut [u64; 3]) -> u64
     ensures { λ r. ⌜ (r ≡ 0) × (now (out .exit) ≡ slebNumbers (sleb128 (now (bytes .entry)))) ⌝ }
@@ -104,7 +104,7 @@ pub extern "C" fn hodrupec_u64_be(data: &[u8], off: usize, out: &mut [u64; 2]) -
     0
 }
 
-// 1 and the length of the text of a field of fixed size, which starts with it.
+// 1 and the length of the text at the start of a field of fixed size.
 #[no_mangle]
 pub extern "C" fn hodrupec_fixed_text(bytes: &[u8], out: &mut [u64; 2]) -> u64
     ensures { λ r. ⌜ (r ≡ 0) × (now (out .exit) ≡ lengthNumbers (fixedText (now (bytes .entry)))) ⌝ }

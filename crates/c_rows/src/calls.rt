@@ -75,7 +75,7 @@ pub extern "C" fn hodrupec_text(data: &[u8], off: usize, out: &mut [u64; 3]) -> 
     ANSWERED
 }
 
-// The numbers of a field's name, by the name's address.
+// The numbers of the field name at an address.
 #[no_mangle]
 pub extern "C" fn hodrupec_field_name(
     image: &[u8],
@@ -129,8 +129,8 @@ pub extern "C" fn hodrupec_next_row(
     }
 }
 
-// A step of a walk that stands at an address and has given so many contexts: 1, address, flags, the address to go on from, how many
-// are given then, and the name as 1, place and length.
+// A step of a walk that stands at an address and has given `given` contexts: 1, address, flags, the address to go on from, how many
+// have then been given, and the name as 1, place and length.
 #[no_mangle]
 pub extern "C" fn hodrupec_next_context(
     image: &[u8],
@@ -169,7 +169,7 @@ pub extern "C" fn hodrupec_next_context(
     }
 }
 
-// The joined name of a row with this parent and this name, written at the buffer's start: its length.
+// Writes the joined name of a row with this parent and this name at the buffer's start; `out` is its length.
 #[no_mangle]
 pub extern "C" fn hodrupec_qualified_name(
     image: &[u8],

@@ -1,7 +1,7 @@
 // Whole tables for programs in C or Rust, by the rules of the crate `c_rows`: the entries from one on up to the first that cannot be read,
-// as many as the caller's buffer holds. Methods stand in `c_blocks` and field records in `c_fields`: with one kind of table to an
-// archive its loop is made for that kind. Told are: how many were written, and why no more: 0 the table's end, 1 the buffer is full, 2 an entry that
-// cannot be read.
+// as many as the caller's buffer holds. The call for methods is in `c_blocks` and that for field records in `c_fields`: with one kind of
+// table in an archive, the compiler makes the loop for that kind. `out` says how many entries were written, and why no more: 0 the table's
+// end, 1 the buffer is full, 2 an entry that cannot be read.
 ghost use Rattle.refusal.specs.Refusal.{mapped};
 ghost use Rattle.vtable.specs.Entries.{override, defaultOverride, prespecialization};
 ghost use Rattle.entry_tables.specs.Tables.{tableAnswer, guardedTable};
@@ -13,7 +13,7 @@ use vtable::EntryIter;
 // The status of a call that answers.
 const ANSWERED: u64 = 0;
 
-// What a call over a table returns, and writes of its answer.
+// Writes the counts of a table's answer, and returns the status.
 pub fn tell_counts(answer: TableAnswer, out: &mut [u64; 2]) -> u64
     ensures { λ r. ⌜ Tells (mapped countNumbers (tableAnswer answer)) (now (out .entry)) r (now (out .exit)) ⌝ }
 {
@@ -26,7 +26,7 @@ pub fn tell_counts(answer: TableAnswer, out: &mut [u64; 2]) -> u64
     }
 }
 
-// Four for each override: its address, the class, the method, the implementation.
+// Writes four numbers for each override: its address, the class, the method, the implementation.
 #[no_mangle]
 pub extern "C" fn hodrupec_overrides(
     image: &[u8],
@@ -47,7 +47,7 @@ pub extern "C" fn hodrupec_overrides(
     tell_counts(entry_tables::overrides(image, segments, walk, buffer), out)
 }
 
-// Three for each default override: its address, the method, the implementation.
+// Writes three numbers for each default override: its address, the method, the implementation.
 #[no_mangle]
 pub extern "C" fn hodrupec_default_overrides(
     image: &[u8],
@@ -71,7 +71,7 @@ pub extern "C" fn hodrupec_default_overrides(
     )
 }
 
-// Two for each prespecialization: its address, the metadata.
+// Writes two numbers for each prespecialization: its address, the metadata.
 #[no_mangle]
 pub extern "C" fn hodrupec_prespecializations(
     image: &[u8],

@@ -1,4 +1,5 @@
-// The public calls. Each refuses a list of segment numbers that is not a multiple of four, before all else (refusal 1), and owes its caller nothing.
+// The public calls. Each refuses a list of segment numbers whose count is not a multiple of four, before anything else (refusal 1), and
+// requires nothing of its caller.
 ghost use mathlib.Core.Path.{_≡_};
 ghost use Rattle.refusal.specs.Refusal.{answered};
 ghost use Rattle.typedescriptor.specs.Slots.{slotRow};
@@ -14,7 +15,7 @@ use typedescriptor::Descriptor;
 // Whether an answer for the bytes that arrived stays the same, whatever bytes follow.
 pub enum Certainty {
     Certain,
-    // It was read up to the end of what arrived.
+    // A read met the end of what arrived.
     Open,
     Refused(Refusal),
 }
@@ -29,7 +30,7 @@ fn told(certain: bool) -> Certainty
     }
 }
 
-// Of a slot of the types section, whether its row is certain: or that it has none.
+// Whether the row of a slot of the types section is certain, or that it has none.
 pub fn row_certain(
     image: &[u8],
     segments: &[u64],
@@ -45,7 +46,7 @@ pub fn row_certain(
     told(slot_certain(image, segments, types, vmaddr, slot))
 }
 
-// The same of the row and its joined name.
+// The same for the row with its joined name.
 pub fn name_certain(
     image: &[u8],
     segments: &[u64],

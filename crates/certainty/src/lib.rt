@@ -1,4 +1,4 @@
-// What the holder of an image's first bytes can know: whether a row of their listing, or its joined name, is that of every image that starts with them.
+// What is certain by an image's first bytes: whether a row of their listing, or its joined name, is that of every image that starts with them.
 mod calls;
 mod chain;
 mod reads;

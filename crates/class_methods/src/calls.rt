@@ -13,9 +13,9 @@ pub enum ClassMethods {
     Refused(Refusal),
 }
 
-// The methods of the classes that have a vtable, from a slot on and of its class from a method on, as many as the list holds. Four numbers for each
-// class: its slot, its address, how many of its methods follow, and why no more (0 the table ends, 1 the list is full, 2 the next method cannot be
-// read); then three for each method: its address, its flags, its implementation's address.
+// The methods of the classes that have a vtable, from a slot on and, for its class, from a method on, as many as the list holds. Four
+// numbers for each class: its slot, its address, how many of its methods follow, and why no more (0 the table ends, 1 the list is full, 2
+// the next method cannot be read); then three for each method: its address, its flags, its implementation's address.
 pub fn class_methods(
     image: &[u8],
     segments: &[u64],

@@ -18,7 +18,7 @@ const HEAD: usize = 4;
 
 const METHOD: usize = 3;
 
-// How many classes the list has, where to go on: the slot, and the number of a method of its class; and whether all are given.
+// How many classes the list has; where to go on: the slot, and the number of a method of its class; and whether all are given.
 pub struct Given {
     pub classes: usize,
     pub next: usize,
@@ -58,7 +58,8 @@ fn put_class(
     listed
 }
 
-// From a slot on, of the first class from a method on. The mapping around one descriptor finds the next, unless that lies elsewhere.
+// The classes from a slot on, the first of them from a method on. The mapping around one descriptor finds the next, unless that lies
+// elsewhere.
 pub fn put_classes(
     image: &[u8],
     segments: &[u64],

@@ -13,8 +13,8 @@ pub enum BlockKind {
     DefaultOverrideTable,
 }
 
-// What is recorded of a block: where it lies; of a table, where its entries lie and how many they are, with a vtable's offset (0 in
-// every other table); or the invertible set, with the number of protocols it names.
+// What is recorded of a block: where it lies; for a table, where its entries lie and how many there are, with a vtable's offset (0
+// in every other table); or the invertible set, with the number of protocols it names.
 pub enum BlockBody {
     At(u64),
     Table {

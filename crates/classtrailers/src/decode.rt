@@ -1,4 +1,4 @@
-// What the blocks say at an address. A header is read once, as its bytes of the image.
+// Blocks at an address. A header is read once, as a part of the image.
 ghost use mathlib.Core.Path.{_≡_};
 ghost use mathlib.Core.Bool.{false};
 ghost use mathlib.Core.Option.{some};
@@ -41,7 +41,7 @@ fn end_of(at: u64, size: u64) -> End
     End::At(at + size)
 }
 
-// A block that is recorded whatever its end is.
+// A block that is recorded whatever its end.
 fn unread(block: Block, at: u64, size: u64) -> BlockAt
     ensures { λ r. ⌜ blockAtOf r ≡ some (record { block = block; end = below (at + size) }) ⌝ }
 {
@@ -62,7 +62,7 @@ fn plain_at(kind: BlockKind, at: u64, size: u64) -> BlockAt
     unread(block, at, size)
 }
 
-// A generic header: its parameters take a byte each, padded to four by their number, its requirements 12.
+// A generic header: its parameters take a byte each, their number rounded up to a multiple of four, its requirements 12 bytes each.
 fn generic_at(image: &[u8], segments: &[u64], mapping: Mapping, at: u64) -> BlockAt
     ensures { λ r. ⌜ blockAtOf r ≡ run (now (image .entry)) (withMapping mapping (now (segments .entry))) (blockAt (rowAt 0) at) ⌝ }
 {
@@ -108,7 +108,7 @@ fn vtable_at(image: &[u8], segments: &[u64], mapping: Mapping, at: u64) -> Block
     }
 }
 
-// A table whose header is the number of its entries, each of so many bytes.
+// A table whose header is the number of its entries, each of `entry` bytes.
 fn entries_at(
     image: &[u8],
     segments: &[u64],
@@ -141,7 +141,7 @@ fn entries_at(
     }
 }
 
-// Two bytes are read and four passed.
+// Two bytes are read, and the next block starts four bytes on.
 fn invertible_at(image: &[u8], segments: &[u64], mapping: Mapping, at: u64) -> BlockAt
     ensures { λ r. ⌜ blockAtOf r ≡ run (now (image .entry)) (withMapping mapping (now (segments .entry))) (blockAt (rowAt 8) at) ⌝ }
 {
@@ -160,7 +160,7 @@ fn invertible_at(image: &[u8], segments: &[u64], mapping: Mapping, at: u64) -> B
     unread(set, at, 4)
 }
 
-// The block of a kind at an address. The mapping is asked before the segments: one that is true of them changes no answer.
+// The block of a kind at an address. The mapping is tried before the segments; a true mapping changes no answer.
 pub fn block_near(
     image: &[u8],
     segments: &[u64],

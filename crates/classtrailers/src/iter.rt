@@ -37,7 +37,7 @@ pub enum BlockRead {
     Nothing,
 }
 
-// A block that is there, of the kind with this number, and the walk from its end on.
+// A block that is present, of the kind with this number, and the walk from its end on.
 fn step_at(
     image: &[u8],
     segments: &[u64],
@@ -82,7 +82,7 @@ impl BlockIter {
         }
     }
 
-    // The next block that is there.
+    // The next block that is present.
     pub fn next(self, image: &[u8], segments: &[u64]) -> BlockStep
         ensures { λ r. ⌜ blockStepOf r ≡ nextBlock (now (image .entry)) (now (segments .entry)) (walkOf self) ⌝ }
     {
@@ -103,7 +103,7 @@ impl BlockIter {
     }
 }
 
-// Where the next block starts, past the one with this number if that is there.
+// Where the next block starts: past the block with this number, if it is present.
 fn pass(
     image: &[u8],
     segments: &[u64],
@@ -124,7 +124,7 @@ fn pass(
     }
 }
 
-// The block of a kind, of a descriptor whose blocks start at an address: of those before it only the headers are read.
+// The block of a kind, for a descriptor whose blocks start at an address. Only the headers of the blocks before it are read.
 pub fn block_of_kind_near(
     image: &[u8],
     segments: &[u64],

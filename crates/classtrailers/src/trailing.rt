@@ -5,7 +5,7 @@ ghost use Rattle.classtrailers.specs.Calls.{trailingOf, kindReadOf};
 use crate::block::BlockKind;
 use context::ContextDescriptorFlags;
 
-// What tells it: the flags word, whether it is a class, and the extra class flags (0 where there are none).
+// What decides it: the flags word, whether it is a class, and the extra class flags (0 if there are none).
 pub struct Trailing {
     pub flags: u32,
     pub is_class: bool,

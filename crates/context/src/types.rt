@@ -62,7 +62,7 @@ impl TypeContextDescriptorFlags {
         (self.0 / 4) % 2 == 1
     }
 
-    // One bit with two meanings: the two functions below tell them apart.
+    // One bit with two meanings: the two functions below separate them.
     pub fn has_canonical_metadata_prespecializations_or_singleton(self) -> bool
         ensures { λ r. ⌜ r ≡ hasPrespecializationsOrSingletonPointer (self .0) ⌝ }
     {

@@ -1,1 +1,1 @@
-// The printed listing of a cut image: definitions and laws alone, in specs/; there is nothing to run.
+// The printed listing of a cut image: definitions and laws only, in specs/; there is nothing to run.

@@ -13,7 +13,8 @@ pub enum TableAnswer {
     Refused(Refusal),
 }
 
-// By the shape of an entry: is its first word a number, how many pointers follow, how many bytes are from one entry to the next.
+// A table by the shape of an entry: whether its first word is a number, how many pointers follow, and how many bytes it is from one entry
+// to the next.
 fn table(
     image: &[u8],
     segments: &[u64],
@@ -38,7 +39,7 @@ pub fn methods(image: &[u8], segments: &[u64], cursor: EntryIter, buffer: &mut [
     table(image, segments, cursor, true, 1, 8, buffer)
 }
 
-// Four for each override: its address, those of the class, the method and the implementation.
+// Four numbers for each override: its address, and those of the class, the method and the implementation.
 pub fn overrides(
     image: &[u8],
     segments: &[u64],
@@ -50,7 +51,7 @@ pub fn overrides(
     table(image, segments, cursor, false, 2, 12, buffer)
 }
 
-// Three for each default override: its address, those of the method and the implementation.
+// Three numbers for each default override: its address, and those of the method and the implementation.
 pub fn default_overrides(
     image: &[u8],
     segments: &[u64],
@@ -62,7 +63,7 @@ pub fn default_overrides(
     table(image, segments, cursor, false, 1, 8, buffer)
 }
 
-// Two for each prespecialization: its address, and that of the metadata.
+// Two numbers for each prespecialization: its address, and that of the metadata.
 pub fn prespecializations(
     image: &[u8],
     segments: &[u64],
@@ -74,7 +75,7 @@ pub fn prespecializations(
     table(image, segments, cursor, false, 0, 4, buffer)
 }
 
-// Four for each record: its address, its flags, the addresses of the type's name and of the field's.
+// Four numbers for each record: its address, its flags, the addresses of the type's name and of the field's.
 pub fn field_records(
     image: &[u8],
     segments: &[u64],

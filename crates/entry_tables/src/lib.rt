@@ -1,5 +1,6 @@
-// Whole tables of entries in one call: the methods, overrides, default overrides and prespecializations of a type, and the records of a field
-// descriptor, into the caller's list of numbers. Each call refuses a list of segment numbers that is not a multiple of four, before all else (refusal 1).
+// Whole tables of entries in one call: the methods, overrides, default overrides and prespecializations of a type, and the records of a
+// field descriptor, into the caller's list of numbers. Each call refuses a list of segment numbers whose count is not a multiple of four,
+// before anything else (refusal 1).
 mod calls;
 mod list;
 mod window;

@@ -23,7 +23,7 @@ pub struct Listed {
     pub stop: u64,
 }
 
-// The words of an entry; an entry of fewer than three words has no use for the last ones.
+// The words of an entry; an entry of fewer than three words does not use the last ones.
 pub struct Words {
     pub first: u64,
     pub second: u64,
@@ -69,7 +69,8 @@ fn put_entry(address: u64, words: Words, more: u32, buffer: &mut [u64], at: usiz
     buffer[at + 3] = words.third;
 }
 
-// The numbers of the entry at a place of the image, at a place of the list. The entry's bytes are a part of known length: no read tests it again.
+// Puts the numbers of the entry at a place of the image at a place of the list. The entry's bytes are a part of known length, so no read
+// tests the length again.
 fn put_from(
     image: &[u8],
     place: usize,
@@ -93,8 +94,8 @@ fn put_from(
     );
 }
 
-// At most `most` entries that lie one after the other in the image, the first at `place` and the others at most `last` bytes further on; tells how
-// many they are.
+// Puts at most `most` entries that lie one after the other in the image, the first at `place` and the others at most `last` bytes further
+// on, and returns how many.
 fn put_run(
     image: &[u8],
     place: usize,
@@ -249,8 +250,8 @@ fn at_most_two(more: u32) -> u32
     if more < 2 { more } else { 2 }
 }
 
-// The entries from where a walk stands: a first word that is a number or a pointer, at most two pointers after it, and `stride` bytes from one
-// entry to the next. A single entry has a way of its own, since a run takes as long to set up as an entry to list.
+// The entries from a walk's position on: a first word that is a number or a pointer, at most two pointers after it, and `stride` bytes from
+// one entry to the next. A single entry is listed by itself, since setting up a run takes as long as listing an entry.
 pub fn list_entries(
     image: &[u8],
     segments: &[u64],

@@ -1,11 +1,11 @@
-// Where an entry lies in the image, and how far on from it entries lie there one after the other, by one walk over the segments.
+// Where an entry lies in the image, and how far from it entries lie there one after the other, found by one walk over the segments.
 ghost use mathlib.Core.Path.{_≡_};
 ghost use Prim.Native.Nat.{_+_, _-_, _*_, _^_, _≤_, _<_, min};
 ghost use Rattle.entry_tables.specs.Tables.{Opens};
 use runtime::Bytes;
 use segment::Around;
 
-// An entry at an address is at `place`, and one that starts at most `last` bytes further on is as far from there.
+// The entry at an address is at `place`, and one that starts at most `last` bytes after that address is as far after `place`.
 pub enum Window {
     At { place: usize, last: u64 },
     Nothing,
@@ -17,7 +17,7 @@ fn least(a: u64, b: u64) -> u64
     if a < b { a } else { b }
 }
 
-// Of one entry alone.
+// The window of a single entry.
 fn window_of_one(image: &[u8], segments: &[u64], address: u64, size: usize) -> Window
     requires { ⌜ address + (size - 4) < 2 ^ 64 ⌝ }
     ensures { λ r. ⌜ Opens (now (image .entry)) (now (segments .entry)) size address r ⌝ }
@@ -28,7 +28,7 @@ fn window_of_one(image: &[u8], segments: &[u64], address: u64, size: usize) -> W
     }
 }
 
-// With all that is in the file from the entry's address on.
+// The window of everything that is in the file from the entry's address on.
 fn window_of_all(image: &[u8], segments: &[u64], address: u64, size: usize) -> Window
     requires { ⌜ (4 ≤ size) × (address + (size - 4) < 2 ^ 64) ⌝ }
     ensures { λ r. ⌜ Opens (now (image .entry)) (now (segments .entry)) size address r ⌝ }
@@ -61,7 +61,7 @@ fn window_of_all(image: &[u8], segments: &[u64], address: u64, size: usize) -> W
     }
 }
 
-// Of entry `k`, with `more` words after its first. The window of one entry takes less time than that of all.
+// The window of entry `k`, with `more` words after its first. The window of a single entry takes less time than that of all.
 pub fn window_at(
     image: &[u8],
     segments: &[u64],

@@ -12,7 +12,7 @@ use util::Text;
 // How many bytes a header has.
 const HEADER_SIZE: usize = 16;
 
-// What a header says. The names are texts at these addresses, 0 where there is none.
+// What a header says. The names are texts at these addresses, which are 0 if there is none.
 pub struct FieldDescriptor {
     pub address: u64,
     pub mangled_type_name_va: u64,
@@ -96,7 +96,7 @@ impl FieldDescriptor {
     pub fn records(self) -> FieldRecordIter
         ensures { λ r. ⌜ r ≡ recordsOf self ⌝ }
     {
-        // Where the address behind the header reaches 2^64, the Rust starts from 0.
+        // If the address after the header reaches 2^64, the Rust starts from 0.
         let base_va = if self.address > 0xffff_ffff_ffff_ffef {
             0
         } else {

@@ -12,10 +12,10 @@ use segment::Around;
 use segment::Mapping;
 use util::Text;
 
-// How many bytes of a record are read, whatever the record size is.
+// How many bytes of a record are read, whatever the record size.
 const RECORD_SIZE: u32 = 12;
 
-// Its address, and what its words say. The names are texts at these addresses, 0 where there is none.
+// Its address, and what its words say. The names are texts at these addresses, which are 0 if there is none.
 pub struct FieldRecord {
     pub address: u64,
     pub flags: u32,
@@ -23,7 +23,7 @@ pub struct FieldRecord {
     pub field_name_va: u64,
 }
 
-// A walk over records: the first one's address, how many there are, the bytes from one to the next, and the next one's number.
+// A walk over records: the address of the first, how many there are, the bytes from one to the next, and the number of the next.
 pub struct FieldRecordIter {
     pub base_va: u64,
     pub count: u32,
@@ -56,7 +56,7 @@ fn field_record(bytes: &[u8], address: u64) -> FieldRecord
 }
 
 impl FieldRecordIter {
-    // What is in the file around the records' start. With it a step need not go through the segments again; without it the answers are the same.
+    // What is in the file around the records' start. With it a step need not walk over the segments again; without it the answers are the same.
     pub fn locate(self, segments: &[u64]) -> Mapping
         ensures { λ r. ⌜ TrueMapping (now (segments .entry)) r ⌝ }
     {

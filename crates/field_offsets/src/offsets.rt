@@ -58,7 +58,7 @@ fn struct_offsets(
     }
 }
 
-// The offsets of the fields of a struct whose metadata is at an address. There are none beside another body, and none unless all of them
+// The offsets of the fields of a struct whose metadata is at an address. There are none for any other body, and none unless all of them
 // are in the image.
 pub fn field_offsets(
     image: &[u8],
@@ -128,7 +128,7 @@ fn pointer_of(image: &[u8], segments: &[u64], block: Block) -> SingletonMetadata
     }
 }
 
-// The metadata's address that the singleton pointer among the blocks after a body tells.
+// The metadata's address from the singleton pointer among the blocks after a body.
 fn metadata_after(
     image: &[u8],
     segments: &[u64],
@@ -154,7 +154,7 @@ fn metadata_after(
     }
 }
 
-// The offsets of the fields of the descriptor at an address, which has these flags, by the metadata that its singleton pointer refers to.
+// The offsets of the fields of the descriptor with these flags at an address, for the metadata that its singleton pointer refers to.
 pub fn static_field_offsets(
     image: &[u8],
     segments: &[u64],

@@ -13,8 +13,9 @@ pub enum FullRows {
     Refused(Refusal),
 }
 
-// The records of the rows from a slot on, as many as the list holds, at its start. A record has 58 numbers: the row's slot, address, flags, parent,
-// and the name's place and length; the body's eight; and four for each kind of block in the order in which they follow, 1 and what is recorded.
+// Writes the records of the rows from a slot on at the list's start, as many as it holds. A record has 58 numbers: the row's slot, address,
+// flags, parent, and the name's place and length; the body's eight; and four for each kind of block in the order in which they follow, 1
+// and what is recorded.
 pub fn full_rows(
     image: &[u8],
     segments: &[u64],

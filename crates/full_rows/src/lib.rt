@@ -1,5 +1,5 @@
-// The rows of a types section with body and all trailing blocks in one call, as records of a fixed count of numbers in the caller's list. The call refuses
-// a list of segment numbers that is not a multiple of four, before all else (refusal 1).
+// The rows of a types section with body and all trailing blocks in one call, as records of a fixed number of numbers in the caller's list.
+// The call refuses a list of segment numbers whose count is not a multiple of four, before anything else (refusal 1).
 mod calls;
 mod rows;
 

@@ -53,7 +53,7 @@ fn put_four(a: u64, b: u64, c: u64, d: u64, buffer: &mut [u64], at: usize)
     buffer[at + 3] = d;
 }
 
-// So many zeros.
+// Puts `count` zeros.
 fn put_zeros(count: usize, buffer: &mut [u64], at: usize)
     requires { ⌜ at + count ≤ length (now buffer) ⌝ }
     ensures { λ _. ⌜ now (buffer .exit) ≡ pasted (now (buffer .entry)) at (replicate count 0) ⌝ }
@@ -65,8 +65,7 @@ fn put_zeros(count: usize, buffer: &mut [u64], at: usize)
     }
 }
 
-// A row's own numbers, and those of its body.
-// The first number of a body: which one it is.
+// A row's own numbers, and those of its body. The first number of a body: its kind.
 const CLASS: u64 = 1;
 
 const STRUCT: u64 = 2;
@@ -177,20 +176,20 @@ fn put_body(body: TypeBody, buffer: &mut [u64], at: usize)
 // How many kinds of blocks there are.
 const KINDS: u32 = 11;
 
-// The first number of a block that is there.
+// The first number of a block that is present.
 const THERE: u64 = 1;
 
 // The number of the kind that has three numbers.
 const VTABLE: u32 = 4;
 
-// The three numbers of what is recorded of a block, 0 where its kind has fewer.
+// The three numbers of what is recorded of a block, 0 for those that its kind does not have.
 pub struct Recorded {
     pub first: u64,
     pub second: u64,
     pub third: u64,
 }
 
-// Those of a table: only a vtable has an offset, ahead of the others.
+// The numbers of a table: only a vtable has an offset, which comes before the others.
 fn table_numbers(kind: BlockKind, offset: u32, count: u32, entries_va: u64) -> Recorded
     ensures { λ r. ⌜ recordedOf r ≡ tableRecorded kind offset count «entries_va» ⌝ }
 {
@@ -241,7 +240,7 @@ fn put_block(block: Block, buffer: &mut [u64], at: usize)
     put_four(THERE, n.first, n.second, n.third, buffer, at);
 }
 
-// The blocks of a descriptor whose blocks start at an address: past one that cannot be read, or whose end overflows, there is none.
+// The blocks of a descriptor, which start at an address: after one that cannot be read, or whose end overflows, there is none.
 fn put_blocks(
     image: &[u8],
     segments: &[u64],

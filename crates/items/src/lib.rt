@@ -1,1 +1,1 @@
-// The items of a listing and the cut theorem: definitions and laws alone, in specs/; there is nothing to run.
+// The items of a listing and the cut theorem: definitions and laws only, in specs/; there is nothing to run.

@@ -15,8 +15,8 @@ pub enum Sleb128 {
     Nothing,
 }
 
-// What the bytes of a number hold, up to eleven of them: the low 64 bits, the weight of the bit after the last (0 where it is past them),
-// the last byte, and how many there are.
+// What the bytes of a number hold, up to eleven of them: the low 64 bits, the weight of the bit after the last (0 if it is past them),
+// the last byte, and how many bytes there are.
 pub enum Chunks {
     Number {
         bits: u64,
@@ -33,7 +33,7 @@ fn byte64(b: u8) -> u64
     b as u64
 }
 
-// After nine bytes that go on: the tenth has the last bit of the 64, and the eleventh none.
+// After nine continuation bytes: the tenth has the last bit of the 64, and the eleventh none.
 fn tenth(bytes: &[u8], bits: u64) -> Chunks
     requires { ⌜ Running (now bytes) 9 bits ⌝ }
     ensures { λ r. ⌜ Chunked (now (bytes .entry)) r ⌝ }
@@ -92,7 +92,7 @@ fn read_chunks(bytes: &[u8]) -> Chunks
     tenth(bytes, bits)
 }
 
-// The unsigned number at the start of the bytes. Bits past the 64th fall away, as in the Rust.
+// The unsigned number at the start of the bytes. Bits past the 64th are dropped, as in the Rust.
 pub fn read_uleb128(bytes: &[u8]) -> Uleb128
     ensures { λ r. ⌜ ulebValue r ≡ uleb128 (now (bytes .entry)) ⌝ }
 {
@@ -132,14 +132,15 @@ fn signed64(n: u64) -> i64
     }
 }
 
-// What a byte past the 64 bits has to be.
+// What a byte past the 64 bits must be.
 fn sign_bits(n: u64) -> u64
     ensures { λ r. ⌜ r ≡ signBits n ⌝ }
 {
     if n < 0x8000_0000_0000_0000 { 0 } else { 127 }
 }
 
-// The signed number at the start of the bytes. Up to nine bytes are filled up with their sign; of more, the bits past the 64th fall away.
+// The signed number at the start of the bytes. Up to nine bytes are filled up with their sign; with more, the bits past the 64th are
+// dropped.
 pub fn read_sleb128(bytes: &[u8]) -> Sleb128
     ensures { λ r. ⌜ slebValue r ≡ sleb128 (now (bytes .entry)) ⌝ }
 {

@@ -22,7 +22,7 @@ use libc::STDOUT_FILENO;
 use type_lines::LINE_BYTES;
 use util::ReadU32;
 
-// One byte more than any bundle has, so that a longer input shows.
+// One byte more than any bundle has, so that a longer input is noticed.
 const INPUT_BYTES: usize = BUNDLE_BYTES + 1;
 
 // How many lines were given, and whether all of them could be written.
@@ -31,7 +31,7 @@ pub struct Written {
     pub all: bool,
 }
 
-// Writes the line that the step from `pending` gives: the only place that writes to standard output but for --help and --version.
+// Writes the line that the step from `pending` gives: apart from --help and --version, the only place that writes to standard output.
 fn write_line(bytes: &[u8], segments: &[u64], pending: BundleLineIter, text: &[u8]) -> bool
     requires { ⌜ lineText (answered (printStep (now bytes) (now segments) (pendingOf pending))) ≡ some (now text) ⌝ }
 {
@@ -88,7 +88,7 @@ fn say(text: &[u8]) {
     io::write_all(STDERR_FILENO, text);
 }
 
-// Says why a call failed, by errno, which a write that succeeds leaves alone.
+// Says why a call failed, from errno, which a successful write does not change.
 fn fail(what: &[u8]) {
     say(b"list: ");
     os::fail(what);
@@ -119,8 +119,8 @@ fn say_broken(bytes: &[u8]) {
     }
 }
 
-// Whether a file starts as a Mach-O file does: thin or fat, of either width and byte order. No bundle does, for its first record would
-// have more bytes than any bundle.
+// Whether a file starts as a Mach-O file does: thin or fat, of either width and byte order. No bundle does, since its first record
+// would have more bytes than any bundle.
 fn is_macho(bytes: &[u8]) -> bool {
     match util::read_u32_le_at(bytes, 0) {
         ReadU32::Value(magic) => match magic {
@@ -164,7 +164,7 @@ fn print_input(space: &[u8], count: usize)
     say_refused(bytes);
 }
 
-// What reading ended with: so many bytes, or an error that errno tells.
+// What reading ended with: a count of bytes, or an error that is in errno.
 pub enum Input {
     Bytes(usize),
     Failed,
@@ -219,7 +219,7 @@ fn print_help() {
     );
 }
 
-// The version of CHANGELOG.md, in no other place of the code.
+// The version in CHANGELOG.md; nowhere else in the code.
 fn print_version() {
     print(b"list 0.1.0\n");
 }
@@ -230,7 +230,7 @@ fn say_option(word: &[u8]) {
     say(b" (list --help says more)\n");
 }
 
-// A word that begins with `-` is an option and no file.
+// A word that begins with `-` is an option and not a file.
 fn print_argument(word: &[u8]) {
     if word.len() == 0 {
         print_file(word);

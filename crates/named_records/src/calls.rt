@@ -5,9 +5,9 @@ use entry_tables::TableAnswer;
 use field::FieldRecordIter;
 use refusal::Refusal;
 
-// The records from where a walk stands up to the first that cannot be read, as many as the list holds. Ten numbers for each: its address, its
-// flags, the addresses of the type's name and of the field's; 1, place and length of the type's name; and of the field's name 1 for the image or 2
-// for the string section, place and length. The three numbers of a name are 0 where there is none.
+// The records from a walk's position up to the first that cannot be read, as many as the list holds. Ten numbers for each: its address, its
+// flags, the addresses of the type's name and of the field's; 1, place and length of the type's name; and for the field's name 1 for the
+// image or 2 for the string section, place and length. The three numbers of a name are 0 if there is none.
 pub fn named_records(
     image: &[u8],
     segments: &[u64],

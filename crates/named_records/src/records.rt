@@ -22,7 +22,7 @@ use util::Text;
 // How many numbers a record has.
 const RECORD: usize = 10;
 
-// The first number of a name: that it is there, and for a field's that it lies in the string section.
+// The first number of a name: that there is one, and for a field's that it lies in the string section.
 const THERE: u64 = 1;
 
 const IN_STRINGS: u64 = 2;
@@ -38,7 +38,7 @@ fn put_words(record: FieldRecord, buffer: &mut [u64], at: usize)
     buffer[at + 3] = record.field_name_va;
 }
 
-// Those of a name.
+// The numbers of a name.
 fn put_three(a: u64, b: u64, c: u64, buffer: &mut [u64], at: usize)
     requires { ⌜ at + 3 ≤ length (now buffer) ⌝ }
     ensures { λ _. ⌜ now (buffer .exit) ≡ pasted (now (buffer .entry)) at (a ∷ (b ∷ (c ∷ []))) ⌝ }
@@ -109,7 +109,7 @@ fn put_record(
     put_field_name(name, buffer, at + 7);
 }
 
-// One walk over the segments finds what is in the file around the records, and with it the records' bytes and those of their names, where they
+// One walk over the segments finds what is in the file around the records, and with it the records' bytes, and those of their names if they
 // lie there too.
 pub fn list_records(
     image: &[u8],

@@ -7,7 +7,7 @@ use context::ContextDescriptorFlags;
 use segment::Mapping;
 use util::Text;
 
-// One context of a chain: its address, its flags, its own parent's address (0 where it has none), and its name if it has one.
+// One context of a chain: its address, its flags, its own parent's address (0 if it has none), and its name if it has one.
 pub struct ParentContext {
     pub address: u64,
     pub flags: u32,
@@ -58,7 +58,7 @@ pub fn has_name(flags: u32) -> bool
     ContextDescriptorFlags(flags).kind().has_name()
 }
 
-// The name that the word after the context's header refers to. An offset of 0 is not a name.
+// The name that the word after the context's header refers to. An offset of 0 means no name.
 pub fn read_context_name(
     image: &[u8],
     segments: &[u64],

@@ -31,12 +31,12 @@ pub enum QualifiedName {
 
 // What a walk over contexts ended with. `room` is what the names, their dots and `rest` more bytes take.
 pub enum Walk {
-    // After so many names there is no further context.
+    // After `count` names there is no further context.
     Ended {
         count: usize,
         room: usize,
     },
-    // 8 names: the walk goes on at `next`, with so many contexts allowed.
+    // 8 names: the walk goes on at `next`, with `allowed` more contexts.
     Full {
         next: u64,
         allowed: usize,
@@ -45,7 +45,7 @@ pub enum Walk {
     TooDeep,
 }
 
-// What is in the file around the context at an address. Where that is nothing, there is not a context.
+// What is in the file around the context at an address. If that is nothing, there is no context.
 fn locate_context(segments: &[u64], descriptor_va: u64) -> Around
     ensures { λ r. ⌜ ContextLocated (now (segments .entry)) «descriptor_va» r ⌝ }
 {
@@ -55,7 +55,7 @@ fn locate_context(segments: &[u64], descriptor_va: u64) -> Around
     segment::locate(segments, descriptor_va)
 }
 
-// A sum, kept at 2^64 - 1 where it would be more.
+// A sum, or 2^64 - 1 if it would be more.
 fn saturating_add(a: usize, b: usize) -> usize
     ensures { λ r. ⌜ r ≡ min (a + b) (2 ^ 64 - 1) ⌝ }
 {

@@ -1,4 +1,4 @@
-// What a call turns away: the refusals of every call, and the number by which each is known.
+// What a call refuses: the refusals of every call, and the number of each.
 ghost use mathlib.Core.Path.{_≡_};
 ghost use Rattle.refusal.specs.Refusal.{refusalNumber};
 

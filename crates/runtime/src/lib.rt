@@ -1,5 +1,5 @@
 // Bytes and texts at an address: what darwinscope's src/swift/mod.rs, section.rs and reflstr.rs do for the readers above. The
-// image, the segments and a section's bytes and address stand as parameters of their own in place of `SwiftRuntime`.
+// image, the segments and a section's bytes and address are parameters in place of `SwiftRuntime`.
 mod reads;
 mod reflstr;
 

@@ -20,7 +20,8 @@ pub fn vm_to_file_offset(segments: &[u64], vmaddr: u64) -> FileOffset
     segment::vm_to_file_offset_in(segments, vmaddr)
 }
 
-// Where `len` bytes at an address lie. Only the first address is translated: the rest follows in the image, which alone bounds it.
+// Where `len` bytes at an address lie. Only the first address is translated: the rest follows in the image, and only the image's end bounds
+// it.
 fn find_bytes_near(
     image: &[u8],
     segments: &[u64],
@@ -45,7 +46,7 @@ fn find_bytes_near(
     }
 }
 
-// The bytes themselves, as that part of the image: empty where there are none.
+// The bytes themselves, as that part of the image: empty if there are none.
 pub fn read_bytes_near<'a>(
     image: &'a [u8],
     segments: &[u64],
@@ -71,7 +72,8 @@ pub fn read_cstr_near(image: &[u8], segments: &[u64], mapping: Mapping, vmaddr: 
     match segment::vm_to_file_offset_near(segments, mapping, vmaddr) {
         FileOffset::At(offset) => {
             let off = offset as usize;
-            // The answer's place is `off`. It is given as `off` again, since the answer's own copy takes longer: docs/DECISIONS.md, "Speed".
+            // The answer's place is `off`. It is returned as `off`, since copying it from the answer takes longer: docs/DECISIONS.md,
+            // "Speed".
             match util::read_cstr_at(image, off) {
                 Text::At { place: _, length } => Text::At { place: off, length },
                 Text::Nothing => Text::Nothing,

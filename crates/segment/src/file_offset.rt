@@ -9,7 +9,7 @@ pub enum VmAddress {
     Nothing,
 }
 
-// What one segment says of an offset: the answer, or that the next segment is asked.
+// What one segment says of an offset: the answer, or that the next segment decides.
 pub enum Turned {
     Answer(VmAddress),
     Next,

@@ -10,7 +10,7 @@ pub enum FileOffset {
     Nothing,
 }
 
-// What one segment says of an address: the answer, or that the next segment is asked.
+// What one segment says of an address: the answer, or that the next segment decides.
 pub enum Lookup {
     Answer(FileOffset),
     Next,
@@ -127,8 +127,8 @@ fn high_before(high: u64, vmaddr: u64, address: u64) -> u64
     }
 }
 
-// What a segment has in the file around an address of it, of the addresses from `low` up to and without `high`: the address alone, where
-// the segment's end would lie past the last offset.
+// What a segment has in the file around one of its addresses, among the addresses from `low` up to but not including `high`: only the
+// address itself, if the segment's end would lie past the last offset.
 fn clip(
     low: u64,
     high: u64,
@@ -157,7 +157,7 @@ fn clip(
     }
 }
 
-// What is in the file around an address: of its segment, the addresses of which no earlier segment decides.
+// What is in the file around an address: those addresses of its segment about which no earlier segment decides.
 pub fn locate(segments: &[u64], address: u64) -> Around
     ensures { λ r. ⌜ Located (now (segments .entry)) address r ⌝ }
 {
@@ -207,7 +207,7 @@ fn has(mapping: Mapping, address: u64) -> bool
     address - mapping.vmaddr < mapping.size
 }
 
-// What is in the file around an address: the mapping at hand, if it has the address, or what `locate` finds.
+// What is in the file around an address: the caller's mapping, if it has the address, or what `locate` finds.
 pub fn locate_near(segments: &[u64], mapping: Mapping, address: u64) -> Around
     ensures { λ r. ⌜ LocatedNear (now (segments .entry)) mapping address r ⌝ }
 {
@@ -217,7 +217,8 @@ pub fn locate_near(segments: &[u64], mapping: Mapping, address: u64) -> Around
     locate(segments, address)
 }
 
-// The file offset of an address, with no walk over the segments where the mapping has it: the mapping is asked as a segment before them.
+// The file offset of an address, without a walk over the segments if the mapping has it: the mapping is tried before them, as one more
+// segment.
 pub fn vm_to_file_offset_near(segments: &[u64], mapping: Mapping, vmaddr: u64) -> FileOffset
     ensures { λ r. ⌜ offsetOf r ≡ fileOffset (segmentsOf (withMapping mapping (now (segments .entry)))) vmaddr ⌝ }
 {

@@ -17,7 +17,7 @@ use refusal::Refusal;
 use type_body::TrailingRead;
 use type_body::TypeBody;
 
-// The number of a walk that is over: how many kinds of blocks there are.
+// The row of a walk that has ended: how many kinds of blocks there are.
 const OVER: u32 = 11;
 
 pub enum NextBlock {
@@ -32,7 +32,7 @@ pub enum BlockAnswer {
     Refused(Refusal),
 }
 
-// The walk over the blocks of a descriptor at an address with these flags and this body: it is over where nothing follows.
+// The walk over the blocks of a descriptor at an address with these flags and this body: it has ended if nothing follows.
 pub fn block_walk(address: u64, flags: u32, body: TypeBody) -> BlockIter
     ensures { λ r. ⌜ walkOf r ≡ walkFrom (trailers address flags (bodyOf body)) ⌝ }
 {
@@ -50,7 +50,7 @@ pub fn block_walk(address: u64, flags: u32, body: TypeBody) -> BlockIter
     }
 }
 
-// The next block from where the walk stands.
+// The next block from the walk's position.
 pub fn next_block(image: &[u8], segments: &[u64], walk: BlockIter) -> NextBlock
     ensures { λ r. ⌜ nextBlockAnswer r ≡ guarded (now (segments .entry)) (answered (nextBlock (now (image .entry)) (now (segments .entry)) (walkOf walk))) ⌝ }
 {

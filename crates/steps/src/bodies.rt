@@ -19,7 +19,7 @@ pub enum TextAnswer {
     Refused(Refusal),
 }
 
-// The body of the descriptor at an address, which has these flags.
+// The body of the descriptor with these flags at an address.
 pub fn row_body(image: &[u8], segments: &[u64], address: u64, flags: u32) -> BodyAnswer
     ensures { λ r. ⌜ bodyAnswer r ≡ guarded (now (segments .entry)) (answered (run (now (image .entry)) (now (segments .entry)) (body address flags))) ⌝ }
 {
@@ -29,7 +29,7 @@ pub fn row_body(image: &[u8], segments: &[u64], address: u64, flags: u32) -> Bod
     BodyAnswer::Body(type_body::decode_body(image, segments, address, flags))
 }
 
-// The name of a class's superclass; there is none beside another body.
+// The name of a class's superclass; there is none for any other body.
 pub fn superclass_name(image: &[u8], segments: &[u64], body: TypeBody) -> TextAnswer
     ensures { λ r. ⌜ textAnswer r ≡ guarded (now (segments .entry)) (answered (superclassName (now (image .entry)) (now (segments .entry)) (bodyOf body))) ⌝ }
 {

@@ -1,5 +1,5 @@
-// The public calls over an image, its segments and its types section. Each refuses a list of segment numbers that is not a multiple of
-// four, before all else (refusal 1), and owes its caller nothing.
+// The public calls over an image, its segments and its types section. Each refuses a list of segment numbers whose count is not a
+// multiple of four, before anything else (refusal 1), and requires nothing of its caller.
 ghost use mathlib.Core.Path.{_≡_};
 ghost use lib.ListN.{length};
 ghost use Rattle.refusal.specs.Refusal.{answered, mapped, answerOf};
@@ -38,7 +38,7 @@ pub enum NextContext {
     Refused(Refusal),
 }
 
-// The next row of the types section from where the walk stands.
+// The next row of the types section from the walk's position.
 pub fn next_row(
     image: &[u8],
     segments: &[u64],
@@ -57,7 +57,7 @@ pub fn next_row(
     }
 }
 
-// The next context of a type from where the walk stands.
+// The next context of a type from the walk's position.
 pub fn next_context(image: &[u8], segments: &[u64], walk: ParentChain) -> NextContext
     ensures { λ r. ⌜ contextAnswer (now (image .entry)) r ≡ guarded (now (segments .entry)) (answered (chainStep (now (image .entry)) (now (segments .entry)) (walk .«next_descriptor_va») (walk .given))) ⌝ }
 {
@@ -70,7 +70,7 @@ pub fn next_context(image: &[u8], segments: &[u64], walk: ParentChain) -> NextCo
     }
 }
 
-// The joined name of a row into the buffer's start.
+// Writes the joined name of a row at the buffer's start.
 pub fn joined_name(image: &[u8], segments: &[u64], row: Row, buffer: &mut [u8]) -> QualifiedName
     ensures { λ r. ⌜ lengthOf r ≡ mapped length (guarded (now (segments .entry)) (nameAnswer (now (image .entry)) (now (segments .entry)) (rowOf (now (image .entry)) row) (length (now (buffer .entry))))) ⌝ }
     ensures { λ _. ⌜ now (buffer .exit) ≡ overwritten (now (buffer .entry)) (answerOf (guarded (now (segments .entry)) (nameAnswer (now (image .entry)) (now (segments .entry)) (rowOf (now (image .entry)) row) (length (now (buffer .entry)))))) ⌝ }

@@ -14,7 +14,7 @@ pub enum NextEntry {
     Refused(Refusal),
 }
 
-// The next entry of a table of a kind, from where the walk stands.
+// The next entry of a table of a kind, from the walk's position.
 pub fn next_entry(image: &[u8], segments: &[u64], cursor: EntryIter, kind: EntryKind) -> NextEntry
     ensures { λ r. ⌜ entryAnswer r ≡ guarded (now (segments .entry)) (answered (stepAnswer (entryStep (now (image .entry)) (now (segments .entry)) (kindLayout kind) cursor))) ⌝ }
 {

@@ -29,14 +29,14 @@ pub enum FieldNameAnswer {
     Refused(Refusal),
 }
 
-// The next descriptor of a fields section from where the walk stands. It takes no segments, and refuses nothing.
+// The next descriptor of a fields section from the walk's position. It takes no segments, and refuses nothing.
 pub fn next_field(fields: &[u8], vmaddr: u64, walk: FieldIter) -> FieldStep
     ensures { λ r. ⌜ fieldStepOf r ≡ fieldStep (now (fields .entry)) vmaddr (walk .at) ⌝ }
 {
     walk.next(fields, vmaddr)
 }
 
-// The next record of a descriptor from where the walk stands.
+// The next record of a descriptor from the walk's position.
 pub fn next_field_record(image: &[u8], segments: &[u64], walk: FieldRecordIter) -> NextFieldRecord
     ensures { λ r. ⌜ recordAnswer r ≡ guarded (now (segments .entry)) (answered (recordStep (now (image .entry)) (now (segments .entry)) walk)) ⌝ }
 {

@@ -1,4 +1,4 @@
-// The byte offsets of a struct's fields. One of them, by its number, is `field_offsets::field_offset`: it takes no segments.
+// The byte offsets of a struct's fields. `field_offsets::field_offset` returns one of them by its number; it takes no segments.
 ghost use mathlib.Core.Path.{_≡_};
 ghost use Rattle.refusal.specs.Refusal.{answered};
 ghost use Rattle.type_body.specs.Body.{bodyOf};
@@ -14,7 +14,7 @@ pub enum OffsetsAnswer {
     Refused(Refusal),
 }
 
-// Where the offsets of a body's fields lie, by the metadata at an address.
+// Where the offsets of a body's fields lie, for metadata at an address.
 pub fn field_offsets(
     image: &[u8],
     segments: &[u64],
@@ -29,7 +29,7 @@ pub fn field_offsets(
     OffsetsAnswer::Offsets(field_offsets::field_offsets(image, segments, body, metadata_va))
 }
 
-// The same of the descriptor at an address, which has these flags, by the metadata that its singleton pointer refers to.
+// The same for the descriptor with these flags at an address, for the metadata that its singleton pointer refers to.
 pub fn static_field_offsets(
     image: &[u8],
     segments: &[u64],

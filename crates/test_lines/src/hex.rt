@@ -41,7 +41,7 @@ pub fn digit(b: u8) -> u64
     16
 }
 
-// A number below 2^64. The test of the value is before the digit is added, so that the sum does not overflow.
+// A number below 2^64. The value is tested before the digit is added, so that the sum does not overflow.
 pub fn parse_number(s: &[u8]) -> Number
     ensures { λ r. ⌜ numberOf r ≡ hexNumber (now (s .entry)) ⌝ }
 {
@@ -92,7 +92,7 @@ fn write_pairs(s: &[u8], out: &mut [u8])
     }
 }
 
-// Reads bytes to the buffer's start. All tests come before the first byte is written, so that a refusal leaves the buffer as it is.
+// Reads bytes into the buffer's start. All tests come before the first byte is written, so that a refusal leaves the buffer as it is.
 pub fn parse_bytes(s: &[u8], out: &mut [u8]) -> Count
     ensures { λ r. ⌜ countOf r ≡ Option·map length (fitting (now (out .entry)) (hexBytes (now (s .entry)))) ⌝ }
     ensures { λ _. ⌜ now (out .exit) ≡ overwritten (now (out .entry)) (fitting (now (out .entry)) (hexBytes (now (s .entry)))) ⌝ }
@@ -117,8 +117,8 @@ pub fn parse_bytes(s: &[u8], out: &mut [u8]) -> Count
     Count::Of(count)
 }
 
-// Reads the numbers of the fields `from`, `from` + `step` and so on, as many as the list is long, and returns whether all are numbers. Those
-// before the first that is none are written.
+// Reads the numbers of the fields `from`, `from` + `step` and so on, as many as the list is long, and returns whether all are numbers.
+// Those before the first that is not a number are written.
 pub fn parse_numbers(line: &[u8], from: usize, step: u32, out: &mut [u64]) -> bool
     ensures { λ r. ⌜ r ≡ eqb (length (numbersOfFields (now (line .entry)) from step (length (now (out .entry))))) (length (now (out .entry))) ⌝ }
     ensures { λ _. ⌜ now (out .exit) ≡ overwritten (now (out .entry)) (some (numbersOfFields (now (line .entry)) from step (length (now (out .entry))))) ⌝ }
@@ -136,7 +136,7 @@ pub fn parse_numbers(line: &[u8], from: usize, step: u32, out: &mut [u64]) -> bo
     true
 }
 
-// Reads a list: its count is the field `from`, and its numbers are the fields after that. A count that is larger than `out` is long is refused.
+// Reads a list: its count is the field `from`, and its numbers are the fields after that. A count above the length of `out` is refused.
 pub fn parse_list(line: &[u8], from: usize, out: &mut [u64]) -> Count
     ensures { λ r. ⌜ countOf r ≡ listCount (now (line .entry)) from (length (now (out .entry))) ⌝ }
     ensures { λ _. ⌜ now (out .exit) ≡ overwritten (now (out .entry)) (some (listNumbers (now (line .entry)) from (length (now (out .entry))))) ⌝ }

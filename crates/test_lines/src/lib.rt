@@ -1,4 +1,4 @@
-// The fields of the lines that the tests' programs read.
+// Reads the fields of the test programs' lines.
 mod hex;
 mod line;
 

@@ -2,7 +2,7 @@
 ghost use mathlib.Core.Path.{_≡_};
 ghost use Rattle.test_lines.specs.Lines.{findFrom, lineAtOffset, afterLine, fieldOf, firstOf, equals};
 
-// The first place of `stop` from `at` on, or the slice's length; `at` itself where it is past the end.
+// The first place of `stop` from `at` on, or the slice's length; `at` itself if it is past the end.
 pub fn find(s: &[u8], at: usize, stop: u8) -> usize
     ensures { λ r. ⌜ r ≡ findFrom (now (s .entry)) at stop ⌝ }
 {
@@ -27,7 +27,7 @@ pub fn line_at(s: &[u8], at: usize) -> &[u8]
     &s[at..end]
 }
 
-// Where the line after it starts: at the end or past it where there is none.
+// Where the next line starts; at the end or past it if there is none.
 pub fn after_line(s: &[u8], at: usize) -> usize
     ensures { λ r. ⌜ r ≡ afterLine (now (s .entry)) at ⌝ }
 {
@@ -35,7 +35,7 @@ pub fn after_line(s: &[u8], at: usize) -> usize
     if end < s.len() { end + 1 } else { end }
 }
 
-// A field by its number, from 0 on: empty where the line has fewer.
+// A field by its number, from 0 on: empty if the line has fewer.
 pub fn field(line: &[u8], number: usize) -> &[u8]
     ensures { λ r. ⌜ now r ≡ fieldOf (now (line .entry)) number ⌝ }
 {
@@ -53,7 +53,7 @@ pub fn field(line: &[u8], number: usize) -> &[u8]
     &line[at..end]
 }
 
-// The first numbers of a list: none where it has fewer.
+// The first numbers of a list: none if it has fewer.
 pub fn first(s: &[u64], n: usize) -> &[u64]
     ensures { λ r. ⌜ now r ≡ firstOf (now (s .entry)) n ⌝ }
 {

@@ -1,10 +1,10 @@
-// The refusals of the public calls over segments, and their order: 1 before all else, then 4, then 3. Each call is made on lists of 0 to 8
-// segment numbers, the joined name of a type without parent and of one that is its own parent, with buffers that hold it, just hold it,
-// and do not. A line is
+// The refusals of the public calls over segments, and their order: 1 before anything else, then 4, then 3. Each call is made on lists of 0
+// to 8 segment numbers, and for the joined name of a type without a parent and of one that is its own parent, with buffers that hold it,
+// just hold it, and do not. A line is
 //   walks COUNT ROW CONTEXT LINE             what next_row, next_context and next_line answer: an address or a length, `end`, or a refusal
 //   reads COUNT BODY SUPERCLASS TEXT BLOCK KIND METHOD OVERRIDE DEFAULT PRESPECIALIZATION INIT POINTER
 //                                            what the calls of the full level answer: a number of it, `nothing`, `unreadable`, `end`, or a refusal
-//   name COUNT PARENT SIZE ANSWER BUFFER     what joined_name answers, and the eight bytes of which SIZE were lent
+//   name COUNT PARENT SIZE ANSWER BUFFER     what joined_name answers, and the eight bytes of which SIZE were its buffer
 // tests/bundles.py writes the answers.
 use classtrailers::Block;
 use classtrailers::BlockBody;

@@ -31,7 +31,7 @@ use util::Text;
 
 // Parts of lines.
 
-// What stands in no expected line: for a line that cannot be read, or an answer that none of the calls may give.
+// A line that is never expected: for an input line that cannot be read, or an answer that no call may give.
 fn bad_line() {
     io::write_all(1, b"bad line\n");
 }
@@ -46,7 +46,7 @@ fn newline() {
     io::write_all(1, b"\n");
 }
 
-// The rest of a line that tells of nothing.
+// The rest of a line for an answer that is nothing.
 fn nothing() {
     io::write_all(1, b" nothing\n");
 }
@@ -349,7 +349,7 @@ fn answer_lines(input: &[u8]) {
     }
 }
 
-// What stands past the first 131,072 bytes is not read.
+// Nothing past the first 131,072 bytes is read.
 fn main() {
     let mut space = [0u8; 131072];
     let n = io::read_full(0, &mut space);

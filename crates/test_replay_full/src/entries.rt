@@ -57,7 +57,8 @@ fn at_most_shown(count: u32) -> u32
     if count < SHOWN { count } else { SHOWN }
 }
 
-// The first ones of a table: how many they are. A step moves on past one that cannot be read, so there are as many steps as entries.
+// Writes the first entries of a table, and returns how many. A step moves past one that cannot be read, so there are as many steps as
+// entries.
 pub fn entries(image: &[u8], segments: &[u64], kind: Kind, base_va: u64, count: u32) -> u32
     ensures { λ r. ⌜ r ≡ min count 12 ⌝ }
 {
@@ -76,7 +77,7 @@ pub fn entries(image: &[u8], segments: &[u64], kind: Kind, base_va: u64, count: 
     most
 }
 
-// Entries that no header tells of, at a row's own address, if that is one of the last 32: they pass 2^64. Tells whether it is.
+// Entries without a header, at a row's own address, if that is one of the last 32 addresses: they pass 2^64. Returns whether it is.
 pub fn at_row(image: &[u8], segments: &[u64], address: u64) -> bool
     ensures { λ r. ⌜ r ≡ leb (2 ^ 64 - 32) address ⌝ }
 {

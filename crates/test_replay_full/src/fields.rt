@@ -161,7 +161,8 @@ fn walk_fields(
     walk
 }
 
-// The descriptors of a section of fewer than 65,536 bytes: up to the end of the walk, and from there up to the next one. Tells where that is.
+// The descriptors of a section of fewer than 65,536 bytes: up to the end of the walk, and from there up to the next end. Returns where that
+// is.
 pub fn all_fields(
     image: &[u8],
     segments: &[u64],

@@ -61,7 +61,7 @@ fn newline() {
     io::write_all(1, b"\n");
 }
 
-// The rest of a line that tells of nothing.
+// The rest of a line for an answer that is nothing.
 fn nothing() {
     io::write_all(1, b" nothing\n");
 }
@@ -100,7 +100,7 @@ fn done() {
     word(b"done\n");
 }
 
-// What is said behind as many entries as are shown, of a table of `count`.
+// The line after the entries that are shown of a table of `count`.
 fn after_shown(count: u32) {
     if count > SHOWN {
         word(b"more\n");
@@ -111,7 +111,7 @@ fn after_shown(count: u32) {
 
 // Lines of the input.
 
-// What stands in no expected line: for a line that cannot be read. An answer that none of the calls may give is written so too.
+// A line that is never expected: for an input line that cannot be read, or an answer that no call may give.
 fn bad_line() {
     word(b"bad line\n");
 }
@@ -194,7 +194,7 @@ fn answer_lines(input: &[u8]) {
     }
 }
 
-// What stands past the first 131,072 bytes is not read.
+// Nothing past the first 131,072 bytes is read.
 fn main() {
     let mut space = [0u8; 131072];
     let n = io::read_full(0, &mut space);

@@ -176,7 +176,7 @@ fn detail_lines(image: &[u8], segments: &[u64], block: Block) {
     }
 }
 
-// What the entries of a table are, by the number of its kind.
+// The kind of a table's entries, by the number of the block's kind.
 fn entry_kind(kind: u32) -> Kind {
     match kind {
         4 => Kind::Method,
@@ -315,7 +315,7 @@ fn rows_line(rows: u64) {
     one(rows);
 }
 
-// The first 4,096 rows of a types section: how many they are.
+// Writes the first 4,096 rows of a types section, and returns how many there are.
 pub fn all_rows(image: &[u8], segments: &[u64], types: &[u8], vmaddr: u64) -> u64
     ensures { λ r. ⌜ r ≡ rowsShown (now (image .entry)) (now (segments .entry)) (now (types .entry)) vmaddr ⌝ }
 {

@@ -58,7 +58,7 @@ fn byte_digits(b: u8) {
     io::print_hex(1, b as u64, 2);
 }
 
-// The bytes of a part that two calls give; `differs` where they give two.
+// The bytes of a part that two calls return; `differs` if the two are not the same.
 fn bytes_line(part: &[u8], again: &[u8]) {
     if !test_lines::same(part, again) {
         io::write_all(1, b"differs\n");
@@ -75,7 +75,7 @@ fn bytes_line(part: &[u8], again: &[u8]) {
     io::write_all(1, b"\n");
 }
 
-// Where there is no part, both calls give an empty one.
+// If there is no part, both calls return an empty one.
 fn no_part(part: &[u8], again: &[u8]) {
     if part.len() == 0 && again.len() == 0 {
         nothing();
@@ -218,7 +218,7 @@ fn section_line(bytes: &[u8], section: Section, part: &[u8]) {
     );
 }
 
-// From a function's name to its call. The answers are whether the name is known.
+// From a function's name to its call. Each returns whether the name is known.
 
 fn number_call(name: &[u8], a: u64, bytes: &[u8]) -> bool {
     if test_lines::same(name, b"read_u16_le_at") {

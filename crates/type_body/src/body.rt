@@ -9,8 +9,8 @@ use context::ContextDescriptorKind;
 use segment::Mapping;
 use util::Text;
 
-// The two words of a class whose meaning a resilient superclass changes: the metadata's sizes, or the address of its bounds (0 where
-// it has none) and the extra class flags.
+// The two words of a class whose meaning a resilient superclass changes: the metadata's sizes, or the address of its bounds (0 if it
+// has none) and the extra class flags.
 pub enum ClassSizes {
     Fixed {
         negative_words: u32,
@@ -22,7 +22,7 @@ pub enum ClassSizes {
     },
 }
 
-// What follows the 20 bytes of a class. The superclass's name is looked up at its address, which is 0 where the class has none.
+// What follows the 20 bytes of a class. The superclass's name is looked up at its address, which is 0 if the class has none.
 pub struct ClassBody {
     pub superclass_va: u64,
     pub sizes: ClassSizes,
@@ -149,8 +149,8 @@ fn decode_enum_body(image: &[u8], segments: &[u64], mapping: Mapping, address: u
     TypeBody::Enum(enum_in(header))
 }
 
-// The body of the descriptor at an address, which has these flags: nothing where it is not a class, struct or enum, where its bytes are
-// not in the image, and where its end reaches 2^64. The mapping is asked before the segments: one that is true of them changes no answer.
+// The body of the descriptor with these flags at an address: nothing if it is not a class, struct or enum, if its bytes are not in the
+// image, or if its end reaches 2^64. The mapping is tried before the segments; a true mapping changes no answer.
 pub fn decode_body_near(
     image: &[u8],
     segments: &[u64],
@@ -180,7 +180,7 @@ pub fn decode_body(image: &[u8], segments: &[u64], address: u64, flags: u32) -> 
     decode_body_near(image, segments, Mapping::empty(), address, flags)
 }
 
-// The name of a class's superclass; `util::text_part` gives the part of the image. There is none beside another body.
+// The name of a class's superclass; `util::text_part` returns the part of the image. There is none for any other body.
 pub fn superclass_name(image: &[u8], segments: &[u64], body: TypeBody) -> Text
     ensures { λ r. ⌜ textOf r ≡ superclassName (now (image .entry)) (now (segments .entry)) (bodyOf body) ⌝ }
 {

@@ -1,5 +1,5 @@
-// What hangs on a type row, carried over from darwinscope's src/swift/typedescriptor.rs: its body, the start of its trailing blocks, and the
-// records of a singleton.
+// What belongs to a type row, carried over from darwinscope's src/swift/typedescriptor.rs: its body, the start of its trailing blocks, and
+// the singleton records.
 mod body;
 mod singleton;
 mod trailers;

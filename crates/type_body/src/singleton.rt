@@ -8,7 +8,7 @@ pub enum Target {
     Nothing,
 }
 
-// The three addresses of a singleton initialization, each 0 where its offset is 0.
+// The three addresses of a singleton initialization, each 0 if its offset is 0.
 pub enum SingletonMetadataInit {
     At {
         initialization_cache_va: u64,
@@ -18,14 +18,14 @@ pub enum SingletonMetadataInit {
     Nothing,
 }
 
-// The address of a singleton's metadata, 0 where the offset is 0.
+// The address of a singleton's metadata, 0 if the offset is 0.
 pub enum SingletonMetadataPointer {
     At(u64),
     Nothing,
 }
 
-// What the offset at `off` of the record at `address` refers to. An offset of 0 refers to address 0, wherever its slot lies; another
-// one has to lie below 2^64.
+// What the offset at `off` of the record at `address` refers to. An offset of 0 refers to address 0, wherever its slot lies; the
+// slot of any other offset must lie below 2^64.
 fn target_in(bytes: &[u8], off: usize, address: u64) -> Target
     ensures { λ r. ⌜ targetOf r ≡ slotTarget address (now (bytes .entry)) off ⌝ }
 {

@@ -6,7 +6,7 @@ use crate::body::ClassSizes;
 use crate::body::TypeBody;
 use classtrailers::Trailing;
 
-// What a walk over the blocks of a descriptor starts from: what tells which blocks there are, and the address of the first of them.
+// What a walk over the blocks of a descriptor starts from: what decides which blocks there are, and the address of the first.
 pub enum TrailingRead {
     Start { trailing: Trailing, start: u64 },
     Nothing,

@@ -23,7 +23,7 @@ pub const NAME_BYTES: usize = 4096;
 
 pub const LINE_BYTES: usize = 4121;
 
-// A walk over the lines: the next slot to read, how many rows were given, and whether the last line was.
+// A walk over the lines: the next slot to read, how many rows were given, and whether the last line was given.
 pub struct LineIter {
     pub slot: usize,
     pub given: usize,
@@ -31,7 +31,7 @@ pub struct LineIter {
 }
 
 pub enum NextLine {
-    // A line of so many bytes at the buffer's start, and the walk from there on.
+    // A line of `length` bytes at the buffer's start, and the walk from there on.
     Line { length: usize, next: LineIter },
     Done,
     Refused(Refusal),
@@ -144,7 +144,7 @@ fn put_end(given: usize, line: &mut [u8]) -> usize
     util::put(b"\n", line, b)
 }
 
-// The next line into the buffer's start.
+// Writes the next line at the buffer's start.
 fn next_into(
     lister: LineIter,
     image: &[u8],

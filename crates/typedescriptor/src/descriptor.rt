@@ -5,7 +5,7 @@ ghost use Rattle.typedescriptor.specs.Row.{descriptor, descriptorOf};
 use segment::Mapping;
 use util::Text;
 
-// What a type descriptor says: its address, its flags, the parent context's address (0 where it has none), and where its name lies.
+// What a type descriptor says: its address, its flags, the parent context's address (0 if it has none), and where its name lies.
 pub struct Row {
     pub address: u64,
     pub flags: u32,
@@ -19,7 +19,7 @@ pub enum Descriptor {
     Nothing,
 }
 
-// The row of the type descriptor at an address. The mapping is asked before the segments: one that is true of them changes no answer.
+// The row of the type descriptor at an address. The mapping is tried before the segments; a true mapping changes no answer.
 pub fn decode_type_descriptor_near(
     image: &[u8],
     segments: &[u64],

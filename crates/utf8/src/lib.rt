@@ -10,13 +10,13 @@ ghost use Rattle.utf8.specs.Text.{textLength, scanned, following, leads}
 
 // What the bytes at the start of a slice are.
 pub enum Scan {
-    // A well-formed text of so many bytes, and then a NUL or the slice's end.
+    // A well-formed text of this many bytes, and then a NUL or the slice's end.
     Text(usize),
-    // No text: some sequence before the first NUL is ill-formed.
+    // Not a text: some sequence before the first NUL is ill-formed.
     IllFormed,
 }
 
-// What a lead byte asks of the bytes after it.
+// What a lead byte requires of the bytes after it.
 pub enum Lead {
     // Nothing: the byte is a sequence by itself.
     Alone,
@@ -26,7 +26,7 @@ pub enum Lead {
     Invalid,
 }
 
-// What Table 3-7 asks after a lead byte, from the byte alone.
+// What Table 3-7 requires after a lead byte.
 pub fn lead_limits(b: u8) -> Lead
     ensures { λ r. ⌜ leads r ≡ following table b ⌝ }
 {

@@ -3,13 +3,13 @@ ghost use mathlib.Core.Path.{_≡_};
 ghost use Rattle.util.specs.Cstr.{place, partOf, textAt, textOf, textPart, fixedText};
 use utf8::Scan;
 
-// Where a text lies: the NUL is not counted.
+// Where a text lies; its length does not count the NUL.
 pub enum Text {
     At { place: usize, length: usize },
     Nothing,
 }
 
-// A part of a slice; the empty one where it does not lie within.
+// A part of a slice; empty if it does not lie within the slice.
 pub fn part(s: &[u8], start: usize, length: usize) -> &[u8]
     ensures { λ r. ⌜ now r ≡ partOf (now (s .entry)) (place start length) ⌝ }
 {
@@ -37,7 +37,7 @@ pub fn read_cstr_at(data: &[u8], off: usize) -> Text
     }
 }
 
-// The part that an answer tells of: empty where there is none.
+// The part of the bytes that an answer is about; empty if there is none.
 pub fn text_part(data: &[u8], text: Text) -> &[u8]
     ensures { λ r. ⌜ now r ≡ textPart (now («data» .entry)) (textOf text) ⌝ }
 {
@@ -54,7 +54,7 @@ pub fn cstr_at(data: &[u8], off: usize) -> &[u8]
     text_part(data, read_cstr_at(data, off))
 }
 
-// The text of a field of fixed size: the empty one where it is not well-formed UTF-8.
+// The text of a field of fixed size; empty if it is not well-formed UTF-8.
 pub fn cstr_from_fixed(bytes: &[u8]) -> &[u8]
     ensures { λ r. ⌜ now r ≡ fixedText (now (bytes .entry)) ⌝ }
 {

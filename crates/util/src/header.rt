@@ -1,4 +1,4 @@
-// Numbers in a header that the caller has read whole, so that no call needs an answer for a short one: a number that would run past the end is 0.
+// Numbers in a header that the caller has read whole, so no call needs an answer for a short one: a number that would run past the end is 0.
 ghost use mathlib.Core.Path.{_≡_};
 ghost use Rattle.util.specs.LittleEndian.{unsignedIn, signedIn};
 ghost use Rattle.util.specs.Pointer.{relativeAddress, relativePointer};

@@ -43,7 +43,7 @@ pub fn entry_address(base_va: u64, stride: u32, k: u32) -> u64
     std::num::wrapping_add_u64(base_va, (stride as u64) * (k as u64))
 }
 
-// Its `size` bytes, as that part of the image: empty where they cannot be read, or where one of its words does not lie below 2^64.
+// Its `size` bytes, as that part of the image: empty if they cannot be read, or if one of its words does not lie below 2^64.
 pub fn entry_bytes<'a>(
     image: &'a [u8],
     segments: &[u64],

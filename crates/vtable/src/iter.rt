@@ -1,4 +1,4 @@
-// Walks over the entries of a table: by value, each step hands the walk back.
+// Walks over the entries of a table, by value: each step returns the walk.
 ghost use mathlib.Core.Path.{_≡_};
 ghost use Prim.Native.Nat.{_+_, _-_, _^_, _<_};
 ghost use Rattle.vtable.specs.Entries.{method, kindLayout, entrySize, entryOf, start, moved, entryStep, tableEntry, stepAnswer};
