@@ -1,5 +1,5 @@
--- The bundle's format: docs/SPECIFICATION.md, "Bundles". Records obey its rules, their bytes stand one after the other,
--- and each kind has its place in them.
+-- The bundle's format: docs/SPECIFICATION.md, "Bundles". Records obey its rules, their bytes follow one another, and
+-- each kind has its place in them.
 use Prim.Native.Nat.{ℕ, zero, suc, _+_, _-_, _%_, _/_, _≤_, _<_}
 use mathlib.Core.Path.{_≡_}
 use mathlib.Core.List.{List, [], _∷_, _++_, map, List·Memᴰ}
@@ -32,7 +32,7 @@ unfoldable pub bundleBytes : List Record → List ℕ
 bundleBytes [] = []
 bundleBytes (r ∷ rs) = encoded r ++ bundleBytes rs
 
--- how long a body may be: segments of 32 bytes; types, fields and strings led by an address of 8; an image as it likes
+-- how long a body may be: segments of 32 bytes; types, fields and strings led by an address of 8; an image of any length
 unfoldable pub bodyFits : ℕ → ℕ → Bool
 bodyFits kind n = cond (eqb kind 2) (eqb (n % 32) 0) (cond (ltb kind 3) true (leb 8 n))
 
@@ -53,12 +53,12 @@ pub record Obeys (rs : List Record) : Type 0 where
 abbrev pub part : ℕ → ℕ → Part
 part o n = record { start = o; length = n }
 
--- where the body of a kind lies, the first record's header being at `at`; all zeros where the kind is missing
+-- where the body of a kind lies, the first record's header being at `at`; all zeros if the kind is missing
 unfoldable pub bodyPlace : ℕ → ℕ → List Record → Part
 bodyPlace kind at [] = part 0 0
 bodyPlace kind at (r ∷ rs) = cond (eqb (r .kind) kind) (part (at + 6) (length (r .body))) (bodyPlace kind (at + 6 + length (r .body)) rs)
 
--- the address at the start of a led body, and the bytes after it; all zeros where there is no such body
+-- the address at the start of a led body, and the bytes after it; all zeros if there is no such body
 unfoldable pub sectionIn : List ℕ → Part → Section
 sectionIn s p =
     cond (leb 8 (p .length))

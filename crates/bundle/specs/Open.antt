@@ -1,7 +1,6 @@
--- Opening a bundle (docs/SPECIFICATION.md, "Bundles"), as a computation on its bytes: each kind in turn is taken where its record comes next. A record of a
--- kind that does not rise, or that breaks another rule, is not taken, and is left over at the end.
--- `BundleLaws.sound` and `BundleLaws.complete` say that the records of `Bundle` that obey the rules, and no other bytes,
--- are opened, with their layout.
+-- Opening a bundle (docs/SPECIFICATION.md, "Bundles"), as a computation on its bytes: each kind in turn is taken if its record comes next.
+-- A record of a kind that does not rise, or that breaks another rule, is not taken, and is left over at the end. `BundleLaws.sound` and
+-- `BundleLaws.complete` say that the records of `Bundle` that obey the rules, and no other bytes, are opened, with their layout.
 use Prim.Native.Nat.{ℕ, _+_, _≤_}
 use mathlib.Core.List.{List}
 use mathlib.Core.Bool.{Bool, cond, _&&_}
@@ -15,32 +14,32 @@ use Rattle.bundle.specs.declared.open.Layout.{Layout}
 use Rattle.bundle.specs.declared.open.Taken.{Taken}
 use Rattle.bundle.specs.declared.open.Opened.{Opened}
 
--- the body length and the kind that a header at an offset tells
+-- the body length and the kind in a header at an offset
 abbrev pub sizeAt : List ℕ → ℕ → ℕ
 sizeAt s at = littleEndian (take 4 (drop at s))
 
 abbrev pub kindAt : List ℕ → ℕ → ℕ
 kindAt s at = littleEndian (take 2 (drop (at + 4) s))
 
--- whether a record of this kind is there, not cut short, with a body that fits
+-- whether there is a record of this kind, not cut short, with a body that fits
 unfoldable pub isAt : ℕ → List ℕ → ℕ → Bool
 isAt kind s at = leb (at + 6 + sizeAt s at) (length s) && (eqb (kindAt s at) kind && bodyFits kind (sizeAt s at))
 
--- that record's body and the offset after it; all zeros and the same offset where it is not there
+-- that record's body and the offset after it; all zeros and the same offset if there is none
 unfoldable pub takeAt : ℕ → List ℕ → ℕ → Taken
 takeAt kind s at =
     cond (isAt kind s at)
     (record { part = part (at + 6) (sizeAt s at); next = at + 6 + sizeAt s at })
     (record { part = part 0 0; next = at })
 
--- from what was taken for each kind: there has to be an image, and no byte may be left
+-- from what was taken for each kind: there must be an image, and no byte may be left
 unfoldable pub answer : List ℕ → Taken → Taken → Taken → Taken → Taken → Guarded Layout
 answer s image segments types fields strings =
     cond (ltb 0 (image .part .start) && leb (length s) (strings .next))
     (answered (layoutIn s (image .part) (segments .part) (types .part) (fields .part) (strings .part)))
     (refused 2)
 
--- what is taken for each kind, where the one before it ends
+-- what is taken for each kind, from where the kind before it ends
 abbrev pub image : List ℕ → Taken
 image s = takeAt 1 s 0
 
@@ -60,11 +59,11 @@ strings s = takeAt 5 s (fields s .next)
 abbrev pub bundleMost : ℕ
 bundleMost = 65536
 
--- docs/SPECIFICATION.md, "Refusals": refusal 5 above so many bytes, then 2 for broken rules
+-- docs/SPECIFICATION.md, "Refusals": refusal 5 above that many bytes, then 2 for broken rules
 unfoldable pub openBundle : List ℕ → Guarded Layout
 openBundle s = cond (ltb bundleMost (length s)) (refused 5) (answer s (image s) (segments s) (types s) (fields s) (strings s))
 
--- the cases of the code's answer by the refusals' numbers
+-- the code's answer, with its refusals as numbers
 abbrev pub opened : Opened → Guarded Layout
 opened (Opened.Bundle l) = answered l
 opened (Opened.Refused r) = refused (refusalNumber r)

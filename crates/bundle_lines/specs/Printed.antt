@@ -27,7 +27,7 @@ linesMost = 16385
 
 -- ---- the same in steps
 
--- what is left to print: the lines of a bundle's rows from where the walk stands, the line of a refusal, or nothing
+-- what is left to print: the lines of a bundle's rows from the walk's position on, the line of a refusal, or nothing
 pub data Pending : Type 0 where
   rows : Layout → LineIter → Pending
   refusal : ℕ → Pending
@@ -52,7 +52,7 @@ printStep s segments (rows l c) =
 printStep s segments (refusal n) = some (line (refusedLine n) finished)
 printStep s segments finished = none
 
--- what a step's answer says, of the line's buffer after it
+-- what a step's answer says, with the line's buffer after it
 abbrev pub printAnswer : List ℕ → PrintStep → Guarded (Option (Line Pending))
 printAnswer buffer (PrintStep.Line n p) = answered (some (record { text = take n buffer; size = n; next = pendingOf p }))
 printAnswer buffer PrintStep.Done = answered none
@@ -64,7 +64,7 @@ numbersFor s (rows l c) = listedNumbers s l
 numbersFor s (refusal n) = []
 numbersFor s finished = []
 
--- what so many steps give: their lines, and what is left then
+-- what a number of steps gives: their lines, and what is then left
 pub record Taken : Type 0 where
   pub lines : List (List ℕ)
   pub left : Pending

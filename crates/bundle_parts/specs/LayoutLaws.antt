@@ -20,7 +20,7 @@ use Rattle.bundle_parts.specs.Parts.{bytesOf}
 use Rattle.bundle.specs.declared.open.Part.{Part}
 use Rattle.bundle.specs.declared.open.Layout.{Layout}
 
--- the body of a kind, empty where it is missing
+-- the body of a kind, empty if it is missing
 unfoldable pub recordBodyOf : ℕ → List Record → List ℕ
 recordBodyOf kind [] = []
 recordBodyOf kind (r ∷ rs) = cond (eqb (r .kind) kind) (r .body) (recordBodyOf kind rs)

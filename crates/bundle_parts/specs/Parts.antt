@@ -12,7 +12,7 @@ use Rattle.bundle.specs.declared.open.Part.{Part}
 use Rattle.bundle.specs.declared.open.Layout.{Layout}
 use Rattle.bundle_parts.specs.declared.parts.SegmentRead.{SegmentRead}
 
--- the bytes of a part, none where it does not lie within
+-- the bytes of a part, none if it does not lie within
 abbrev pub bytesOf : List ℕ → Part → List ℕ
 bytesOf s p = partOf s (place (p .start) (p .length))
 
@@ -23,14 +23,14 @@ segmentBytes s l = bytesOf s (l .segments)
 abbrev pub u64In : List ℕ → ℕ → ℕ
 u64In s at = littleEndian (take 8 (drop at s))
 
--- a segment by its number, in the 32 bytes that it has in a body; none where the body does not have them all
+-- a segment by its number, from its 32 bytes in a body; none if the body does not have them all
 unfoldable pub segmentIn : List ℕ → ℕ → Option Segment
 segmentIn body k =
     cond (leb (32 * k + 32) (length body))
     (some (record { vmaddr = u64In body (32 * k); vmsize = u64In body (32 * k + 8); fileoff = u64In body (32 * k + 16); filesize = u64In body (32 * k + 24) }))
     none
 
--- the same, of the code's answer
+-- the same from the code's answer
 abbrev pub segmentOf : SegmentRead → Option Segment
 segmentOf (SegmentRead.Segment g) = some (record { vmaddr = g .vmaddr; vmsize = g .vmsize; fileoff = g .fileoff; filesize = g .filesize })
 segmentOf SegmentRead.Nothing = none
@@ -48,6 +48,6 @@ segmentNumbers s l = numbers (4 * (length (segmentBytes s l) / 32)) (segmentByte
 abbrev pub segmentNumbersMost : ℕ
 segmentNumbersMost = 8192
 
--- those that such a list takes: all of them for a layout of a bundle (`numbers-all`)
+-- those that such a list holds: all of them for a layout of a bundle (`numbers-all`)
 abbrev pub listedNumbers : List ℕ → Layout → List ℕ
 listedNumbers s l = numbers (min segmentNumbersMost (4 * (length (segmentBytes s l) / 32))) (segmentBytes s l)

@@ -23,7 +23,7 @@ checkKind last kind size next =
     (Checked.Breaks Rule.KindOrder))
     (Checked.Breaks Rule.KindRange)
 
--- the record at an offset: first of all it is not cut short
+-- the record at an offset: the first rule is that it is not cut short
 unfoldable pub checkAt : List ℕ → ℕ → ℕ → Checked
 checkAt s last at =
     cond (leb (at + 6 + sizeAt s at) (length s))
@@ -35,17 +35,17 @@ abbrev pub turn : ℕ → Checked → (ℕ → ℕ → Broken) → Broken
 turn at (Checked.Breaks r) more = Broken.At r at
 turn at (Checked.Keeps kind next) more = more kind next
 
--- at the end, one of the records has to have been an image
+-- at the end, one of the records must have been an image
 abbrev pub atEnd : List ℕ → Bool → Broken
 atEnd s image = cond image Broken.Whole (Broken.At Rule.NoImage (length s))
 
--- from an offset on, in at most so many turns; whether there was an image, and the last kind
+-- from an offset on, in a bounded number of turns; whether there was an image, and the last kind
 unfoldable pub walk : ℕ → List ℕ → Bool → ℕ → ℕ → Broken
 walk zero s image last at = Broken.Whole
 walk (suc n) s image last at =
     cond (leb (length s) at) (atEnd s image)
     (turn at (checkAt s last at) (λ kind next. walk n s (eqb kind 1 || image) kind next))
 
--- five records at most can keep the rules, so a sixth turn ends; a bundle that is too long is not refused for a rule
+-- at most five records can obey the rules, so the sixth turn ends; a bundle that is too long is not refused for a rule
 unfoldable pub brokenRule : List ℕ → Broken
 brokenRule s = cond (ltb bundleMost (length s)) Broken.Whole (walk 6 s false 0 0)

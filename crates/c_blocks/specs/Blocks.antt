@@ -1,5 +1,5 @@
--- docs/SPECIFICATION.md, "Calls for C".
--- Blocks as numbers: the number of the kind in the table's order, and three numbers of what is recorded, 0 where a kind has fewer.
+-- docs/SPECIFICATION.md, "Calls for C". Blocks as numbers: the number of the kind in the table's order, and what is recorded in
+-- three numbers, filled up with zeros.
 use Prim.Native.Nat.{ℕ}
 use mathlib.Core.List.{List, [], _∷_, _++_}
 use mathlib.Core.Bool.{not}
@@ -23,7 +23,7 @@ abbrev pub startNumbers : Option Start → List ℕ
 startNumbers none = 0 ∷ (0 ∷ (0 ∷ (0 ∷ [])))
 startNumbers (some s) = 1 ∷ (flagNumber (s .trailing .isClass) ∷ (s .trailing .extra ∷ (s .start ∷ [])))
 
--- a walk by its numbers; a class is any but 0
+-- a walk from its numbers; any number but 0 means a class
 abbrev pub walkAt : ℕ → ℕ → ℕ → ℕ → ℕ → Walk
 walkAt flags class extra row address =
     record { trailing = record { flags = flags; isClass = not (eqb class 0); extra = extra }; row = row; address = address }
@@ -40,6 +40,6 @@ abbrev pub kindBlockNumbers : Option Block → List ℕ
 kindBlockNumbers none = 0 ∷ (0 ∷ (0 ∷ (0 ∷ (0 ∷ []))))
 kindBlockNumbers (some b) = 1 ∷ blockNumbers b
 
--- the block of a kind, by the kind's number, of the descriptor at an address; a number that is no kind's has none
+-- the block of the kind with a number, for the descriptor at an address; there is none for a number that no kind has
 abbrev pub blockNumbered : List ℕ → List ℕ → Option Start → ℕ → Option Block
 blockNumbered image segments start number = andThen (kindNumbered number) (λ k. kindFrom image segments k start)

@@ -1,6 +1,6 @@
--- docs/SPECIFICATION.md, "Calls for C".
--- A step over the entries of a table as numbers: 1, the next entry's number, the entry's address and its words; for an unreadable entry 2, the next
--- entry's number, and as many times 0; at the end only 0. Of entries of `n` words there are 3 + `n` numbers.
+-- docs/SPECIFICATION.md, "Calls for C". A step over the entries of a table as numbers: 1, the next entry's number, the entry's address and
+-- its words; for an unreadable entry 2, the next entry's number, and zeros; at the end only zeros. For entries of `n` words there are 3 +
+-- `n` numbers.
 use Prim.Native.Nat.{ℕ, _+_}
 use mathlib.Core.List.{List, [], _∷_}
 use lib.ListN.{take}

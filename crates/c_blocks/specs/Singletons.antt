@@ -1,5 +1,5 @@
--- docs/SPECIFICATION.md, "Calls for C".
--- A singleton initialization as four numbers: 1 and its three addresses; all are 0 where there is none.
+-- docs/SPECIFICATION.md, "Calls for C". A singleton initialization as four numbers: 1 and its three
+-- addresses; all are 0 if there is none.
 use Prim.Native.Nat.{ℕ}
 use mathlib.Core.List.{List, [], _∷_}
 use mathlib.Core.Option.{Option, some, none}

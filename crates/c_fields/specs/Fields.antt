@@ -1,5 +1,5 @@
--- docs/SPECIFICATION.md, "Calls for C".
--- The steps over a fields section and over field records as numbers. A step that gives nothing has 0 at its start, and an unreadable record 2.
+-- docs/SPECIFICATION.md, "Calls for C". The steps over a fields section and over field records as numbers. A step that gives nothing starts
+-- with 0, and one for an unreadable record with 2.
 use Prim.Native.Nat.{ℕ}
 use mathlib.Core.List.{List, [], _∷_}
 use mathlib.Core.Option.{Option, some, none}
@@ -10,7 +10,7 @@ use Rattle.field.specs.declared.iter.FieldDescriptor.{FieldDescriptor}
 use Rattle.field.specs.declared.record.FieldRecordIter.{FieldRecordIter}
 use Rattle.c_numbers.specs.Flags.{fieldKindNumber}
 
--- the offset that the walk then stands at is told in both cases
+-- the offset at which the walk then stands is among the numbers in both cases
 abbrev pub descriptorNumbers : ℕ → Option FieldDescriptor → List ℕ
 descriptorNumbers next none = 0 ∷ (next ∷ (0 ∷ (0 ∷ (0 ∷ (0 ∷ (0 ∷ (0 ∷ [])))))))
 descriptorNumbers next (some d) =
@@ -28,6 +28,6 @@ abbrev pub recordNumbers : Option RecordStep → List ℕ
 recordNumbers none = 0 ∷ (0 ∷ (0 ∷ (0 ∷ (0 ∷ (0 ∷ [])))))
 recordNumbers (some s) = foundRecordNumbers (s .next .cursor) (s .found)
 
--- a walk by its numbers
+-- a walk from its numbers
 abbrev pub recordsAt : ℕ → ℕ → ℕ → ℕ → FieldRecordIter
 recordsAt base count size next = record { «base_va» = base; count = count; «entry_size» = size; cursor = next }

@@ -1,6 +1,5 @@
--- docs/SPECIFICATION.md, "Calls for C".
--- A field record and a field descriptor by their numbers, as the steps write them (`recordNumbers`, `fieldStepNumbers`) behind their first two: of
--- each only the addresses are taken, which is what its names are read by.
+-- docs/SPECIFICATION.md, "Calls for C". A field record and a field descriptor from their numbers, as the steps write them (`recordNumbers`,
+-- `fieldStepNumbers`) after their first two: only the addresses of the names matter, at which the names are read.
 use Prim.Native.Nat.{ℕ}
 use mathlib.Core.List.{List}
 use lib.ListN.{getD}

@@ -1,6 +1,5 @@
--- docs/SPECIFICATION.md, "Calls for C".
--- The rows from a slot on in a fixed layout: for each row its slot, its address, its flags and the length of its joined name, eight bytes each,
--- the lowest first, and the name. Records are given as long as they fit into the room that there is.
+-- docs/SPECIFICATION.md, "Calls for C". The rows from a slot on in a fixed layout: for each row its slot, its address, its flags and the
+-- length of its joined name, eight bytes each, the lowest first, and the name. Records are given as long as they fit into the room.
 use Prim.Native.Nat.{ℕ, _-_, _/_, _%_, _^_, max}
 use mathlib.Core.Path.{_≡_}
 use mathlib.Core.List.{List, [], _∷_, _++_}
@@ -41,7 +40,7 @@ pub record RowListing : Type 0 where
 abbrev pub recordThen : List ℕ → RowListing → RowListing
 recordThen t l = record { bytes = t ++ l .bytes; next = l .next; all = l .all }
 
--- the records of the rows up to the first that the room does not hold, whose slot is the one to go on from; `past` where all are given
+-- the records of the rows up to the first that the room does not hold, whose slot is the slot to go on from; `past` if all are given
 unfoldable pub recordsIn : List ℕ → List ℕ → ℕ → List Found → ℕ → RowListing
 recordsIn image segments past [] room = record { bytes = []; next = past; all = 1 }
 recordsIn image segments past (f ∷ fs) room =

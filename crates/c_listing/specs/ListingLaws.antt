@@ -29,7 +29,7 @@ unfoldable pub records : List ℕ → List ℕ → List Found → List ℕ
 records image segments [] = []
 records image segments (f ∷ fs) = rowBytes image segments (f .slot) (f .row) ++ records image segments fs
 
--- a listing `l` of these rows, with the rows from each slot on: from its slot to go on from there are the other records, and none where it says that all are given
+-- a listing `l` of these rows, with the rows from each slot on: from its slot to go on from there are the other records, and none if it says that all are given
 pub record Resumes (image segments : List ℕ) (all : List Found) (l : RowListing) (from : ℕ → List Found) : Type 0 where
   pub together : records image segments all ≡ l .bytes ++ records image segments (from (l .next))
   pub done : l .all ≡ 1 → from (l .next) ≡ []

@@ -1,5 +1,5 @@
--- docs/SPECIFICATION.md, "Calls for C".
--- The accessors of the flag words as lists of numbers, the first of which is always 1. A kind is its place in its enumeration, or 256 and its number where no kind has it.
+-- docs/SPECIFICATION.md, "Calls for C". The accessors of the flag words as lists of numbers, the first of which is always 1. A kind is its
+-- place in its enumeration, or 256 plus its number if no kind has it.
 use Prim.Native.Nat.{ℕ, _+_}
 use mathlib.Core.Bool.{Bool, true, false}
 use mathlib.Core.List.{List, [], _∷_}

@@ -1,5 +1,5 @@
--- docs/SPECIFICATION.md, "Calls for C".
--- The answers of the calls as a status and, in the caller's array, numbers of a fixed count. The first number is 0, as are all others, where there is nothing.
+-- docs/SPECIFICATION.md, "Calls for C". The answers of the calls as a status and a fixed number of numbers in the caller's array. If there
+-- is nothing, all numbers are 0.
 use Prim.Native.Nat.{ℕ}
 use mathlib.Core.Path.{_≡_}
 use mathlib.Core.List.{List, [], _∷_}
@@ -16,17 +16,17 @@ abbrev pub status : {A : Type 0} → Guarded A → ℕ
 status (answered a) = 0
 status (refused n) = n
 
--- the array after a call that gives numbers: as it was where the call refuses
+-- the array after a call that writes numbers: unchanged if the call refuses
 abbrev pub overOut : List ℕ → Guarded (List ℕ) → List ℕ
 overOut out (answered numbers) = numbers
 overOut out (refused n) = out
 
--- what a call that answers or refuses so returns, and what it makes of the array
+-- what a call with this answer or refusal returns, and the array after it
 pub record Tells (answer : Guarded (List ℕ)) (out : List ℕ) (r : ℕ) (out′ : List ℕ) : Type 0 where
   pub gives : r ≡ status answer
   pub writes : out′ ≡ overOut out answer
 
--- a number alone
+-- a single number
 abbrev pub valueNumbers : Option ℕ → List ℕ
 valueNumbers none = 0 ∷ (0 ∷ [])
 valueNumbers (some o) = 1 ∷ (o ∷ [])
@@ -45,7 +45,7 @@ chainStepNumbers none = 0 ∷ (0 ∷ (0 ∷ (0 ∷ (0 ∷ (0 ∷ (0 ∷ (0 ∷ [
 chainStepNumbers (some s) =
     1 ∷ (s .context .header .address ∷ (s .context .header .flags ∷ (s .next ∷ (s .given ∷ contextNumbers (s .context .name)))))
 
--- a length alone
+-- a single length
 abbrev pub oneNumber : ℕ → List ℕ
 oneNumber n = n ∷ []
 

@@ -14,7 +14,7 @@ cursorAt base count next = record { «base_va» = base; count = count; next = ne
 abbrev pub countNumbers : Counts → List ℕ
 countNumbers c = c .entries ∷ (c .stop ∷ [])
 
--- what a call returns, and the caller's buffer at the end
+-- what a call returns, and the caller's buffer after it
 pub record TellsTable (g : Guarded WholeTable) (out buffer : List ℕ) (r : ℕ) (out′ buffer′ : List ℕ) : Type 0 where
   pub tells : Tells (mapped countNumbers (mapped counts g)) out r out′
   pub holds : buffer′ ≡ bufferWith g buffer

@@ -1,5 +1,5 @@
--- What the holder of an image's first bytes can know: docs/CUT.md. A program of reads is certain for what arrived where no read on its way met the end of that:
--- no byte that is still missing changes its answer, or that it has none (`CertainLaws.certain-run`).
+-- What is certain by an image's first bytes: docs/CUT.md. A program of reads is certain for what arrived if none of its reads met the end
+-- of that: no byte that is still missing changes its answer, or that it has none (`CertainLaws.certain-run`).
 use Prim.Native.Nat.{ℕ, zero, suc, _+_}
 use mathlib.Core.List.{List, [], _∷_}
 use mathlib.Core.Bool.{Bool, true, false, _&&_}
@@ -17,12 +17,13 @@ hasNul [] = false
 hasNul (zero ∷ s) = true
 hasNul (suc b ∷ s) = hasNul s
 
--- a test of what is there; where there is nothing it is passed
+-- a test of an answer; it passes if there is none
 abbrev pub ifThere : {A : Type 0} → Option A → (A → Bool) → Bool
 ifThere none test = true
 ifThere (some a) test = test a
 
--- An address that is not in the file stays so. Bytes are certain where all of them arrived, a text, found or ill-formed, where its NUL did.
+-- An address that is not in the file stays so. Bytes are certain if all of them arrived; a text, found or ill-formed, is certain if its NUL
+-- arrived.
 unfoldable pub certain : {A : Type 0} → List ℕ → List ℕ → Reads A → Bool
 certain arrived segments (done a) = true
 certain arrived segments nothing = true

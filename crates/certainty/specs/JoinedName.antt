@@ -1,5 +1,5 @@
--- When the joined name of a row is certain: docs/CUT.md. The row is, the chain of contexts around it ended at an address and not at the end of what arrived, and each name
--- on it is certain.
+-- When the joined name of a row is certain: docs/CUT.md. The row is certain, the chain of contexts around it ended at an address and not at
+-- the end of what arrived, and each name in it is certain.
 use Prim.Native.Nat.{ℕ, zero, suc, _+_, _^_}
 use mathlib.Core.List.{List}
 use mathlib.Core.Bool.{Bool, _&&_, _||_}
@@ -31,7 +31,7 @@ nameCertain arrived segments types start i =
     certain arrived segments (slotRow types start i)
     && ifThere (run arrived segments (slotRow types start i)) (λ r. chainCertain arrived segments contextsMost (r .parent))
 
--- what a listing says of the joined name of a slot's row, for a buffer of so many bytes: nothing where there is no row
+-- what a listing says of the joined name of a slot's row, for a buffer of a length: nothing if there is no row
 unfoldable pub joinedName : List ℕ → List ℕ → List ℕ → ℕ → ℕ → ℕ → Option (Guarded (List ℕ))
 joinedName image segments types start i size =
     Option·map (λ r. nameAnswer image segments r size) (run image segments (slotRow types start i))

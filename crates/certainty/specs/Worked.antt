@@ -49,7 +49,7 @@ abbrev longer : List ℕ
 longer = 0x1000 ∷ 41 ∷ 0 ∷ 41 ∷ []
 
 pub record CertaintyWorked : Type 0 where
-  -- the name without its NUL is not certain, though the row is there
+  -- the name without its NUL is not certain, though there is a row
   pub clue-28 : row (take 28 Clue.clueImage) Clue.clueSegments Clue.clueSections ≡ false
   pub clue-29 : row (take 29 Clue.clueImage) Clue.clueSegments Clue.clueSections ≡ false
   pub clue-30 : row (take 30 Clue.clueImage) Clue.clueSegments Clue.clueSections ≡ false
@@ -58,7 +58,7 @@ pub record CertaintyWorked : Type 0 where
   pub clue : row Clue.clueImage Clue.clueSegments Clue.clueSections ≡ true
   -- it has no parent: the chain ends at address 0
   pub clue-name : named Clue.clueImage Clue.clueSegments Clue.clueSections ≡ true
-  -- a slot without a row: its 20 bytes did not arrive; its name is ill-formed, and the NUL is there, or not yet
+  -- a slot without a row: its 20 bytes did not arrive; its name is ill-formed, and its NUL arrived, or did not
   pub clue-19 : row (take 19 Clue.clueImage) Clue.clueSegments Clue.clueSections ≡ false
   pub ill-formed : row Clue.broken Clue.clueSegments Clue.clueSections ≡ true
   pub ill-formed-31 : row (take 31 Clue.broken) Clue.clueSegments Clue.clueSections ≡ false
@@ -71,7 +71,7 @@ pub record CertaintyWorked : Type 0 where
   pub oak-name-103 : named (take 103 Oak.oakImage) Oak.oakSegments Oak.oakSections ≡ false
   pub oak-name-107 : named (take 107 Oak.oakImage) Oak.oakSegments Oak.oakSections ≡ false
   pub oak-name-110 : named (take 110 Oak.oakImage) Oak.oakSegments Oak.oakSections ≡ false
-  -- where the joined name reads `Wo.Oak`
+  -- here the joined name is `Wo.Oak`
   pub oak-joined-110 : joined (take 110 Oak.oakImage) Oak.oakSegments Oak.oakSections ≡ some (answered (letters "Wo.Oak"))
   -- the name without its NUL, and with it
   pub oak-name-112 : named (take 112 Oak.oakImage) Oak.oakSegments Oak.oakSections ≡ false

@@ -43,7 +43,7 @@ rowClass image segments r = classAt (r .address) (methodTable image segments (r 
 unfoldable pub slotClass : List ℕ → List ℕ → List ℕ → ℕ → ℕ → Option Class
 slotClass image segments types start i = andThen (run image segments (slotRow types start i)) (rowClass image segments)
 
--- what is told of a class: its slot, its address, how many of its methods follow, why no more, and the methods
+-- the numbers of a class: its slot, its address, how many of its methods follow, why no more, and the methods
 abbrev pub classNumbers : ℕ → ℕ → WholeTable → List ℕ
 classNumbers slot a t = slot ∷ (a ∷ (t .entries ∷ (t .stop ∷ t .numbers)))
 
@@ -67,8 +67,8 @@ stopsAt i k all = record { numbers = []; classes = 0; next = i; method = k; all 
 abbrev pub classThen : List ℕ → ClassesListed → ClassesListed
 classThen ns l = record { numbers = ns ++ l .numbers; classes = suc (l .classes); next = l .next; method = l .method; all = l .all }
 
--- so many slots from slot `i` on, the first one's methods from method `k` on, in a list of `n` numbers: a class for whose four numbers there is no
--- room is not begun, and after one whose methods do not all fit (1) there is none
+-- a number of slots from slot `i` on, the first one's methods from method `k` on, in a list of `n` numbers: a class for whose four numbers
+-- there is no room is not begun, and none follows a class whose methods do not all fit (1)
 unfoldable pub classesFrom : List ℕ → List ℕ → List ℕ → ℕ → ℕ → ℕ → ℕ → ℕ → ClassesListed
 classesFrom image segments types start zero i k n = stopsAt i k true
 classesFrom image segments types start (suc m) i k n =

@@ -1,5 +1,5 @@
--- The methods of the class of `Oak` (crate `items`), worked through: what is told of it in lists of several lengths, from one method on and from the
--- other, of an image that is cut in the second method, and of a section that refers to the class twice.
+-- The methods of the class of `Oak` (crate `items`), worked through: its numbers in lists of several lengths, from either method on, for an
+-- image that is cut in the second method, and for a section that refers to the class twice.
 use Prim.Native.Nat.{ℕ}
 use mathlib.Core.Path.{_≡_, refl}
 use mathlib.Core.List.{List, [], _∷_}

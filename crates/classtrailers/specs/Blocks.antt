@@ -1,4 +1,4 @@
--- The trailing blocks, by one table: docs/SPECIFICATION.md, "Trailing blocks"; Metadata.h, the trailing objects of `TargetClassDescriptor`,
+-- The trailing blocks, in one table: docs/SPECIFICATION.md, "Trailing blocks"; Metadata.h, the trailing objects of `TargetClassDescriptor`,
 -- `TargetStructDescriptor` and `TargetEnumDescriptor`, in their order.
 use Prim.Native.Nat.{ℕ, zero, suc, _+_, _-_, _*_, _/_, _^_, _%_}
 use mathlib.Core.List.{List, [], _∷_, map}
@@ -15,8 +15,8 @@ use Rattle.classtrailers.specs.declared.block.Block.{Block}
 use Rattle.classtrailers.specs.declared.block.BlockBody.{BlockBody}
 use Rattle.classtrailers.specs.declared.block.BlockKind.{BlockKind}
 
--- what tells which blocks a descriptor has: its flags word, whether it is a class, and the extra class flags, which only a class with a
--- resilient superclass has (0 where there are none)
+-- what decides which blocks a descriptor has: its flags word, whether it is a class, and the extra class flags, which only a class with
+-- a resilient superclass has (0 if there are none)
 pub record Trailing : Type 0 where
   pub flags : ℕ
   pub isClass : Bool
@@ -25,8 +25,8 @@ pub record Trailing : Type 0 where
 abbrev pub typeFlags : Trailing → ℕ
 typeFlags t = kindSpecificFlags (t .flags)
 
--- what is recorded of a block, by its kind: where it lies; a table's offset (0 where it has none), its number of entries and where they lie; the
--- invertible set and the number of its protocols
+-- what is recorded of a block, by its kind: where it lies; a table's offset (0 if it has none), its number of entries and where they lie;
+-- the invertible set and the number of its protocols
 abbrev pub placedBlock : BlockKind → ℕ → Block
 placedBlock k a = record { kind = k; body = BlockBody.At a }
 
@@ -36,8 +36,8 @@ tableBlock k o n a = record { kind = k; body = BlockBody.Table o n a }
 abbrev pub setBlock : ℕ → ℕ → Block
 setBlock s n = record { kind = BlockKind.InvertibleProtocolSet; body = BlockBody.Set s n }
 
--- a row of the table: when the block is there, how many header bytes are read, how long it is by them, whether it is recorded only if
--- its end lies below 2^64, and what is recorded by its address and header
+-- a row of the table: when the block is present, how many header bytes are read, how long they make the block, whether it is recorded
+-- only if its end lies below 2^64, and what is recorded for its address and header
 pub record BlockRow : Type 0 where
   pub kind : BlockKind
   pub there : Trailing → Bool
@@ -66,12 +66,12 @@ listed k t n = headed k t 4 (λ h. 4 + n * u32In h 0) (λ a h. BlockBody.Table 0
 unfoldable pub genericSize : ℕ → ℕ → ℕ
 genericSize parameters requirements = 16 + 4 * ((parameters + 3) / 4) + 12 * requirements
 
--- how many bits of a number's lowest `n` are set
+-- how many of a number's lowest `n` bits are set
 unfoldable pub setBits : ℕ → ℕ → ℕ
 setBits zero w = 0
 setBits (suc n) w = w % 2 + setBits n (w / 2)
 
--- a class's own block
+-- a block that only a class has
 abbrev pub ofClass : (ℕ → Bool) → Trailing → Bool
 ofClass f t = t .isClass && f (typeFlags t)
 
@@ -100,7 +100,7 @@ blockTable =
     listed BlockKind.DefaultOverrideTable (ofClass classHasDefaultOverrideTable) 8 ∷
     []
 
--- the row with a number; past the table's end one that is never there
+-- the row with a number; past the table's end, a row whose block is never present
 unfoldable pub rowAt : ℕ → BlockRow
 rowAt n = getD blockTable n (plain BlockKind.Generic (λ _. false) 0)
 
@@ -120,7 +120,7 @@ pub record Ended : Type 0 where
   pub block : Block
   pub end : Option ℕ
 
--- a bounded one is recorded only with an end
+-- a bounded block is recorded only if it has an end
 abbrev pub ended : Bool → Block → Option ℕ → Reads Ended
 ended true b none = nothing
 ended true b (some e) = done (record { block = b; end = some e })
@@ -133,7 +133,7 @@ blockAt r a = readHeader a (r .header) (λ h. ended (r .bounded) (record { kind 
 unfoldable pub recordAt : BlockRow → ℕ → Reads Block
 recordAt r a = bind (blockAt r a) (λ x. done (x .block))
 
--- where the next one starts; the walk stops where it starts nowhere
+-- where the next one starts; the walk stops if that is nowhere
 abbrev pub somewhere : Option ℕ → Reads ℕ
 somewhere none = nothing
 somewhere (some e) = done e
@@ -146,7 +146,7 @@ endAt r a = bind (blockAt r a) (λ x. somewhere (x .end))
 unfoldable pub passed : Trailing → BlockRow → ℕ → Reads ℕ
 passed t r a = cond (r .there t) (endAt r a) (done a)
 
--- where row `n` of a descriptor lies whose blocks start at an address: past the blocks of the rows before it that are there
+-- where row `n` lies, for a descriptor whose blocks start at an address: past those blocks of earlier rows that are present
 unfoldable pub reached : Trailing → ℕ → ℕ → Reads ℕ
 reached t start zero = done start
 reached t start (suc n) = bind (reached t start n) (passed t (rowAt n))
@@ -180,7 +180,7 @@ block t start k = blockIn t start (rowNumber k)
 
 -- ---- the walk
 
--- where a walk stands: the number of the row that comes next, and the address of what follows; past the table's end it is over
+-- where a walk stands: the number of the row that comes next, and the address of what follows; past the table's end it has ended
 pub record Walk : Type 0 where
   pub trailing : Trailing
   pub row : ℕ
@@ -190,7 +190,7 @@ pub record Step : Type 0 where
   pub block : Block
   pub next : Walk
 
--- the walk after row `i`: over where the block's end overflowed
+-- the walk after row `i`: it has ended if the block's end overflowed
 abbrev pub after : Trailing → ℕ → Option ℕ → Walk
 after t i none = record { trailing = t; row = 11; address = 0 }
 after t i (some a) = record { trailing = t; row = i; address = a }
@@ -199,7 +199,8 @@ unfoldable pub stepAt : List ℕ → List ℕ → Trailing → ℕ → ℕ → O
 stepAt image segments t i a =
     Option·map (λ x. record { block = x .block; next = after t (i + 1) (x .end) }) (run image segments (blockAt (rowAt i) a))
 
--- the next block of `n` rows from row `i` on, at address `a`: rows that are not there are passed, and the first failure ends the walk
+-- the next block of `n` rows from row `i` on, at address `a`: rows whose block is not present are passed over, and the first failure ends
+-- the walk
 unfoldable pub stepIn : List ℕ → List ℕ → Trailing → ℕ → ℕ → ℕ → Option Step
 stepIn image segments t zero i a = none
 stepIn image segments t (suc n) i a =
@@ -214,7 +215,7 @@ abbrev pub withBlock : Option Block → List Block → List Block
 withBlock none bs = bs
 withBlock (some b) bs = b ∷ bs
 
--- those of these kinds that are there and can be read
+-- those of these kinds that are present and can be read
 abbrev pub blocksOf : List ℕ → List ℕ → Trailing → ℕ → List BlockKind → List Block
 blocksOf image segments t start [] = []
 blocksOf image segments t start (k ∷ ks) = withBlock (run image segments (block t start k)) (blocksOf image segments t start ks)

@@ -1,4 +1,4 @@
--- What the calls' answers say, in the definitions' words.
+-- What the calls' answers say, in terms of the definitions.
 use Prim.Native.Nat.{ℕ}
 use mathlib.Core.Option.{Option, some, none}
 use Rattle.classtrailers.specs.Blocks.{Trailing, Ended, Walk, Step}

@@ -16,7 +16,7 @@ use Rattle.classtrailers.specs.PathLaws.{headers, rowRange, block-path}
 use Rattle.classtrailers.specs.declared.block.Block.{Block}
 use Rattle.classtrailers.specs.declared.block.BlockKind.{BlockKind}
 
--- a class with flags 0xc0000010, whatever its extra class flags are
+-- a class with flags 0xc0000010, whatever its extra class flags
 abbrev pub tabled : ℕ → Trailing
 tabled extra = record { flags = 0xc0000010; isClass = true; extra = extra }
 
@@ -31,7 +31,7 @@ pub record CheckedBlocks : Type 0 where
   pub three-parameters : genericSize 3 0 ≡ 20
   pub four-parameters : genericSize 4 0 ≡ 20
   pub two-requirements : genericSize 3 2 ≡ 44
-  -- of the class at `a`, whose blocks start at `a` + 44: where the vtable's header lies, its entries, and the header of the overrides
+  -- in the class at `a`, whose blocks start at `a` + 44: where the vtable's header, its entries and the header of the overrides lie
   pub vtable-header : (image segments : List ℕ) (extra a : ℕ) → run image segments (reached (tabled extra) (a + 44) 4) ≡ some (a + 44)
   pub vtable-entries : (image segments : List ℕ) (extra a : ℕ) (h : List ℕ) → ThreeMethods image segments (a + 44) h → a + 76 < 2 ^ 64
       → run image segments (block (tabled extra) (a + 44) BlockKind.VTable) ≡ some (tableBlock BlockKind.VTable (unsignedIn 4 h 0) 3 (a + 52))

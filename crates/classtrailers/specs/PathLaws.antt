@@ -14,7 +14,7 @@ use Rattle.classtrailers.specs.Blocks.{Trailing, BlockRow, rowAt, readHe
 use Rattle.classtrailers.specs.declared.block.Block.{Block}
 use Rattle.classtrailers.specs.declared.block.BlockKind.{BlockKind}
 
--- the image bytes of a header of so many bytes at an address; none where it has none
+-- the image bytes of a header of so many bytes at an address; none if it has none
 abbrev pub headerRange : List ℕ → ℕ → ℕ → List Range
 headerRange segments a zero = []
 headerRange segments a (suc n) = also (fileOffset (segmentsOf segments) a) (λ o. bytesRange o (suc n) ∷ [])

@@ -1,4 +1,4 @@
--- Two bundles and what is left of them where their image is cut, worked out by computing: each pair is a `CutBundle`, and what `cut-printed` says of it stands here line for line.
+-- Two bundles and what is left of them when their image is cut, worked out by computing: each pair is a `CutBundle`, and what `cut-printed` says of it is here line for line.
 use Prim.Native.Nat.{ℕ, zero, suc, _+_, _/_}
 use native.Mathlib.Omega.{arith}
 use mathlib.Core.Path.{_≡_, refl, _∙_}
@@ -45,7 +45,7 @@ behind n o =
     12 ∷ 0 ∷ 0 ∷ 0 ∷ 3 ∷ 0 ∷
     0 ∷ 0x20 ∷ 0 ∷ 0 ∷ 0 ∷ 0 ∷ 0 ∷ 0 ∷ o ∷ 0xf0 ∷ 0xff ∷ 0xff ∷ []
 
--- samples/clue.bundle: the image's 33 bytes behind a header of 6
+-- samples/clue.bundle: the image's 33 bytes after a header of 6
 abbrev clue : List ℕ
 clue =
     33 ∷ 0 ∷ 0 ∷ 0 ∷ 1 ∷ 0 ∷
@@ -66,7 +66,7 @@ oak = 113 ∷ 0 ∷ 0 ∷ 0 ∷ 1 ∷ 0 ∷ oakImage ++ behind 113 4
 abbrev oak′ : List ℕ
 oak′ = 107 ∷ 0 ∷ 0 ∷ 0 ∷ 1 ∷ 0 ∷ take 107 oakImage ++ behind 113 4
 
--- an image of `n` bytes behind a header of 6, then the segments behind another, then the types behind a third and their address
+-- an image of `n` bytes after a header of 6, then the segments after another, then the types after a third and their address
 abbrev layout : ℕ → Layout
 layout n =
     record {
@@ -98,7 +98,7 @@ module _ (b : List ℕ) (l : Layout) (c : ℕ) where
   abbrev named : ℕ → Option ℕ
   named i = run (bytesOf b (l .image)) (segmentNumbers b l) (nameOf (sectionsOf b l) (NameKey.descriptor i))
 
-  -- of one slot, whose name is looked up at `a`, offset `o`
+  -- for one slot, whose name is looked up at `a`, offset `o`
   of-one : (a o : ℕ) → length (bytesOf b (l .types .part)) / 4 ≡ 1 → named 0 ≡ some a → textOffset (segmentNumbers b l) a ≡ some o
       → Outside o (o + extent (drop o (bytesOf b (l .image)))) c → (i : ℕ) → Clears i
   unfolding run slotNameAddress nameOf
@@ -111,7 +111,7 @@ clue-clear : (i : ℕ) → Clears clue (layout 33) 27 i
 unfolding run bytesPlace within textOffset extent segmentsOf fileOffset decides inFile unsignedIn signedIn littleAt signedAt bytesAt littleEndian twosComplement relativePointer descriptorName slotNameAddress nameOf partOf numbers
 clue-clear = of-one clue (layout 33) 27 0x101c 28 refl refl refl (inl (omega arith))
 
--- that to 107 behind the name of `Oak`, which ends at 4
+-- the cut to 107 falls after the name of `Oak`, which ends at 4
 oak-clear : (i : ℕ) → Clears oak (layout 113) 107 i
 unfolding run bytesPlace within textOffset extent segmentsOf fileOffset decides inFile unsignedIn signedIn littleAt signedAt bytesAt littleEndian twosComplement relativePointer descriptorName slotNameAddress nameOf partOf numbers
 oak-clear = of-one oak (layout 113) 107 0x1000 0 refl refl refl (inr (omega arith))
@@ -149,7 +149,7 @@ pub cut-bundles-worked : CutBundlesWorked
 unfolding run path extent bind bytesPlace within textOffset segmentsOf fileOffset decides inFile table following goesOn textAt textLength untilNul unsignedIn signedIn littleAt signedAt bytesAt littleEndian twosComplement relativeAddress relativePointer descriptor rowName slotRow rowsFrom rows kindOf headerIn header headerAt slotName nameAt name contextName withName contextRead chain hops qualifiedName tooDeep nameAnswer digit hex decimal kindWord nameText rowLine endLine lines printed keptRows openBundle answer takeAt isAt bodyFits sectionIn partOf numbers
 cut-bundles-worked = record { clue-whole = refl; oak-whole = refl; clue-said = refl; oak-said = refl }
 
--- so this is what is printed of them, by the law
+-- so this is what they print, by the law
 pub clue-27-printed : printed clue′ ≡ ending 48 ∷ []
 clue-27-printed = cut-printed clue clue′ (layout 33) (layout 27) 27 (met .clue-27) clue-clear ∙ cut-bundles-worked .clue-said
 

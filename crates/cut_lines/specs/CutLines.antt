@@ -19,7 +19,7 @@ use Rattle.bundle.specs.declared.open.Layout.{Layout}
 use Rattle.type_lines.specs.Digits.{hex}
 use Rattle.type_lines.specs.Lines.{nameBytes, space, newline, kindWord, textOr}
 
--- a line before its name: what it says is the row's alone
+-- a line before its name: it depends on the row alone
 unfoldable pub lineHead : TypeRow → List ℕ
 lineHead row = hex 16 (row .address) ++ space ++ kindWord (row .flags) ++ space
 
@@ -37,11 +37,11 @@ module _ (image segments : List ℕ) (c : ℕ) where
   keptContexts (x ∷ xs) =
       cond (headerEndsBy x) (record { header = x .header; name = cond (nameEndsBy x) (x .name) none } ∷ keptContexts xs) []
 
-  -- the 257th context can be read, by bytes before the cut
+  -- the 257th context can be read from bytes before the cut
   abbrev pub keptTooDeep : ℕ → Bool
   keptTooDeep a = every (endsBy c) (path image segments (headerAt contextsMost a)) && tooDeep image segments a
 
-  -- the joined name of the contexts that are kept, and its answer for a buffer of so many bytes
+  -- the joined name of the contexts that are kept, and its answer for a buffer of a length
   unfoldable pub keptName : TypeRow → List ℕ
   keptName row = hops (keptContexts (chain image segments contextsMost (row .parent))) ++ row .nameBytes
 

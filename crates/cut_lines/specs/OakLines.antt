@@ -1,5 +1,5 @@
--- The printed listing of the image `Oak` (crate `items`) and of its cuts, worked out by computing: what is left of a joined name where the contexts around a row are lost and
--- the row is not.
+-- The printed listing of the image `Oak` (crate `items`) and of its cuts, worked out by computing: what is left of a joined name if the
+-- contexts around a row are lost and the row is not.
 use Prim.Native.Nat.{ℕ}
 use mathlib.Core.Path.{_≡_, refl}
 use mathlib.Core.List.{List, [], _∷_, _++_}
@@ -44,7 +44,7 @@ pub record OakLinesWorked : Type 0 where
   pub whole : listed oakImage ≡ lineOf (letters "Wood.Oak") ∷ ending 49 ∷ []
   -- the joined name reads the 8 bytes of both contexts, and of the module, which has a name, the 4 bytes of its offset and the name
   pub reads : joinedPath oakImage oakSegments 0x1058 ≡ bytesTo 88 96 ∷ bytesTo 96 104 ∷ bytesTo 104 108 ∷ record { from = 108; to = 113; isText = true } ∷ []
-  -- cut into the module's name: `Wo.Oak`. The row is there by the premise for its own name alone; the names before it have their own
+  -- cut into the module's name: `Wo.Oak`. The premise for its own name is enough for the row; the names before it have their own premise
   pub cut-110 : listed (take 110 oakImage) ≡ lineOf (letters "Wo.Oak") ∷ ending 49 ∷ []
   -- the module's name is lost, and then the contexts: `Oak`
   pub cut-107 : listed (take 107 oakImage) ≡ lineOf (letters "Oak") ∷ ending 49 ∷ []

@@ -23,8 +23,8 @@ use Rattle.entry_tables.specs.declared.calls.TableAnswer.{TableAnswer}
 abbrev pub entryNumbers : Entry → List ℕ
 entryNumbers e = e .address ∷ e .words
 
--- the numbers of the entries, how many entries they are, and why there are no more: 0 the table ends, 1 the list is full, 2 the next entry
--- cannot be read
+-- the numbers of the entries, how many entries there are, and why there are no more: 0 the table ends, 1 the list is full, 2 the next
+-- entry cannot be read
 pub record WholeTable : Type 0 where
   pub numbers : List ℕ
   pub entries : ℕ
@@ -40,7 +40,8 @@ entryThen f e t = record { numbers = f e ++ t .numbers; entries = suc (t .entrie
 abbrev pub stopAt : ℕ → ℕ → ℕ
 stopAt k count = cond (ltb k count) 1 0
 
--- the entries from where a walk stands up to the first that cannot be read, at most so many, each by the numbers that `f` gives of it
+-- the entries from a walk's position up to the first that cannot be read, at most a given number of them, each by the numbers that `f`
+-- gives for it
 unfoldable pub tableBy : (Entry → List ℕ) → List ℕ → List ℕ → Layout → ℕ → EntryIter → WholeTable
 tableBy f image segments l zero c = emptyTable (stopAt (c .next) (c .count))
 tableBy f image segments l (suc n) c =
@@ -52,14 +53,14 @@ tableBy f image segments l (suc n) c =
 abbrev pub tableFrom : List ℕ → List ℕ → Layout → ℕ → EntryIter → WholeTable
 tableFrom = tableBy entryNumbers
 
--- how many numbers an entry has, and how many entries a list of so many numbers holds
+-- how many numbers an entry has, and how many entries a list of `n` numbers holds
 abbrev pub width : Layout → ℕ
 width l = suc (length (l .words))
 
 abbrev pub entriesRoom : Layout → ℕ → ℕ
 entriesRoom l n = n / width l
 
--- the table as a caller's list of so many numbers holds it
+-- the table as a caller's list of `n` numbers holds it
 abbrev pub tableIn : List ℕ → List ℕ → Layout → EntryIter → ℕ → WholeTable
 tableIn image segments l c n = tableFrom image segments l (entriesRoom l n) c
 
@@ -86,7 +87,7 @@ tableAnswer (TableAnswer.Refused x) = refused (refusalNumber x)
 abbrev pub bufferWith : Guarded WholeTable → List ℕ → List ℕ
 bufferWith g buffer = overwritten buffer (answerOf (mapped tableNumbers g))
 
--- what a call gives: its answer, and the caller's list at the end
+-- what a call promises: its answer, and the caller's list after it
 pub record GivesTable (g : Guarded WholeTable) (buffer : List ℕ) (r : TableAnswer) (buffer′ : List ℕ) : Type 0 where
   pub answers : tableAnswer r ≡ mapped counts g
   pub holds : buffer′ ≡ bufferWith g buffer
@@ -103,22 +104,23 @@ shape numbered zero stride = record { words = first numbered ∷ []; stride = st
 shape numbered (suc zero) stride = record { words = first numbered ∷ pointer ∷ []; stride = stride }
 shape numbered (suc (suc n)) stride = record { words = first numbered ∷ pointer ∷ pointer ∷ []; stride = stride }
 
--- the words of an entry, those that its shape has
+-- the words that an entry of a shape has
 abbrev pub wordsIn : ℕ → Words → List ℕ
 wordsIn zero w = w .first ∷ []
 wordsIn (suc zero) w = w .first ∷ (w .second ∷ [])
 wordsIn (suc (suc n)) w = w .first ∷ (w .second ∷ (w .third ∷ []))
 
--- where an entry of so many bytes lies in the image: nowhere if one of its words does not lie below 2^64
+-- where an entry of a size lies in the image: nowhere if one of its words does not lie below 2^64
 unfoldable pub entryPlace : List ℕ → List ℕ → ℕ → ℕ → Option ℕ
 entryPlace image segments size a = cond (leb (2 ^ 64) (a + (size - 4))) none (bytesPlace image segments a size)
 
--- an entry at an address lies at a place, and each that starts at most `last` bytes further on lies as far from there; or it lies nowhere
+-- the entry at an address lies at a place, and each that starts at most `last` bytes after that address lies as far after that place; or it
+-- lies nowhere
 abbrev pub Opens : List ℕ → List ℕ → ℕ → ℕ → Window → Type 0
 Opens image segments size a (Window.At o last) = (i : ℕ) → i ≤ last → some (o + i) ≡ entryPlace image segments size (a + i)
 Opens image segments size a Window.Nothing = none ≡ entryPlace image segments size a
 
--- the numbers of so many entries that lie one after the other from a place of the image on; the first is at an address
+-- the numbers of entries that lie one after the other from a place of the image on; the first is at an address
 abbrev pub runNumbers : List ℕ → Layout → ℕ → ℕ → ℕ → List ℕ
 runNumbers image l o a zero = []
 runNumbers image l o a (suc n) = runNumbers image l o a n ++ entryNumbers (entryOf l (a + l .stride * n) (take (entrySize l) (drop (o + l .stride * n) image)))
@@ -130,6 +132,6 @@ pub record PutRun (image : List ℕ) (l : Layout) (o last a most : ℕ) (buffer 
   pub within : (i : ℕ) → i < n → l .stride * i ≤ last
   pub holds : buffer′ ≡ pasted buffer at (runNumbers image l o a n)
 
--- a table was listed: what is told of it, and the caller's list at the end
+-- a table was listed: the answer, and the caller's list after it
 abbrev pub Lists : WholeTable → List ℕ → Listed → List ℕ → Type 0
 Lists t buffer r buffer′ = (record { entries = r .entries; stop = r .stop } ≡ counts t) × (buffer′ ≡ atStart (tableNumbers t) buffer)

@@ -33,7 +33,7 @@ headerBytes fields at = take 16 (drop at fields)
 abbrev pub recordsEnd : List ℕ → ℕ → ℕ
 recordsEnd fields at = at + (16 + unsignedIn 4 (headerBytes fields at) 12 * unsignedIn 2 (headerBytes fields at) 10)
 
--- no descriptor where the address of the superclass's offset, at 4, reaches 2^64
+-- there is no descriptor if the address of the superclass's offset, at 4, reaches 2^64
 abbrev pub headerDescriptor : ℕ → List ℕ → Option FieldDescriptor
 headerDescriptor a h = cond (leb (2 ^ 64) (a + 4)) none (some (fieldDescriptorOf a h))
 
@@ -42,8 +42,8 @@ pub record Step : Type 0 where
   pub found : Option FieldDescriptor
   pub next : ℕ
 
--- the walk stays where no header is left and where the records overrun the section; else it moves past them, whether the header is a
--- descriptor or not. The header's address is counted modulo 2^64
+-- the walk stays where it is if no header is left, or if the records overrun the section; otherwise it moves past them, whether the
+-- header is a descriptor or not. The header's address is modulo 2^64
 unfoldable pub fieldStep : List ℕ → ℕ → ℕ → Step
 fieldStep fields vmaddr at =
     cond (ltb (length fields) (at + 16)) (record { found = none; next = at })

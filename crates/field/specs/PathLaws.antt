@@ -90,7 +90,7 @@ pub record RecordPathsWorked : Type 0 where
   pub wrapped : run [] [] (descriptorAt (head 12 0 ++ head 0 3) 18446744073709551600 1) ≡ some (says 0 18446744073709551600 12 0 3)
   pub no-third : run [] [] (descriptorAt (head 12 0 ++ head 0 3) 18446744073709551600 2) ≡ none
   pub list-ends : run [] [] (descriptorAt (head 12 0 ++ head 0 3) 18446744073709551612 1) ≡ none
-  -- records from address + 16 on, from 0 where that is 2^64 or more
+  -- records from address + 16 on, from 0 if that is 2^64 or more
   pub base-last : recordsBase 18446744073709551599 ≡ 18446744073709551615
   pub base-zero : recordsBase 18446744073709551600 ≡ 0
   pub base-past : recordsBase 18446744073709551608 ≡ 0

@@ -1,5 +1,5 @@
--- Field records: docs/SPECIFICATION.md, "Fields"; RemoteInspection/Records.h, `FieldRecord`. They are entries of three words (crate `vtable`,
--- `Entries`) that a descriptor's record size sets apart: an entry of 12 bytes, whatever the record size is.
+-- Field records: docs/SPECIFICATION.md, "Fields"; RemoteInspection/Records.h, `FieldRecord`. They are entries of three words (crate
+-- `vtable`, `Entries`) that lie a descriptor's record size apart: an entry of 12 bytes, whatever the record size.
 use Prim.Native.Nat.{ℕ, _+_, _^_}
 use mathlib.Core.List.{List, [], _∷_}
 use mathlib.Core.Bool.{cond}
@@ -25,7 +25,7 @@ recordLayout size = record { words = recordWords; stride = size }
 abbrev pub fieldRecord : ℕ → ℕ → ℕ → ℕ → Reads Entry
 fieldRecord base size count k = entry (recordLayout size) base count k
 
--- the records of a descriptor start behind its header; from 0 where that address reaches 2^64
+-- the records of a descriptor start after its header; at 0 if that address reaches 2^64
 abbrev pub recordsBase : ℕ → ℕ
 recordsBase a = cond (leb (2 ^ 64) (a + 16)) 0 (a + 16)
 

@@ -1,4 +1,4 @@
--- What the definitions of field offsets say of bytes that are written out.
+-- What the definitions of field offsets give for bytes that are written out.
 use Prim.Native.Nat.{ℕ, _-_, _^_}
 use mathlib.Core.Path.{_≡_, refl}
 use mathlib.Core.List.{List, [], _∷_, _++_}
@@ -42,7 +42,7 @@ pub record OffsetLists : Type 0 where
   pub third-of-two : offsetIn (threeOffsets 0 16 99) (record { place = 0; count = 2 }) 2 ≡ none
   pub made-up : offsetIn (threeOffsets 0 16 99) (record { place = 4; count = 2 }) 1 ≡ some 99
   pub made-up-past : offsetIn (threeOffsets 0 16 99) (record { place = 4; count = 3 }) 0 ≡ none
-  -- by the descriptor's own singleton pointer
+  -- from the descriptor's own singleton pointer
   pub static-list : run (static 0xbc) lowSegment (staticOffsets 0x1000 0x00090011) ≡ some (0 ∷ 16 ∷ [])
   pub static-placed : staticPlace (static 0xbc) lowSegment 0x1000 0x00090011 ≡ some (record { place = 44; count = 2 })
   pub static-short : staticPlace (static 0xbd) lowSegment 0x1000 0x00090011 ≡ none

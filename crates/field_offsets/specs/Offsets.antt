@@ -21,14 +21,14 @@ pub record Vector : Type 0 where
   pub address : ℕ
   pub count : ℕ
 
--- the offset vector of metadata at `m`: a struct's only, words of 8, none where a number is 0 or its address reaches 2^64
+-- the offset vector of metadata at `m`: for structs only, words of 8, none if a number is 0 or its address reaches 2^64
 unfoldable pub vector : Body → ℕ → Option Vector
 vector (ofClass s z i f v) m = none
 vector (ofStruct f v) m =
     cond (ltb 0 f && ltb 0 v && ltb 0 m && ltb (m + 8 * v) (2 ^ 64)) (some (record { address = m + 8 * v; count = f })) none
 vector (ofEnum p w e) m = none
 
--- so many numbers of four bytes
+-- the first `n` numbers of four bytes each
 unfoldable pub u32s : ℕ → List ℕ → List ℕ
 u32s zero h = []
 u32s (suc n) h = littleEndian (take 4 h) ∷ u32s n (drop 4 h)
@@ -56,7 +56,7 @@ offsetsPlace image segments o m =
     andThen (andThen o (λ b. vector b m))
     (λ v. Option·map (λ p. offsets p (v .count)) (bytesPlace image segments (v .address) (4 * v .count)))
 
--- the number `k`, nothing unless the whole vector lies in the image
+-- number `k`; nothing unless the whole vector lies in the image
 unfoldable pub offsetIn : List ℕ → Offsets → ℕ → Option ℕ
 offsetIn image v k =
     cond (ltb k (v .count) && leb (v .place + 4 * v .count) (length image)) (littleAt 4 image (v .place + 4 * k)) none
@@ -70,7 +70,7 @@ metadataAt s = bind (block (s .trailing) (s .start) BlockKind.SingletonMetadataP
 abbrev pub blocksStart : ℕ → ℕ → Body → Start
 blocksStart a flags b = record { trailing = trailing flags b; start = trailingStart a b }
 
--- where the offsets of the fields of a descriptor with these flags at an address lie
+-- where the field offsets lie for a descriptor with these flags at an address
 unfoldable pub staticPlace : List ℕ → List ℕ → ℕ → ℕ → Option Offsets
 staticPlace image segments a flags =
     andThen (run image segments (body a flags))

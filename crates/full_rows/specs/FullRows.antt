@@ -1,4 +1,5 @@
--- The rows of a types section with body and all trailing blocks, as records of a fixed count of numbers in the caller's list: docs/SPECIFICATION.md, "Full rows".
+-- The rows of a types section with body and all trailing blocks, as records of a fixed number of numbers in the caller's list:
+-- docs/SPECIFICATION.md, "Full rows".
 use Prim.Native.Nat.{ℕ, _-_, _/_, max}
 use mathlib.Core.List.{List, [], _∷_, _++_, map}
 use mathlib.Core.Bool.{Bool, true, false, cond}
@@ -26,7 +27,7 @@ use Rattle.full_rows.specs.declared.calls.FullRows.{FullRows}
 abbrev pub recordRow : ℕ → TypeRow → List ℕ
 recordRow slot r = slot ∷ (r .address ∷ (r .flags ∷ (r .parent ∷ (r .name .start ∷ (r .name .size ∷ [])))))
 
--- the body: 1 for a class, 2 for a struct, 3 for an enum, and what it says; all are 0 where there is none
+-- the body: 1 for a class, 2 for a struct, 3 for an enum, and what it says; all are 0 if there is none
 abbrev pub bodyNumbers : Option Body → List ℕ
 bodyNumbers none = 0 ∷ (0 ∷ (0 ∷ (0 ∷ (0 ∷ (0 ∷ (0 ∷ (0 ∷ [])))))))
 bodyNumbers (some (ofClass s (fixed n p) m f v)) = 1 ∷ (s ∷ (0 ∷ (n ∷ (p ∷ (m ∷ (f ∷ (v ∷ [])))))))
@@ -34,8 +35,8 @@ bodyNumbers (some (ofClass s (resilient b e) m f v)) = 1 ∷ (s ∷ (1 ∷ (b �
 bodyNumbers (some (ofStruct f v)) = 2 ∷ (f ∷ (v ∷ (0 ∷ (0 ∷ (0 ∷ (0 ∷ (0 ∷ [])))))))
 bodyNumbers (some (ofEnum p w e)) = 3 ∷ (p ∷ (w ∷ (e ∷ (0 ∷ (0 ∷ (0 ∷ (0 ∷ [])))))))
 
--- what is recorded of a block, 0 where a kind has fewer than three numbers: an address; of a table the number of entries and their address, and a
--- vtable's offset ahead of them; the set and the number of its protocols
+-- what is recorded of a block, filled up with zeros to three numbers: an address; for a table the number of entries and their address, and
+-- a vtable's offset before them; the set and the number of its protocols
 abbrev pub tableRecorded : BlockKind → ℕ → ℕ → ℕ → List ℕ
 tableRecorded k o n a = cond (eqb (blocks.rowNumber k) 4) (o ∷ (n ∷ (a ∷ []))) (n ∷ (a ∷ (0 ∷ [])))
 
@@ -47,7 +48,7 @@ recordedIn k (BlockBody.Set s n) = s ∷ (n ∷ (0 ∷ []))
 abbrev pub recordedNumbers : Block → List ℕ
 recordedNumbers b = recordedIn (b .kind) (b .body)
 
--- a block of a kind: 1 and what is recorded; all are 0 where there is none
+-- a block of a kind: 1 and what is recorded; all are 0 if there is none
 abbrev pub blockFour : Option Block → List ℕ
 blockFour none = 0 ∷ (0 ∷ (0 ∷ (0 ∷ [])))
 blockFour (some b) = 1 ∷ recordedNumbers b
@@ -76,14 +77,14 @@ abbrev pub fullRows : List ℕ → List ℕ → List Found → List ℕ
 fullRows image segments [] = []
 fullRows image segments (f ∷ fs) = fullRow image segments (f .slot) (f .row) ++ fullRows image segments fs
 
--- the numbers of the records, how many records they are, the slot to go on from, and whether all rows are given
+-- the numbers of the records, how many records there are, the slot to go on from, and whether all rows are given
 pub record RecordsListed : Type 0 where
   pub numbers : List ℕ
   pub records : ℕ
   pub next : ℕ
   pub all : Bool
 
--- the slot of the first row that is left, `past` where none is
+-- the slot of the first row that is left; `past` if none is
 abbrev pub nextSlot : ℕ → List Found → ℕ
 nextSlot past [] = past
 nextSlot past (f ∷ fs) = f .slot
@@ -92,7 +93,7 @@ abbrev pub noneLeft : List Found → Bool
 noneLeft [] = true
 noneLeft (f ∷ fs) = false
 
--- at most so many of these rows
+-- at most a given number of these rows
 unfoldable pub recordsListed : List ℕ → List ℕ → ℕ → ℕ → List Found → RecordsListed
 recordsListed image segments past room fs =
     record {

@@ -1,5 +1,5 @@
--- A fourth image worked through: what hangs on a generic class with prespecializations, an invertible set and default overrides, the blocks that `Oak` and `Elm` do not have. Worked
--- out by hand from docs/SPECIFICATION.md, as `Elm` is.
+-- A fourth image worked through: the items of a generic class with prespecializations, an invertible set and default overrides, the blocks
+-- that `Oak` and `Elm` do not have. The numbers are worked out by hand from docs/SPECIFICATION.md, as for `Elm`.
 use Prim.Native.Nat.{ℕ}
 use mathlib.Core.Path.{_≡_, refl}
 use mathlib.Core.List.{List, [], _∷_, _++_}
@@ -43,9 +43,9 @@ image =
     ++ word 0 ++ word 2 ++ word 13 ++ word 3 ++ word 0 ++ word 10
     -- 48: the generic header: one parameter at 56, one requirement at 58; 64 the parameter, padded to four bytes, and 68 the requirement's 12
     ++ word 0 ++ word 0 ++ 1 ∷ 0 ∷ 1 ∷ 0 ∷ 1 ∷ 0 ∷ 0 ∷ 0 ∷ word 0x80 ++ word 0 ++ word 0 ++ word 0
-    -- 80: two prespecializations, 84 to 84 + 172 and 88 to 88 + 184; eight bytes for each are passed, so to 100
+    -- 80: two prespecializations, 84 to 84 + 172 and 88 to 88 + 184; each counts eight bytes, so the block ends at 100
     ++ word 2 ++ word 172 ++ word 184 ++ word 0 ++ word 0
-    -- 100: the invertible set, bits 0 and 2; two bytes are read, four are passed
+    -- 100: the invertible set, bits 0 and 2; two bytes are read, and the next block starts four bytes on
     ++ 5 ∷ 0 ∷ 0xff ∷ 0xff ∷
     -- 104: two default overrides: 108, and 116 to 116 + 140 and 120 + 152
     word 2 ++ word 0 ++ word 0 ++ word 140 ++ word 152
@@ -75,11 +75,11 @@ genericReads = bytesTo 4 24 ∷ record { from = 0; to = 4; isText = true } ∷ b
 abbrev prespecializedReads : List Range
 prespecializedReads = genericReads ++ (bytesTo 80 84 ∷ [])
 
--- of the default overrides: the set's 2 bytes before their own header
+-- for the default overrides: the set's 2 bytes before their own header
 abbrev overridesReads : List Range
 overridesReads = prespecializedReads ++ (bytesTo 100 102 ∷ bytesTo 104 108 ∷ [])
 
--- the four blocks: at an address; so many entries from one on; a set, and how many bits of it are set
+-- the four blocks: at an address; a count of entries and where they start; a set, and how many of its bits are set
 abbrev genericAt : ℕ → Block
 genericAt a = record { kind = BlockKind.Generic; body = BlockBody.At a }
 
@@ -114,7 +114,7 @@ pub record AshWorked : Type 0 where
   pub no-initialization : told image (Key.initialization 0) ≡ none
   pub no-pointer : told image (Key.pointer 0) ≡ none
   pub no-offsets : told image (Key.offsets 0 0x1000) ≡ none
-  -- a cut where an entry's last range ends keeps it, and one a byte before does not
+  -- a cut where an entry's last range ends keeps the entry, and a cut one byte before does not
   pub cut-92 : told (take 92 image) (Key.entry 0 EntryKind.prespecializations 1) ≡ told image (Key.entry 0 EntryKind.prespecializations 1)
   pub cut-91 : told (take 91 image) (Key.entry 0 EntryKind.prespecializations 1) ≡ none
   pub cut-123 : told (take 123 image) (Key.entry 0 EntryKind.defaultOverrides 1) ≡ none

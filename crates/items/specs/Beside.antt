@@ -1,4 +1,5 @@
--- What the calls tell of a text: where it lies, and its bytes. One definition over all texts that a listing looks up; the calls' contracts have the same right-hand sides.
+-- What the calls return for a text: where it lies, and its bytes. One definition covers all texts that a listing looks up; the calls'
+-- contracts have the same right-hand sides.
 use Prim.Native.Nat.{ℕ}
 use mathlib.Core.List.{List}
 use mathlib.Core.Bool.{Bool, true, false, cond}
@@ -15,7 +16,7 @@ use Rattle.items.specs.Keys.{Sections}
 use Rattle.items.specs.Items.{rowOfSlot, bodyOfSlot, contextOfSlot}
 use Rattle.items.specs.Texts.{NameKey, recordName, recordTypeName, nameOf}
 
--- where the calls tell that it lies, in the image or in the string section: none where there is not a text, or no item that it stands beside
+-- where the calls say that it lies, in the image or in the string section: none if there is no text, or no item that it stands beside
 unfoldable pub toldAt : List ℕ → List ℕ → List ℕ → ℕ → Sections → NameKey → Option NamePlace
 toldAt image segments strings start s (NameKey.descriptor i) = Option·map (λ (r : TypeRow). inImage (r .name)) (run image segments (rowOfSlot s i))
 toldAt image segments strings start s (NameKey.context i k) =
@@ -32,7 +33,7 @@ toldAt image segments strings start s (NameKey.descriptorType j) =
 toldAt image segments strings start s (NameKey.descriptorSuperclass j) =
     andThen (run image segments (descriptorAt (s .fields) (s .fieldsStart) j)) (λ d. Option·map inImage (textPlace image segments (d .«superclass_va»)))
 
--- a text: where it lies, and the bytes that `text_part` and `field_name_part` hand out for that
+-- a text: where it lies, and the bytes that `text_part` and `field_name_part` return for that place
 pub record Beside : Type 0 where
   pub place : NamePlace
   pub bytes : List ℕ
@@ -43,7 +44,7 @@ withPart image strings x = Option·map (λ p. record { place = p; bytes = namePa
 unfoldable pub besideOf : List ℕ → List ℕ → List ℕ → ℕ → Sections → NameKey → Option Beside
 besideOf image segments strings start s n = withPart image strings (toldAt image segments strings start s n)
 
--- ---- the string section's text at a name's address: of the names of fields only
+-- ---- the string section's text at a name's address: only for the names of fields
 
 abbrev pub isField : NameKey → Bool
 isField (NameKey.descriptor i) = false

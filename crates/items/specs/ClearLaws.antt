@@ -1,5 +1,5 @@
--- What the premise on texts asks for one name: nothing where the name is looked up nowhere (`nowhere`); where it is looked up at an address, that the cut falls outside the text there
--- (`there`, `asked`). The worked images use them.
+-- What the premise on texts asks for one name: nothing if the name is looked up nowhere (`nowhere`); where it is looked up at an address,
+-- that the cut falls outside the text there (`there`, `asked`). The worked images use them.
 use Prim.Native.Nat.{ℕ, _+_, _≤_, _<_}
 use native.Mathlib.Omega.{arith}
 use mathlib.Core.Path.{_≡_, refl, ap}

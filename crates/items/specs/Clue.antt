@@ -29,7 +29,7 @@ head = 17 ∷ 0 ∷ 0 ∷ 0 ∷ 0 ∷ 0 ∷ 0 ∷ 0 ∷ 20 ∷ 0 ∷ 0 ∷ 0 ∷
 abbrev pub clueImage : List ℕ
 clueImage = head ++ (letters "Clue" ++ 0 ∷ [])
 
--- a name that starts well: 43 C0 80 is not a text
+-- a name whose first byte is well-formed: 43 C0 80 is not a text
 abbrev pub broken : List ℕ
 broken = head ++ (67 ∷ 0xc0 ∷ 0x80 ∷ 0 ∷ [])
 
@@ -54,7 +54,8 @@ pub record ClueWorked : Type 0 where
       ≡ record { from = 0; to = 20; isText = false } ∷ (record { from = 28; to = 33; isText = true } ∷ [])
   -- cut before the name starts, the row is gone
   pub cut-27 : told (take 27 clueImage) ≡ none
-  -- cut where it starts, there is a row with an empty name; then one with a piece of the name; the whole name without its NUL is a text too
+  -- cut where the name starts, there is a row with an empty name; then one with a piece of the name; the whole name without its NUL is a
+  -- text too
   pub cut-28 : told (take 28 clueImage) ≡ named [] 0
   pub cut-30 : told (take 30 clueImage) ≡ named (letters "Cl") 2
   pub cut-32 : told (take 32 clueImage) ≡ named (letters "Clue") 4
@@ -65,7 +66,7 @@ pub record ClueWorked : Type 0 where
   pub clear-below : (c : ℕ) → c < 28 → All (Clear c) (path clueImage clueSegments (item clueSections (Key.row 0)))
   pub clear-above : (c : ℕ) → 33 ≤ c → All (Clear c) (path clueImage clueSegments (item clueSections (Key.row 0)))
   pub not-clear : (c : ℕ) → 28 ≤ c → c < 33 → All (Clear c) (path clueImage clueSegments (item clueSections (Key.row 0))) → ⊥
-  -- by the name's address as well
+  -- the same in terms of the name's address
   pub name-not-clear : (c : ℕ) → 28 ≤ c → c < 33 → ClearOf clueImage clueSegments clueSections c (NameKey.descriptor 0) → ⊥
 
 pub clue-worked : ClueWorked

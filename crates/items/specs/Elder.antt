@@ -1,5 +1,6 @@
--- A small image worked through: the premise for the names of descriptors, contexts and field records does not reach to other texts. 51 bytes, a class `A` whose superclass
--- is `Su`: cut to 49 they are clear of every such name, the body is there, and the name of its superclass comes out as `S`.
+-- A small image worked through: the premise for the names of descriptors, contexts and field records does not cover other texts. The image
+-- has 51 bytes, a class `A` whose superclass is `Su`: the cut to 49 is clear of every such name, the body is present, and the name of its
+-- superclass is returned as `S`.
 use Prim.Native.Nat.{ℕ, zero, suc, _≤_, _<_}
 use native.Mathlib.Omega.{arith}
 use mathlib.Core.Path.{_≡_, refl}
@@ -71,14 +72,14 @@ named t n = some (record { place = inImage (place 48 n); bytes = t })
 pub record ElderWorked : Type 0 where
   pub whole-body : told elderImage ≡ some (Answer.body (ofClass 0x1030 (fixed 0 0) 0 0 0))
   pub whole-name : superclass elderImage ≡ named (letters "Su") 2
-  -- the cut to 49 falls into no name of a descriptor, a context or a field record
+  -- the cut to 49 does not fall into the name of a descriptor, a context or a field record
   pub descriptors : (i : ℕ) → ClearOf elderImage elderSegments elderSections 49 (NameKey.descriptor i)
   pub contexts : (i k : ℕ) → ClearOf elderImage elderSegments elderSections 49 (NameKey.context i k)
   pub fields : (j k : ℕ) → ClearOf elderImage elderSegments elderSections 49 (NameKey.field j k)
-  -- the body is there, and a piece of the superclass's name, which the whole image does not tell
+  -- the body is present, and so is a piece of the superclass's name, which the whole image does not have
   pub cut-body : told (take 49 elderImage) ≡ told elderImage
   pub cut-name : superclass (take 49 elderImage) ≡ named (83 ∷ []) 1
-  -- the premise for the name itself leaves out the cuts from 48 to 50, and no other
+  -- the premise for the name itself leaves out the cuts from 48 to 50, and no others
   pub below : (c : ℕ) → c < 48 → ClearOf elderImage elderSegments elderSections c (NameKey.superclass 0)
   pub above : (c : ℕ) → 51 ≤ c → ClearOf elderImage elderSegments elderSections c (NameKey.superclass 0)
   pub not-clear : (c : ℕ) → 48 ≤ c → c < 51 → ClearOf elderImage elderSegments elderSections c (NameKey.superclass 0) → ⊥

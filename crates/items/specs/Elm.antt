@@ -1,5 +1,6 @@
--- A third image worked through: what hangs on a struct. It has singleton records, an offset list, fields, and a context without a name in a module. Each item's path and what it
--- says stand here as numbers, worked out by hand from docs/SPECIFICATION.md (offset + 0x1000 is the address), and are computed from the definitions.
+-- A third image worked through: the items of a struct. It has singleton records, an offset list, fields, and a context without a name in a
+-- module. Each item's path and what it says are here as numbers, worked out by hand from docs/SPECIFICATION.md (offset + 0x1000 is the
+-- address), and are computed from the definitions.
 use Prim.Native.Nat.{ℕ}
 use mathlib.Core.Path.{_≡_, refl}
 use mathlib.Core.List.{List, [], _∷_, _++_}
@@ -66,7 +67,8 @@ elmImage =
     ++ 0 ∷ 2 ∷ 0 ∷ 0 ∷ word 0 ++ 4 ∷ 0x10 ∷ 0 ∷ 0 ∷ word 0 ++ word 0 ++ word 8
     -- 72: the fields section
     ++ fieldBytes
-    -- 120: an anonymous context, the parent's offset to 132 at 124; the word behind its 8 bytes, which is not a name of it, leads to 149
+    -- 120: an anonymous context, the parent's offset to 132 at 124; the word after its 8 bytes, which is not the offset of a name, leads to
+    -- 149
     ++ word 2 ++ word 8 ++ word 21
     -- 132: a module; no parent; the name's offset to 144 at 140
     ++ word 0 ++ word 0 ++ word 4
@@ -108,16 +110,16 @@ pointerAt a = record { kind = BlockKind.SingletonMetadataPointer; body = BlockBo
 pub record ElmWorked : Type 0 where
   pub row : reads (Key.row 0) ≡ rowReads
   pub body : reads (Key.body 0) ≡ bodyReads
-  -- two blocks without a header: there is nothing to read, neither of their own nor of the one before
+  -- two blocks without a header: there is nothing to read, neither for the block itself nor for the one before
   pub block-initialization : reads (Key.block 0 BlockKind.SingletonMetadataInit) ≡ bodyReads
   pub block-pointer : reads (Key.block 0 BlockKind.SingletonMetadataPointer) ≡ bodyReads
-  -- the records that they tell of: 12 bytes, and 4
+  -- their records: 12 bytes, and 4
   pub initialization : reads (Key.initialization 0) ≡ bodyReads ++ (bytesTo 32 44 ∷ [])
   pub pointer : reads (Key.pointer 0) ≡ bodyReads ++ (bytesTo 44 48 ∷ [])
-  -- the vector of metadata at 0x1030: two numbers of four bytes, two words of 8 behind it
+  -- the vector of metadata at 0x1030: two numbers of four bytes, two words of 8 after the start
   pub offsets : reads (Key.offsets 0 0x1030) ≡ bodyReads ++ (bytesTo 64 72 ∷ [])
   pub context-1 : reads (Key.context 0 1) ≡ rowReads ++ (bytesTo 120 128 ∷ bytesTo 132 140 ∷ [])
-  -- a descriptor reads nothing of the image; a record the 12 bytes of each one up to it, 16 from one to the next
+  -- a descriptor reads nothing of the image; a record reads the 12 bytes of each record up to it, 16 bytes from one to the next
   pub field-descriptor : reads (Key.fieldDescriptor 0) ≡ []
   pub field-record-1 : reads (Key.fieldRecord 0 1) ≡ bytesTo 88 100 ∷ bytesTo 104 116 ∷ []
   -- what they say; nothing past the last
@@ -136,7 +138,7 @@ pub record ElmWorked : Type 0 where
   pub no-field-descriptor-1 : told elmImage (Key.fieldDescriptor 1) ≡ none
   pub says-field-record-1 : told elmImage (Key.fieldRecord 0 1) ≡ some (Answer.fieldRecord (record { address = 0x1068; words = 2 ∷ 0x10a0 ∷ 0x109d ∷ [] }))
   pub no-field-record-2 : told elmImage (Key.fieldRecord 0 2) ≡ none
-  -- each ends where its last range does: a cut there keeps it, and one a byte before does not
+  -- each ends where its last range does: a cut there keeps it, and a cut one byte before does not
   pub cut-44 : told (take 44 elmImage) (Key.initialization 0) ≡ told elmImage (Key.initialization 0)
   pub cut-43 : told (take 43 elmImage) (Key.initialization 0) ≡ none
   pub cut-48 : told (take 48 elmImage) (Key.pointer 0) ≡ told elmImage (Key.pointer 0)

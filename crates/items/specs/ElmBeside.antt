@@ -1,5 +1,6 @@
--- The texts of the image `Elm`, worked: what the calls tell of each, place and bytes; and what becomes of them in cuts. The cut to 152 falls into no text that the
--- listing looks up: the premise over all texts holds there, though a text that nothing refers to lies across it.
+-- The texts of the image `Elm`, worked through: what the calls return for each, place and bytes, and what becomes of them in cuts. The cut
+-- to 152 does not fall into a text that the listing looks up: the premise over all texts holds there, though a text that nothing refers to
+-- lies across the cut.
 use Prim.Native.Nat.{ℕ, zero, suc}
 use native.Mathlib.Omega.{arith}
 use mathlib.Core.Path.{_≡_, refl, ap, _∙_}
@@ -74,18 +75,18 @@ pub record ElmBesideWorked : Type 0 where
   pub descriptor-type : told elmImage (NameKey.descriptorType 0) ≡ text 0 3 (letters "Elm")
   pub descriptor-superclass : told elmImage (NameKey.descriptorSuperclass 0) ≡ text 160 2 (letters "Si")
   pub superclass : told elmImage (NameKey.superclass 0) ≡ none
-  -- cut to 152: the module's name is whole; the names of fields and types are lost, and one of them the string section has
+  -- cut to 152: the module's name is whole; the names of fields and types are lost, but the string section has one of them
   pub cut-module : told (take 152 elmImage) (NameKey.context 0 1) ≡ told elmImage (NameKey.context 0 1)
   pub cut-field-0 : told (take 152 elmImage) (NameKey.field 0 0) ≡ some (record { place = inStrings (place 0 3); bytes = letters "old" })
   pub cut-field-1 : told (take 152 elmImage) (NameKey.field 0 1) ≡ none
   pub cut-type : told (take 152 elmImage) (NameKey.fieldType 0 1) ≡ none
-  -- cut to 143: the module is there without its name, though its offset arrived; cut to 115: field 1 and its name are gone
+  -- cut to 143: the module is present without its name, though its offset arrived; cut to 115: field 1 and its name are lost
   pub lost-name : told (take 143 elmImage) (NameKey.context 0 1) ≡ none
   pub lost-field : told (take 115 elmImage) (NameKey.field 0 1) ≡ none
   -- the premise over all texts
   pub clear : (n : NameKey) → Clears n
 
--- ---- texts beside items that are not there
+-- ---- texts beside items that do not exist
 
 lost : (n : NameKey) (k : Key) → besideKey n ≡ some k → run elmImage elmSegments (item Elm.elmSections k) ≡ none → Clears n
 lost n k e f = nowhere elmImage elmSegments Elm.elmSections 152 n (no-item elmImage elmSegments Elm.elmSections n k e f)

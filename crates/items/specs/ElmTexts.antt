@@ -1,5 +1,6 @@
--- The premise on texts, worked whole on the image `Elm`: at which cuts it holds for the names of slots' descriptors, of contexts and of field records, and at which it does not. A text
--- that no name leads to asks for nothing (`ivy`, 149 to 152), though the word behind a context without a name leads to it; nor does the name of a field's type (`Si`, 160 to 162).
+-- The premise on texts, worked through for all cuts of the image `Elm`: at which cuts it holds for the names of slots' descriptors, of
+-- contexts and of field records, and at which it does not. A text that no name refers to has no premise (`ivy`, 149 to 152), though the
+-- word after a context without a name refers to it; nor has the name of a field's type (`Si`, 160 to 162).
 use Prim.Native.Nat.{ℕ, zero, suc, _≤_, _<_}
 use native.Mathlib.Omega.{arith}
 use mathlib.Core.Path.{_≡_, refl}
@@ -42,7 +43,7 @@ no-row : (i : ℕ) → named (NameKey.descriptor (suc i)) ≡ none
 unfolding run nameOf slotNameAddress
 no-row i = rw (le-ltb (suc i) 1 (omega arith)) refl
 
--- the anonymous context, at 0x1078, has none; the module is the last one; a slot that is not there has no context
+-- the anonymous context, at 0x1078, has none; the module is the last context; a slot that does not exist has no context
 anonymous : named (NameKey.context 0 0) ≡ none
 unfolding run bind bytesPlace within textOffset segmentsOf fileOffset decides inFile table following goesOn textAt textLength untilNul unsignedIn signedIn littleAt signedAt bytesAt littleEndian twosComplement relativeAddress relativePointer descriptor rowName slotRow headerIn header headerAt contextOfSlot kindOf contextNameAt nameOf
 anonymous = refl
@@ -97,7 +98,7 @@ pub record ElmTextsWorked : Type 0 where
   pub rows-clear : (c : ℕ) → 4 ≤ c → (i : ℕ) → Clears c (NameKey.descriptor i)
   pub contexts-clear : (c : ℕ) → Outside 144 149 c → (i k : ℕ) → Clears c (NameKey.context i k)
   pub fields-clear : (c : ℕ) → Outside 153 160 c → (j k : ℕ) → Clears c (NameKey.field j k)
-  -- and at no other
+  -- and at no others
   pub row-not-clear : (c : ℕ) → c < 4 → Clears c ofRow → ⊥
   pub module-not-clear : (c : ℕ) → 144 ≤ c → c < 149 → Clears c ofModule → ⊥
   pub field-0-not-clear : (c : ℕ) → 153 ≤ c → c < 157 → Clears c (ofField 0) → ⊥

@@ -1,5 +1,5 @@
--- The items of a listing: docs/SPECIFICATION.md, "Items, paths and the cut". An item is a program of reads by its key. It depends on the sections,
--- and never on the image: the listing of an image is what `run` gives of it, over all keys.
+-- The items of a listing: docs/SPECIFICATION.md, "Items, paths and the cut". An item is the program of reads for a key. It depends on the
+-- sections, and never on the image: the listing of an image is what `run` gives for it, over all keys.
 use Prim.Native.Nat.{ℕ}
 use mathlib.Core.List.{List}
 use mathlib.Core.Bool.{cond}
@@ -83,7 +83,7 @@ entryOfSlot s i e k =
 
 -- ---- contexts
 
--- a context around a slot's type: the row, and the contexts up to it; a walk gives 256 at most
+-- a context around a slot's type: the row, and the contexts up to it; a walk gives at most 256
 unfoldable pub contextOfSlot : Sections → ℕ → ℕ → Reads Header
 contextOfSlot s i k =
     cond (ltb k contextsMost) (bind (rowOfSlot s i) (λ r. headerAt k (r .parent))) nothing

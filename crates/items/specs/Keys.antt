@@ -1,4 +1,4 @@
--- What the items of a listing are known by, and what they say: docs/SPECIFICATION.md, "Items, paths and the cut".
+-- What identifies the items of a listing, and what they say: docs/SPECIFICATION.md, "Items, paths and the cut".
 use Prim.Native.Nat.{ℕ}
 use mathlib.Core.List.{List}
 use mathlib.Core.Option.{Option, some, none}
@@ -11,7 +11,7 @@ use Rattle.vtable.specs.Entries.{Entry}
 use Rattle.field.specs.declared.iter.FieldDescriptor.{FieldDescriptor}
 use Rattle.parent.specs.Context.{Header}
 
--- the sections that tell of types and of fields, and where they start
+-- the types and the fields section, and where they start
 pub record Sections : Type 0 where
   pub types : List ℕ
   pub typesStart : ℕ
@@ -25,22 +25,22 @@ pub data EntryKind : Type 0 where
   defaultOverrides : EntryKind
   prespecializations : EntryKind
 
--- what an item is known by
+-- what identifies an item
 pub data Key : Type 0 where
-  -- of a slot of the types section: its row, its body, its block of a kind
+  -- for a slot of the types section: its row, its body, its block of a kind
   row : ℕ → Key
   body : ℕ → Key
   block : ℕ → BlockKind → Key
-  -- of a slot's table its entry with a number
+  -- the entry with a number of a slot's table
   entry : ℕ → EntryKind → ℕ → Key
   -- a slot's singleton records
   initialization : ℕ → Key
   pointer : ℕ → Key
   -- the offsets of a slot's fields, for a metadata address
   offsets : ℕ → ℕ → Key
-  -- of the contexts around a slot's type the one with a number, the innermost being 0
+  -- the context with a number around a slot's type, the innermost being 0
   context : ℕ → ℕ → Key
-  -- of the fields section the descriptor with a number, and of its records the one with a number
+  -- the descriptor with a number of the fields section, and its record with a number
   fieldDescriptor : ℕ → Key
   fieldRecord : ℕ → ℕ → Key
 
@@ -58,7 +58,7 @@ pub data Answer : Type 0 where
   fieldDescriptor : FieldDescriptor → Answer
   fieldRecord : Entry → Answer
 
--- the slot that an item is of; those of the fields section are of none
+-- the slot that an item belongs to; items of the fields section belong to none
 abbrev pub slotOf : Key → Option ℕ
 slotOf (Key.row i) = some i
 slotOf (Key.body i) = some i

@@ -1,5 +1,5 @@
--- A second image worked through, with what hangs on a row: a class of two methods and one override, in a context without a name, in a module. The paths are those of
--- docs/SPECIFICATION.md, "Items, paths and the cut", written out as numbers.
+-- A second image worked through, with the items of a row: a class of two methods and one override, in a context without a name, in a
+-- module. The paths are those of docs/SPECIFICATION.md, "Items, paths and the cut", written out as numbers.
 use Prim.Native.Nat.{ℕ, _≤_}
 use native.Mathlib.Omega.{arith}
 use mathlib.Core.Path.{_≡_, refl}
@@ -93,9 +93,10 @@ pub record OakWorked : Type 0 where
   pub says-overrides : told oakImage (Key.block 0 BlockKind.OverrideTable) ≡ some (Answer.block (tableBlock BlockKind.OverrideTable 0 1 0x104c))
   pub says-method : told oakImage (Key.entry 0 EntryKind.methods 1) ≡ some (Answer.entry (record { address = 0x1040; words = 17 ∷ 0 ∷ [] }))
   pub says-context : told oakImage (Key.context 0 1) ≡ some (Answer.context (record { address = 0x1060; flags = 0; parent = 0 }))
-  -- the name is the only text, and stands first
+  -- the name is the only text, and comes first
   pub clear : (c : ℕ) → 4 ≤ c → All (Clear c) (reads (Key.row 0))
-  -- method 1 ends at 72: a cut there keeps it, and one a byte before does not; the claim says so of both; the override table's header is behind it
+  -- method 1 ends at 72: a cut there keeps it, and a cut one byte before does not; the claim says so of both; the override table's header
+  -- comes after it
   pub cut-72 : told (take 72 oakImage) (Key.entry 0 EntryKind.methods 1) ≡ told oakImage (Key.entry 0 EntryKind.methods 1)
   pub cut-71 : told (take 71 oakImage) (Key.entry 0 EntryKind.methods 1) ≡ none
   pub claim-72 : Claim oakImage oakSegments oakSections 72 (Key.entry 0 EntryKind.methods 1)

@@ -1,5 +1,5 @@
--- The texts that a listing looks up, by the addresses of names: docs/SPECIFICATION.md, "Items, paths and the cut". The premise of the cut speaks of them
--- (`ClearOf`), and what the calls tell of them is `Beside`.
+-- The texts that a listing looks up, by the addresses of names: docs/SPECIFICATION.md, "Items, paths and the cut". The premise of the cut
+-- speaks of them (`ClearOf`); what the calls return for them is `Beside`.
 use Prim.Native.Nat.{ℕ, _+_, _*_, _^_}
 use mathlib.Core.List.{List}
 use mathlib.Core.Path.{_≡_}
@@ -33,7 +33,7 @@ pub data NameKey : Type 0 where
   descriptorType : ℕ → NameKey
   descriptorSuperclass : ℕ → NameKey
 
--- a descriptor's name address, where its bytes can be read and it has a slot for the name below 2^64: whether the name can be read or not
+-- a descriptor's name address, if its bytes can be read and its slot for the name lies below 2^64, whether the name can be read or not
 unfoldable pub descriptorName : ℕ → Reads ℕ
 descriptorName a = bytes a 20 (λ h. cond (leb (2 ^ 64) (a + 8)) nothing (done (nameAddress a h)))
 
@@ -42,7 +42,7 @@ slotNameAddress s i =
     cond (ltb i (slots (s .types)))
     (cond (eqb (unsignedIn 4 (s .types) (4 * i)) 0) nothing (descriptorName (slotAddress (s .types) (s .typesStart) i))) nothing
 
--- a context's, where it has a name: at the address + 8, by an offset that is not 0
+-- a context's, if it has a name: from the offset at the address + 8, which is not 0
 unfoldable pub contextNameAt : Header → Reads ℕ
 contextNameAt h =
     cond (hasName (contextKind (h .flags)))
@@ -80,7 +80,7 @@ lookup a = text a (λ p t. done (record { place = p; bytes = t }))
 unfoldable pub readName : Sections → NameKey → Reads Name
 readName s n = bind (nameOf s n) lookup
 
--- the cut does not fall into a text that is looked up at an address: it falls before its start, or at or behind the end of its range
+-- the cut does not fall into a text that is looked up at an address: it falls before its start, or at or after the end of its range
 abbrev pub ClearAt : List ℕ → List ℕ → ℕ → ℕ → Type 0
 ClearAt image segments c a = (o : ℕ) → textOffset segments a ≡ some o → Clear c (textRange image o)
 

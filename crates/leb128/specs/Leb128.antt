@@ -11,12 +11,12 @@ use Rattle.util.specs.Pointer.{modulo}
 use Rattle.leb128.specs.declared.leb128.Uleb128.{Uleb128}
 use Rattle.leb128.specs.declared.leb128.Sleb128.{Sleb128}
 
--- the bytes of the first number: up to and with the first byte whose high bit is clear
+-- the bytes of the first number: up to and including the first byte whose high bit is clear
 unfoldable pub encoding : List ℕ → Option (List ℕ)
 encoding [] = none
 encoding (b ∷ bs) = cond (ltb b 128) (some (b ∷ [])) (Option·map (λ (e : List ℕ). b ∷ e) (encoding bs))
 
--- what is read of an encoding, nothing where the bytes end before it does
+-- what is read from an encoding; nothing if the bytes end before it does
 abbrev pub ofEncoding : {A : Type 0} → (List ℕ → Option A) → Option (List ℕ) → Option A
 ofEncoding f none = none
 ofEncoding f (some e) = f e
@@ -30,7 +30,7 @@ unsignedNumber (b ∷ bs) = b % 128 + 128 * unsignedNumber bs
 unfoldable pub signedNumber : List ℕ → ℤ
 signedNumber e = twosComplement (7 * length e) (unsignedNumber e)
 
--- a number in `k` + 1 bytes: its chunks of seven bits, each with the high bit but for the last. More bytes than it needs have zeros (or ones) above it.
+-- a number in `k` + 1 bytes: its chunks of seven bits, each with the high bit except the last. Bytes beyond those that it needs have zeros (or ones).
 unfoldable pub lebBytes : ℕ → ℕ → List ℕ
 lebBytes zero n = n % 128 ∷ []
 lebBytes (suc k) n = (128 + n % 128) ∷ lebBytes k (n / 128)
@@ -42,14 +42,14 @@ encodedSigned k z = lebBytes k (modulo z (128 ^ suc k))
 abbrev pub word : List ℕ → ℕ
 word e = unsignedNumber e % 2 ^ 64
 
--- `read_uleb128`: the low 64 bits of up to ten bytes; an eleventh byte has to be 0
+-- `read_uleb128`: the low 64 bits of up to ten bytes; an eleventh byte must be 0
 unfoldable pub ulebOf : List ℕ → Option (ℕ × ℕ)
 ulebOf e = cond (leb (length e) 11 && eqb (getD e 10 0) 0) (some (word e, length e)) none
 
 abbrev pub uleb128 : List ℕ → Option (ℕ × ℕ)
 uleb128 bytes = ofEncoding ulebOf (encoding bytes)
 
--- `read_sleb128`: the low 64 bits as well, in two's complement of the bits that are there; an eleventh byte has to repeat bit 63
+-- `read_sleb128`: also the low 64 bits, in two's complement of the bits that are present; an eleventh byte must repeat bit 63
 abbrev pub signBits : ℕ → ℕ
 signBits w = cond (ltb w (2 ^ 63)) 0 127
 

@@ -1,4 +1,4 @@
--- What the readers say of the standard's encodings: a number below 2^64 in up to ten bytes, needed or not, is read back.
+-- What the readers make of the standard's encodings: a number below 2^64 is read back from up to ten bytes, even if it needs fewer.
 use Prim.Native.Nat.{ℕ, zero, suc, _+_, _-_, _*_, _/_, _%_, _^_, _≤_, _<_, min}
 use native.Mathlib.Nat.{pow-suc, pow-le-pow-right, mod-eq-of-lt}
 use native.Mathlib.Decide.{decLt}

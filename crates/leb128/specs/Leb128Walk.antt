@@ -1,4 +1,4 @@
--- What the walk over the bytes of a number has found, for the functions that the readers are made of.
+-- What a walk over the bytes of a number has found, for the functions inside the readers.
 use Prim.Native.Nat.{ℕ, _-_, _%_, _^_, _≤_, _<_}
 use mathlib.Core.Path.{_≡_}
 use mathlib.Core.List.{List}
@@ -7,7 +7,7 @@ use lib.ListN.{length, take, getD}
 use Rattle.leb128.specs.Leb128.{encoding, unsignedNumber, word}
 use Rattle.leb128.specs.declared.leb128.Chunks.{Chunks}
 
--- the first `i` bytes all go on, and have these bits
+-- the first `i` bytes are all continuation bytes, and have these bits
 pub record Running (s : List ℕ) (i bits : ℕ) : Type 0 where
   pub on : (k : ℕ) → k < i → 128 ≤ getD s k 0
   pub within : i ≤ length s

@@ -1,4 +1,4 @@
--- What reading ended with (docs/SPECIFICATION.md, "The program"). Which bytes came, no contract can say.
+-- What reading ended with (docs/SPECIFICATION.md, "The program"). No contract can say which bytes came.
 use Prim.Native.Nat.{ℕ, _≤_}
 use mathlib.Core.List.{List}
 use lib.ListN.{length}

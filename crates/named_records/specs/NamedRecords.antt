@@ -25,12 +25,12 @@ namedNumbers image segments strings start e =
     entryNumbers e
     ++ (textNumbers (textPlace image segments (typeNameAddress e)) ++ fieldNumbers (fieldName image segments strings start (fieldNameAddress e)))
 
--- the records from where a walk stands up to the first that cannot be read, at most so many
+-- the records from a walk's position up to the first that cannot be read, at most a given number of them
 abbrev pub namedTable : List ℕ → List ℕ → List ℕ → ℕ → FieldRecordIter → ℕ → WholeTable
 namedTable image segments strings start c n =
     tableBy (namedNumbers image segments strings start) image segments (recordLayout (c .«entry_size»)) n (entriesOf c)
 
--- as a caller's list of so many numbers holds them
+-- as many as a caller's list of `n` numbers holds
 abbrev pub namedIn : List ℕ → List ℕ → List ℕ → ℕ → FieldRecordIter → ℕ → WholeTable
 namedIn image segments strings start c n = namedTable image segments strings start c (n / 10)
 

@@ -27,7 +27,7 @@ pub record Header : Type 0 where
   pub flags : ℕ
   pub parent : ℕ
 
--- the header has 8 bytes: flags at 0, the parent's offset at 4, whose slot has to lie below 2^64
+-- the header has 8 bytes: flags at 0, the parent's offset at 4, whose slot must lie below 2^64
 unfoldable pub headerIn : ℕ → List ℕ → Reads Header
 headerIn a h =
     cond (leb (2 ^ 64) (a + 4)) nothing
@@ -37,13 +37,13 @@ headerIn a h =
 unfoldable pub header : ℕ → Reads Header
 header a = cond (eqb a 0) nothing (bytes a 8 (headerIn a))
 
--- the name's offset is a read of its own, at the address + 8; offset 0 is not a name
+-- the name's offset is a separate read, at the address + 8; offset 0 means no name
 unfoldable pub slotName : ℕ → List ℕ → Reads Name
 slotName v h =
     cond (eqb (unsignedIn 4 h 0) 0) nothing
     (text (relativePointer v (signedIn 4 h 0)) (λ p t. done (record { place = p; bytes = t })))
 
--- where the slot lies below 2^64
+-- if the slot lies below 2^64
 unfoldable pub nameAt : ℕ → Reads Name
 nameAt a = cond (leb (2 ^ 64) (a + 8)) nothing (bytes (a + 8) 4 (slotName (a + 8)))
 
@@ -66,7 +66,7 @@ withName image segments h = record { header = h; name = contextName image segmen
 unfoldable pub contextRead : List ℕ → List ℕ → ℕ → Option Context
 contextRead image segments a = Option·map (withName image segments) (run image segments (header a))
 
--- what the calls' answers say, of the image that they were read from
+-- what the calls' answers say, for the image that they were read from
 abbrev pub headerOf : ℕ → HeaderRead → Option Header
 headerOf a (HeaderRead.Header f q) = some (record { address = a; flags = f; parent = q })
 headerOf a HeaderRead.Nothing = none

@@ -34,13 +34,13 @@ isThere (some a) = true
 unfoldable pub tooDeep : List ℕ → List ℕ → ℕ → Bool
 tooDeep image segments a = isThere (run image segments (headerAt contextsMost a))
 
--- the name for a buffer of so many bytes: refusal 4, then 3 where it is longer than the buffer
+-- the name for a buffer of a length: refusal 4, then 3 if it is longer than the buffer
 unfoldable pub nameAnswer : List ℕ → List ℕ → TypeRow → ℕ → Guarded (List ℕ)
 nameAnswer image segments row size =
     cond (tooDeep image segments (row .parent)) (refused 4)
     (cond (ltb size (length (qualifiedName image segments row))) (refused 3) (answered (qualifiedName image segments row)))
 
--- what the call's answer tells: the name's length
+-- what the call's answer says: the name's length
 abbrev pub lengthOf : QualifiedName → Guarded ℕ
 lengthOf (QualifiedName.Length n) = answered n
 lengthOf (QualifiedName.Refused r) = refused (refusalNumber r)

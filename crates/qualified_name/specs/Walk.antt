@@ -1,5 +1,5 @@
--- How the joined name is written, block by block: contexts that are read one after the other, and the names that are kept of them.
--- For the functions that write it; no definition of a name rests on this file.
+-- How the joined name is written, block by block: contexts are read one after the other, and their names are kept. This file is
+-- for the functions that write it; no definition of a name rests on it.
 use Prim.Native.Nat.{ℕ, zero, suc, _+_, _-_, _^_, _≤_, min}
 use mathlib.Core.Path.{_≡_}
 use mathlib.Core.List.{List, [], _∷_, _++_}
@@ -30,8 +30,8 @@ deeper image segments left a = leb (suc left) (length (chain image segments (suc
 abbrev pub before : List ℕ → List ℕ → ℕ → ℕ → List ℕ
 before image segments left a = hops (chain image segments (suc left) a)
 
--- the length of the hops of the contexts from an address on, of which `left` are allowed, before `rest` bytes: 4 where one more can
--- be read, 3 where hops and rest are longer than the buffer
+-- the length of the hops of the contexts from an address on, of which `left` are allowed, before `rest` bytes: 4 if one more can be
+-- read, 3 if hops and rest are longer than the buffer
 unfoldable pub hopsAnswer : List ℕ → List ℕ → ℕ → ℕ → ℕ → ℕ → Guarded ℕ
 hopsAnswer image segments left a rest size =
     cond (deeper image segments left a) (refused 4)
@@ -52,7 +52,7 @@ gathered image places lengths zero = []
 gathered image places lengths (suc n) =
     (partOf image (place (getD places n 0) (getD lengths n 0)) ++ (46 ∷ [])) ++ gathered image places lengths n
 
--- the bytes of the hops and of what comes after them, kept at 2^64 - 1 where they would be more
+-- the number of bytes of the hops and of what comes after them, or 2^64 - 1 if it would be more
 abbrev pub room : ℕ → List ℕ → ℕ
 room rest hops = min (rest + length hops) (2 ^ 64 - 1)
 
@@ -64,7 +64,7 @@ pub record Block (image segments : List ℕ) (left a rest : ℕ) (places lengths
   pub few : count ≤ 8
   pub fewer : count + left′ ≤ left
 
--- there is not a context after those of the names
+-- there is no context after those of the names
 pub record Last (image segments : List ℕ) (left a rest : ℕ) (places lengths : List ℕ) (count rest′ : ℕ) : Type 0 where
   pub hops : before image segments left a ≡ gathered image places lengths count
   pub deep : deeper image segments left a ≡ false

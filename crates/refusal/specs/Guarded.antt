@@ -1,4 +1,5 @@
--- docs/SPECIFICATION.md, "Refusals": a list of segment numbers that is not a multiple of four is refused with 1, before all else.
+-- docs/SPECIFICATION.md, "Refusals": a list of segment numbers whose count is not a multiple of four is refused with 1, before anything
+-- else.
 use Prim.Native.Nat.{ℕ, _%_}
 use mathlib.Core.List.{List}
 use mathlib.Core.Bool.{cond}

@@ -3,7 +3,7 @@ use Prim.Native.Nat.{ℕ}
 use mathlib.Core.Option.{Option, some, none}
 use Rattle.refusal.specs.declared.Refusal.{Refusal}
 
--- an answer, or a refusal by its number
+-- an answer, or the number of a refusal
 pub data Guarded (A : Type 0) : Type 0 where
   answered : A → Guarded A
   refused : ℕ → Guarded A
@@ -20,7 +20,7 @@ abbrev pub mapped : {A B : Type 0} → (A → B) → Guarded A → Guarded B
 mapped f (answered a) = answered (f a)
 mapped f (refused n) = refused n
 
--- what a call answers, none where it refuses
+-- what a call answers, none if it refuses
 abbrev pub answerOf : {A : Type 0} → Guarded A → Option A
 answerOf (answered a) = some a
 answerOf (refused n) = none

@@ -11,7 +11,7 @@ abbrev pub bytesPlaceOf : Bytes → Option ℕ
 bytesPlaceOf (At o) = some o
 bytesPlaceOf Nothing = none
 
--- the bytes at a place, none where there is none
+-- the bytes at a place, none if there is none
 abbrev pub bytesFrom : List ℕ → ℕ → Option ℕ → List ℕ
 bytesFrom image n none = []
 bytesFrom image n (some o) = take n (drop o image)

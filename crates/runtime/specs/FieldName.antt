@@ -35,7 +35,7 @@ fieldNameOf (Image o n) = some (inImage (place o n))
 fieldNameOf (Strings o n) = some (inStrings (place o n))
 fieldNameOf Nothing = none
 
--- the bytes of a name, none where there is none
+-- the bytes of a name, none if there is none
 abbrev pub namePart : List ℕ → List ℕ → Option NamePlace → List ℕ
 namePart image strings none = []
 namePart image strings (some (inImage p)) = partOf image p

@@ -1,5 +1,5 @@
--- Where a text or a field's name lies as three numbers, as lists of records and the calls for C give it: docs/SPECIFICATION.md, "Calls for C". All
--- are 0 where there is none.
+-- Where a text or a field's name lies, in three numbers, as in lists of records and the calls for C: docs/SPECIFICATION.md, "Calls for C".
+-- All are 0 if there is none.
 use Prim.Native.Nat.{ℕ}
 use mathlib.Core.List.{List, [], _∷_}
 use mathlib.Core.Option.{Option, some, none}

@@ -1,5 +1,5 @@
--- The language of reads. What a call answers is defined as a program that reads bytes and texts of an image at addresses:
--- `run` is the program's answer, `path` the image bytes that it depends on.
+-- The language of reads. The answer of a call is defined as a program that reads bytes and texts of an image at
+-- addresses: `run` is the program's answer, `path` the image bytes that it depends on.
 use Prim.Native.Nat.{ℕ, zero, suc, _+_, _-_, _≤_, _<_, min, max}
 use mathlib.Core.Path.{_≡_}
 use mathlib.Core.Logic.{_⊎_}
@@ -17,7 +17,7 @@ pub data Reads (A : Type 0) : Type 0 where
   done : A → Reads A
   -- no answer
   nothing : Reads A
-  -- so many bytes from an address on
+  -- a number of bytes from an address on
   bytes : ℕ → ℕ → (List ℕ → Reads A) → Reads A
   -- the text at an address: its place in the image, and its bytes
   text : ℕ → (Place → List ℕ → Reads A) → Reads A
@@ -50,14 +50,14 @@ run image segments (text address k) =
     andThen (textOffset segments address)
     (λ o. andThen (textAt image o) (λ p. run image segments (k p (untilNul (drop o image)))))
 
--- image bytes from `from` up to and without `to`, and whether they were looked up as a text
+-- image bytes from `from` up to but not including `to`, and whether they were looked up as a text
 pub record Range : Type 0 where
   pub from : ℕ
   pub to : ℕ
   pub isText : Bool
 
--- what a text looked up in these bytes takes up, found or not: its NUL included, or all bytes where there is none;
--- where there are no bytes at all, one
+-- how many bytes a text takes that is looked up in these bytes, found or not: up to and including its NUL, or all
+-- bytes if there is none; one if there are no bytes at all
 unfoldable pub extent : List ℕ → ℕ
 extent [] = 1
 extent (zero ∷ s) = 1
@@ -70,7 +70,7 @@ bytesRange o n = record { from = o; to = o + n; isText = false }
 abbrev pub textRange : List ℕ → ℕ → Range
 textRange image o = record { from = o; to = o + extent (drop o image); isText = true }
 
--- a text that was found, and its NUL: not past the image's end, and one byte at least
+-- a text that was found, and its NUL: not past the image's end, and at least one byte
 abbrev pub withNul : List ℕ → Place → Range
 withNul image p =
     record {
@@ -101,7 +101,7 @@ bind nothing f = nothing
 bind (bytes address n k) f = bytes address n (λ bs. bind (k bs) f)
 bind (text address k) f = text address (λ p bs. bind (k p bs) f)
 
--- ---- what is asked of a path
+-- ---- what a premise asks of a path
 
 -- P holds of each range
 abbrev pub All : (Range → Type 0) → List Range → Type 0

@@ -1,4 +1,4 @@
--- Addresses that the segments lay one after the other into the file. A true mapping spares a walk over the segments and changes no answer.
+-- Addresses that the segments map to the file one after the other. A true mapping saves a walk over the segments and changes no answer.
 use Prim.Native.Nat.{ℕ, _+_, _-_, _^_, _≤_, _<_}
 use mathlib.Core.Path.{_≡_}
 use mathlib.Core.List.{List, _∷_}
@@ -7,11 +7,11 @@ use Rattle.segment.specs.Segments.{Segment, segmentsOf, fileOffset}
 use Rattle.segment.specs.declared.segment.Mapping.{Mapping}
 use Rattle.segment.specs.declared.segment.Around.{Around}
 
--- the segments' numbers with a mapping as one more segment before them: what a call that takes a mapping goes by
+-- the segments' numbers with a mapping as one more segment before them: the segments of a call that takes a mapping
 unfoldable pub withMapping : Mapping → List ℕ → List ℕ
 withMapping m segments = m .vmaddr ∷ (m .size ∷ (m .fileoff ∷ (m .size ∷ segments)))
 
--- a mapping is true of the segments: with it before them every address has the offset that it has without
+-- a mapping is true of the segments: with it before them, every address has the offset that it has without it
 pub record TrueMapping (segments : List ℕ) (m : Mapping) : Type 0 where
   pub same : (v : ℕ) → fileOffset (segmentsOf (withMapping m segments)) v ≡ fileOffset (segmentsOf segments) v
 
@@ -24,13 +24,13 @@ pub record Has (m : Mapping) (v : ℕ) : Type 0 where
 pub record Exact (segments : List ℕ) (m : Mapping) : Type 0 where
   pub offset : (v : ℕ) → Has m v → fileOffset (segmentsOf segments) v ≡ some (m .fileoff + (v - m .vmaddr))
 
--- the answer of `locate`: a mapping with the address that was looked for, or that this address is not in the file. How many addresses
--- around it the mapping has is left open.
+-- the answer of `locate`: a mapping that has the address, or that this address is not in the file. How many addresses around it the
+-- mapping has is left open.
 abbrev pub Located : List ℕ → ℕ → Around → Type 0
 Located segments v (Around.Mapping m) = TrueMapping segments m × Has m v × Exact segments m
 Located segments v Around.Nothing = none ≡ fileOffset (segmentsOf segments) v
 
--- the same with a mapping at hand, which is the answer where it has the address: true if it is
+-- the same with the caller's mapping, which is the answer if it has the address: the answer is true if the caller's mapping is
 abbrev pub LocatedNear : List ℕ → Mapping → ℕ → Around → Type 0
 LocatedNear segments m v (Around.Mapping r) = (TrueMapping segments m → TrueMapping segments r) × Has r v
 LocatedNear segments m v Around.Nothing = none ≡ fileOffset (segmentsOf segments) v

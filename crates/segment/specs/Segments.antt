@@ -1,5 +1,5 @@
--- From an address to a file offset: docs/SPECIFICATION.md, "File offsets". A segment is what a
--- `segment_command_64` of mach-o/loader.h says of its place.
+-- From an address to a file offset: docs/SPECIFICATION.md, "File offsets". A segment is the four
+-- numbers of a `segment_command_64` of mach-o/loader.h that say where it lies.
 use Prim.Native.Nat.{ℕ, _+_, _-_, _^_}
 use mathlib.Core.List.{List, [], _∷_}
 use mathlib.Core.Bool.{Bool, cond, _&&_, _||_}
@@ -14,7 +14,7 @@ pub record Segment : Type 0 where
   pub fileoff : ℕ
   pub filesize : ℕ
 
--- four numbers to a segment; fewer are none
+-- four numbers to a segment; fewer are not a segment
 unfoldable pub segmentsOf : List ℕ → List Segment
 segmentsOf [] = []
 segmentsOf (a ∷ []) = []
@@ -30,7 +30,7 @@ covers s v = leb (s .vmaddr) v && ltb v (s .vmaddr + s .vmsize) && ltb 0 (s .fil
 unfoldable pub inFile : Segment → ℕ → Option ℕ
 inFile s d = cond (leb (s .filesize) d || leb (2 ^ 64) (s .fileoff + d)) none (some (s .fileoff + d))
 
--- what a segment says of an address: `none` leaves it to the next one
+-- what a segment says of an address: `none` leaves it to the next segment
 unfoldable pub decides : Segment → ℕ → Option (Option ℕ)
 decides s v =
     cond (leb (2 ^ 64) (s .vmaddr + s .vmsize)) (some none)

@@ -1,5 +1,5 @@
--- From a file offset to an address (docs/SPECIFICATION.md, "File offsets"): the segments seen from the file. Of a `segment_command_64` (mach-o/loader.h) the first file bytes lie at the first
--- addresses, and the file bytes past `vmsize` at none.
+-- From a file offset to an address (docs/SPECIFICATION.md, "File offsets"): the segments seen from the file. The first file bytes of a
+-- `segment_command_64` (mach-o/loader.h) lie at its first addresses, and the file bytes past `vmsize` at none.
 use Prim.Native.Nat.{ℕ, min}
 use mathlib.Core.List.{List, map}
 use mathlib.Core.Option.{Option, some, none}
@@ -7,7 +7,7 @@ use Rattle.segment.specs.Segments.{Segment, fileOffset}
 use Rattle.segment.specs.declared.file_offset.VmAddress.{VmAddress}
 use Rattle.segment.specs.declared.file_offset.Turned.{Turned}
 
--- offsets and addresses exchanged, and only what lies in both
+-- offsets and addresses exchanged, and only what has both
 abbrev pub turned : Segment → Segment
 turned s = record { vmaddr = s .fileoff; vmsize = min (s .vmsize) (s .filesize); fileoff = s .vmaddr; filesize = min (s .vmsize) (s .filesize) }
 

@@ -13,7 +13,7 @@ use Rattle.type_body.specs.Items.{Start}
 use Rattle.steps.specs.declared.blocks.NextBlock.{NextBlock}
 use Rattle.steps.specs.declared.blocks.BlockAnswer.{BlockAnswer}
 
--- the walk over what follows a body: over, past the last row, where nothing does
+-- the walk over what follows a body; if nothing follows, it has ended, past the last row
 abbrev pub walkFrom : Option Start → Walk
 walkFrom none = record { trailing = record { flags = 0; isClass = false; extra = 0 }; row = 11; address = 0 }
 walkFrom (some s) = record { trailing = s .trailing; row = 0; address = s .start }

@@ -8,28 +8,28 @@ use lib.Dec.{leb, ltb, eqb}
 use Rattle.test_lines.specs.declared.hex.Number.{Number}
 use Rattle.test_lines.specs.declared.hex.Count.{Count}
 
--- how many bytes stand before the first `stop`, all where there is none
+-- how many bytes come before the first `stop`; all of them if there is none
 unfoldable pub span : ℕ → List ℕ → ℕ
 span stop [] = 0
 span stop (b ∷ s) = cond (eqb b stop) 0 (suc (span stop s))
 
--- the first place of `stop` from `at` on, or the end; `at` itself where it is past the end
+-- the first place of `stop` from `at` on, or the end; `at` itself if it is past the end
 unfoldable pub findFrom : List ℕ → ℕ → ℕ → ℕ
 findFrom s at stop = at + span stop (drop at s)
 
--- the line that starts at `at`, up to the next newline (10), and where the line after it starts: nowhere before the end where there is none
+-- the line that starts at `at`, up to the next newline (10), and where the next line starts; not before the end if there is none
 unfoldable pub lineAtOffset : List ℕ → ℕ → List ℕ
 lineAtOffset s at = take (span 10 (drop at s)) (drop at s)
 
 unfoldable pub afterLine : List ℕ → ℕ → ℕ
 afterLine s at = cond (ltb (findFrom s at 10) (length s)) (findFrom s at 10 + 1) (findFrom s at 10)
 
--- the field of a number, from 0 on: one space (32) stands between two fields, and those past the last one are empty
+-- the field with a number, from 0 on: one space (32) separates two fields, and fields past the last one are empty
 unfoldable pub fieldOf : List ℕ → ℕ → List ℕ
 fieldOf s zero = take (span 32 s) s
 fieldOf s (suc n) = fieldOf (drop (suc (span 32 s)) s) n
 
--- the first `n` numbers, none where there are fewer
+-- the first `n` numbers, none if there are fewer
 unfoldable pub firstOf : List ℕ → ℕ → List ℕ
 firstOf s n = cond (leb n (length s)) (take n s) []
 
@@ -40,7 +40,7 @@ equals [] (b ∷ t) = false
 equals (a ∷ s) [] = false
 equals (a ∷ s) (b ∷ t) = eqb a b && equals s t
 
--- the value of a lowercase hexadecimal digit, `0` (48) to `9` or `a` (97) to `f`; 16 for another byte
+-- the value of a lowercase hexadecimal digit, `0` (48) to `9` or `a` (97) to `f`; 16 for any other byte
 unfoldable pub digitOf : ℕ → ℕ
 digitOf b = cond (leb 48 b && leb b 57) (b - 48) (cond (leb 97 b && leb b 102) (b - 87) 16)
 
@@ -80,8 +80,8 @@ unfoldable pub numbersOfFields : List ℕ → ℕ → ℕ → ℕ → List ℕ
 numbersOfFields s from step zero = []
 numbersOfFields s from step (suc n) = elim (hexNumber (fieldOf s from)) [ none ↦ [] | some v ↦ v ∷ numbersOfFields s (from + step) step n ]
 
--- a list's count is in the field `from`, and its numbers are in the fields after that: those that are written to a list of `room` numbers, and their
--- count, if there are so many
+-- a list's count is in the field `from`, and its numbers are in the fields after that: those that are written to a list of `room` numbers,
+-- and their count, if all of them are there
 unfoldable pub listNumbers : List ℕ → ℕ → ℕ → List ℕ
 listNumbers s from room = elim (hexNumber (fieldOf s from)) [ none ↦ [] | some n ↦ cond (leb n room) (numbersOfFields s (from + 1) 1 n) [] ]
 
@@ -92,7 +92,7 @@ listCount s from room =
       | some n ↦ cond (leb n room && eqb (length (numbersOfFields s (from + 1) 1 n)) n) (some n) none
     ]
 
--- what an answer tells: the number that was read, or how many bytes or numbers were
+-- what an answer says: the number that was read, or how many bytes or numbers were
 abbrev pub numberOf : Number → Option ℕ
 numberOf (Number.Value n) = some n
 numberOf Number.Bad = none

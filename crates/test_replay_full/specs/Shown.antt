@@ -8,12 +8,12 @@ use lib.Dec.{eqb}
 use Rattle.typedescriptor.specs.SlotsLaws.{steppedRows}
 use Rattle.field.specs.Fields.{fieldStep}
 
--- how many rows: those of at most 4,096 steps, and none where the segments are refused
+-- how many rows: those of at most 4,096 steps, and none if the segments are refused
 unfoldable pub rowsShown : List ℕ → List ℕ → List ℕ → ℕ → ℕ
 rowsShown image segments types start =
     cond (eqb (length segments % 4) 0) (length (steppedRows image segments types start 4096 0)) 0
 
--- where a walk over a fields section stands after the first step that gives no descriptor, or after so many steps
+-- where a walk over a fields section stands after the first step that gives no descriptor, or after `n` steps
 unfoldable pub walkEnd : List ℕ → ℕ → ℕ → ℕ → ℕ
 walkEnd fields start zero at = at
 walkEnd fields start (suc n) at =

@@ -58,7 +58,7 @@ bodySize (ofClass s z m f v) = 24
 bodySize (ofStruct f v) = 8
 bodySize (ofEnum p w e) = 8
 
--- so many bytes, whose end lies below 2^64
+-- a number of bytes, whose end lies below 2^64
 unfoldable pub bodyBytes : ℕ → ℕ → (List ℕ → Body) → Reads Body
 bodyBytes a n k = cond (leb (2 ^ 64) (a + 20 + n)) nothing (bytes (a + 20) n (λ h. done (k h)))
 
@@ -87,7 +87,7 @@ abbrev pub extraFlags : Sizes → ℕ
 extraFlags (fixed n p) = 0
 extraFlags (resilient b e) = e
 
--- what tells which blocks follow
+-- what decides which blocks follow
 abbrev pub trailing : ℕ → Body → Trailing
 trailing flags (ofClass s z m f v) = record { flags = flags; isClass = true; extra = extraFlags z }
 trailing flags (ofStruct f v) = record { flags = flags; isClass = false; extra = 0 }
@@ -99,7 +99,7 @@ trailingStart a (ofClass s z m f v) = a + 44
 trailingStart a (ofStruct f v) = a + 28
 trailingStart a (ofEnum p w e) = a + 28
 
--- the text beside a class's body: its superclass's name, by its address
+-- the text beside a class's body: its superclass's name, at its address
 abbrev pub superclassName : List ℕ → List ℕ → Option Body → Option Place
 superclassName image segments (some (ofClass s z m f v)) = textPlace image segments s
 superclassName image segments (some (ofStruct f v)) = none

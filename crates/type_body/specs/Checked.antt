@@ -37,7 +37,7 @@ pub record CheckedClass : Type 0 where
       → run image segments (reached (s .trailing) (s .start) 5) ≡ some (a + 76)
 
 module _ (image segments : List ℕ) (a : ℕ) (b : Body) (e : run image segments (body a 0xc0000010) ≡ some b) where
-  -- a body that is read is the class's that its bytes say
+  -- a body that can be read is the class body that its bytes hold
   record ClassRead : Type 0 where
     header : List ℕ
     says : b ≡ classBody a 0xc0000010 header

@@ -1,4 +1,4 @@
--- What the definitions of bodies, of what follows them and of a singleton's records say of bytes that are written out.
+-- What the definitions of bodies, of what follows them and of singleton records give for bytes that are written out.
 use Prim.Native.Nat.{ℕ, _-_, _^_}
 use mathlib.Core.Path.{_≡_, refl}
 use mathlib.Core.List.{List, [], _∷_, _++_}
@@ -33,7 +33,7 @@ base = 0 ∷ 0 ∷ 0 ∷ 0 ∷ 0 ∷ 0 ∷ 0 ∷ 0 ∷ 0 ∷ 0 ∷ 0 ∷ 0 ∷ 0
 abbrev pub lowSegment : List ℕ
 lowSegment = 0x1000 ∷ 64 ∷ 0 ∷ 64 ∷ []
 
--- one of so many addresses, up to 2^64 - 2
+-- an image whose addresses end at 2^64 - 2
 abbrev pub highSegment : ℕ → List ℕ
 highSegment n = (2 ^ 64 - 1 - n) ∷ n ∷ 0 ∷ 64 ∷ []
 
@@ -54,7 +54,7 @@ pub record Bodies : Type 0 where
   pub class-short : run (base ++ two) lowSegment (body 0x1000 0x10) ≡ none
   pub module-none : (image segments : List ℕ) (a : ℕ) → run image segments (body a 0x20000000) ≡ none
   pub other-none : (image segments : List ℕ) (a : ℕ) → run image segments (body a 19) ≡ none
-  -- the last struct, and one further
+  -- the last address of a struct, and the next one
   pub last : run two (highSegment 8) (body (2 ^ 64 - 29) 17) ≡ some (ofStruct 2 9)
   pub past-last : (image segments : List ℕ) → run image segments (body (2 ^ 64 - 28) 17) ≡ none
   pub past-last-class : (image segments : List ℕ) → run image segments (body (2 ^ 64 - 44) 16) ≡ none

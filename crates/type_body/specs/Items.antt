@@ -1,4 +1,4 @@
--- What a slot has beside its row and body, as programs of reads: its blocks, and the records of a singleton. docs/SPECIFICATION.md, "Items, paths and the cut".
+-- What a slot has besides its row and body, as programs of reads: its blocks, and its singleton records. docs/SPECIFICATION.md, "Items, paths and the cut".
 use Prim.Native.Nat.{ℕ, _^_}
 use mathlib.Core.List.{List}
 use mathlib.Core.Bool.{cond}
@@ -21,7 +21,7 @@ slotBlock types start i k =
     bind (slotRow types start i)
     (λ r. bind (body (r .address) (r .flags)) (λ b. block (trailing (r .flags) b) (trailingStart (r .address) b) k))
 
--- where a block lies of which no more is recorded
+-- where a block lies, if nothing else of it is recorded
 abbrev pub placeOf : BlockBody → Option ℕ
 placeOf (BlockBody.At a) = some a
 placeOf (BlockBody.Table o n a) = none
@@ -47,7 +47,7 @@ pub record Start : Type 0 where
   pub trailing : Trailing
   pub start : ℕ
 
--- a row and a body that were made up may have them start at or above 2^64: then there are none
+-- made-up rows and bodies may have them start at or above 2^64: then there are none
 unfoldable pub startBelow : Start → Option Start
 startBelow s = cond (leb (2 ^ 64) (s .start)) none (some s)
 

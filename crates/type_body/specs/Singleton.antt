@@ -1,4 +1,4 @@
--- The records of a singleton: docs/SPECIFICATION.md, "Singleton records"; Metadata.h, `TargetSingletonMetadataInitialization` (the
+-- Singleton records: docs/SPECIFICATION.md, "Singleton records"; Metadata.h, `TargetSingletonMetadataInitialization` (the
 -- initialization cache, the incomplete metadata, the completion function) and `TargetSingletonMetadataPointer`: relative pointers.
 use Prim.Native.Nat.{ℕ, _+_, _^_}
 use mathlib.Core.List.{List}
@@ -20,12 +20,13 @@ pub record Initialization : Type 0 where
 abbrev pub initialization : ℕ → ℕ → ℕ → Initialization
 initialization c i f = record { cache = c; incomplete = i; completion = f }
 
--- what the offset at `o` of a record at `a` refers to: offset 0 to address 0, wherever its slot lies; another one's slot has to lie below 2^64
+-- what the offset at `o` of a record at `a` refers to: offset 0 to address 0, wherever its slot lies; the slot of any other offset must lie
+-- below 2^64
 unfoldable pub slotTarget : ℕ → List ℕ → ℕ → Option ℕ
 slotTarget a h o =
     cond (eqb (unsignedIn 4 h o) 0) (some 0) (cond (leb (2 ^ 64) (a + o)) none (some (relativePointer (a + o) (signedIn 4 h o))))
 
--- what has to be there before a program goes on
+-- what must exist before a program goes on
 abbrev pub needing : {A B : Type 0} → Option A → (A → Reads B) → Reads B
 needing none f = nothing
 needing (some x) f = f x

@@ -13,7 +13,7 @@ unfoldable pub hex : ℕ → ℕ → List ℕ
 hex zero n = []
 hex (suc k) n = digit (n / 16 ^ k % 16) ∷ hex k n
 
--- the decimal digits, with no zero in front: at most `k`
+-- the decimal digits, without leading zeros: at most `k`
 unfoldable pub decimal : ℕ → ℕ → List ℕ
 decimal zero n = []
 decimal (suc k) n = cond (ltb n 10) (digit n ∷ []) (decimal k (n / 10) ++ (digit (n % 10) ∷ []))

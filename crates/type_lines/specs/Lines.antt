@@ -27,7 +27,7 @@ space = 32 ∷ []
 abbrev pub newline : List ℕ
 newline = 10 ∷ []
 
--- by the low five bits of the flags
+-- the kind's word, by the low five bits of the flags
 unfoldable pub kindWord : ℕ → List ℕ
 kindWord flags =
     cond (eqb (flags % 32) 16) (letters "class")
@@ -72,13 +72,13 @@ pub record Line (W : Type 0) : Type 0 where
 abbrev pub line : {W : Type 0} → List ℕ → W → Line W
 line t w = record { text = t; size = length t; next = w }
 
--- the line of a step, none where it gives none
+-- the line of a step; none if it gives none
 abbrev pub lineText : {W : Type 0} → Guarded (Option (Line W)) → Option (List ℕ)
 lineText (answered none) = none
 lineText (answered (some l)) = some (l .text)
 lineText (refused n) = none
 
--- the lines of the rows: the row's that comes next, or the last one
+-- the lines of the rows: that of the next row, or the last line
 abbrev pub lineAt : List ℕ → List ℕ → ℕ → Option Found → Line LineIter
 lineAt image segments given none = line (endLine given) (record { slot = 0; given = given; ended = true })
 lineAt image segments given (some f) = line (rowLine image segments (f .row)) (record { slot = f .next; given = (given + 1) % 2 ^ 64; ended = false })
@@ -87,7 +87,7 @@ unfoldable pub lineStep : List ℕ → List ℕ → List ℕ → ℕ → LineIte
 lineStep image segments types start c =
     cond (c .ended) none (some (lineAt image segments (c .given) (nextRow image segments types start (c .slot))))
 
--- what a step's answer says, of the line's buffer after it
+-- what a step's answer says, with the line's buffer after it
 abbrev pub lineAnswer : List ℕ → NextLine → Guarded (Option (Line LineIter))
 lineAnswer buffer (NextLine.Line n l) = answered (some (record { text = take n buffer; size = n; next = l }))
 lineAnswer buffer NextLine.Done = answered none

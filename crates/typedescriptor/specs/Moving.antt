@@ -1,4 +1,4 @@
--- Rows read one after the other with a mapping at hand (docs/DECISIONS.md, "Speed"): it moves to each descriptor before its row is read.
+-- Rows read one after the other with a mapping (docs/DECISIONS.md, "Speed"): it moves to each descriptor before its row is read.
 use Prim.Native.Nat.{ℕ}
 use mathlib.Core.Path.{_≡_}
 use mathlib.Core.List.{List}
@@ -9,7 +9,7 @@ use Rattle.typedescriptor.specs.Row.{descriptorOf}
 use Rattle.typedescriptor.specs.Slots.{slotRow}
 use Rattle.typedescriptor.specs.declared.descriptor.Descriptor.{Descriptor}
 
--- a mapping that is true of the segments leads to another that is, and the row is the slot's
+-- a true mapping leads to another true mapping, and the row is the slot's
 pub record RowMoved (image segments : List ℕ) (m : Mapping) (types : List ℕ) (start i : ℕ) (d : Descriptor) (r : Mapping) : Type 0 where
   pub mapped : TrueMapping segments m → TrueMapping segments r
   pub row : TrueMapping segments m → descriptorOf image d ≡ run image segments (slotRow types start i)

@@ -15,7 +15,7 @@ use Rattle.typedescriptor.specs.declared.descriptor.Descriptor.{Descript
 pub record TypeRow : Type 0 where
   pub address : ℕ
   pub flags : ℕ
-  -- the parent context's address, 0 where there is none
+  -- the parent context's address, 0 if there is none
   pub parent : ℕ
   -- where the name lies in the image, and its bytes
   pub name : Place
@@ -32,7 +32,7 @@ typeRow a h p t =
       nameBytes = t;
     }
 
--- the address of the name, by the descriptor's 20 bytes. An offset of 0 is no exception: it refers to its own slot.
+-- the address of the name, from the descriptor's 20 bytes. An offset of 0 is no exception: it refers to its own slot.
 abbrev pub nameAddress : ℕ → List ℕ → ℕ
 nameAddress a h = relativePointer (a + 8) (signedIn 4 h 8)
 
@@ -44,7 +44,7 @@ rowName a h = cond (leb (2 ^ 64) (a + 8)) nothing (text (nameAddress a h) (λ p 
 unfoldable pub descriptor : ℕ → Reads TypeRow
 descriptor a = bytes a 20 (rowName a)
 
--- what a call's row says, of the image that it was read from
+-- what a call's row says, for the image that it was read from
 abbrev pub rowOf : List ℕ → Row → TypeRow
 rowOf image r =
     record {

@@ -1,5 +1,5 @@
 -- The types section: docs/SPECIFICATION.md, "Type rows": a list of slots of four bytes, each the offset of a descriptor from the slot's own
--- address; a short last slot is not a slot. The address of a slot is the section's plus 4 for each slot before it, modulo 2^64.
+-- address; a shorter last piece is not a slot. The address of a slot is the section's plus 4 for each slot before it, modulo 2^64.
 use Prim.Native.Nat.{ℕ, zero, suc, _+_, _-_, _*_, _/_, _%_, _^_}
 use mathlib.Core.List.{List, [], _∷_}
 use mathlib.Core.Bool.{cond}
@@ -33,7 +33,7 @@ pub record Found : Type 0 where
 abbrev pub found : ℕ → TypeRow → Found
 found i r = record { slot = i; row = r; next = i + 1 }
 
--- the first row of so many slots from slot `i` on: a slot without a row is passed over
+-- the first row of `n` slots from slot `i` on: a slot without a row is passed over
 unfoldable pub firstRow : List ℕ → List ℕ → List ℕ → ℕ → ℕ → ℕ → Option Found
 firstRow image segments types start zero i = none
 firstRow image segments types start (suc n) i =
@@ -46,7 +46,7 @@ firstRow image segments types start (suc n) i =
 unfoldable pub nextRow : List ℕ → List ℕ → List ℕ → ℕ → ℕ → Option Found
 nextRow image segments types start i = firstRow image segments types start (slots types - i) i
 
--- all rows of so many slots from slot `i` on, each with its slot, in the slots' order
+-- all rows of `n` slots from slot `i` on, each with its slot, in the order of the slots
 unfoldable pub rowsFrom : List ℕ → List ℕ → List ℕ → ℕ → ℕ → ℕ → List Found
 rowsFrom image segments types start zero i = []
 rowsFrom image segments types start (suc n) i =

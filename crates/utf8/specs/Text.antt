@@ -1,4 +1,4 @@
--- A text in a list of bytes, as a computation: up to the first NUL or to the end, and there only if it is well-formed.
+-- A text in a list of bytes, as a computation: up to the first NUL or to the end; it exists only if it is well-formed.
 use Prim.Native.Nat.{ℕ, zero, suc}
 use mathlib.Core.List.{List, [], _∷_}
 use mathlib.Core.Bool.{Bool, true, false, _&&_}
@@ -14,13 +14,13 @@ use Rattle.utf8.specs.declared.Scan.the-variants.{Text, IllFormed}
 abbrev pub inRange : ByteRange → ℕ → Bool
 inRange r b = leb (r .low) b && leb b (r .high)
 
--- what has to follow a byte that starts a sequence of one of the rows
+-- what must follow a byte that starts a sequence of one of the rows
 unfoldable pub following : List (List ByteRange) → ℕ → Option (List ByteRange)
 following [] b = none
 following ([] ∷ rows) b = following rows b
 following ((r ∷ rs) ∷ rows) b = elim (inRange r b) [ true ↦ some rs | false ↦ following rows b ]
 
--- whether bytes that have to start in the pending ranges, and then go on with whole sequences, do so.
+-- whether the bytes start in the pending ranges, and then go on with whole sequences.
 -- `Utf8Laws.utf8-sound` and `Utf8Laws.utf8-complete` say that with nothing pending this is `WellFormed`.
 unfoldable pub goesOn : List ℕ → List ByteRange → Bool
 goesOn [] [] = true
@@ -31,7 +31,7 @@ goesOn (b ∷ bs) (r ∷ rs) = inRange r b && goesOn bs rs
 abbrev pub wellFormed : List ℕ → Bool
 wellFormed s = goesOn s []
 
--- the bytes before the first NUL, all where there is none
+-- the bytes before the first NUL; all of them if there is none
 unfoldable pub untilNul : List ℕ → List ℕ
 untilNul [] = []
 untilNul (zero ∷ s) = []
@@ -45,7 +45,7 @@ abbrev pub scanned : Scan → Option ℕ
 scanned (Text n) = some n
 scanned IllFormed = none
 
--- what a lead byte's limits say of the bytes after it: one-to-one (`Utf8Laws.leads-injective`)
+-- what a lead byte's limits say about the bytes after it: one-to-one (`Utf8Laws.leads-injective`)
 abbrev pub leads : Lead → Option (List ByteRange)
 leads Alone = some []
 leads (Tail low high more) = some (_to_ low high ∷ replicate more (_to_ 0x80 0xbf))

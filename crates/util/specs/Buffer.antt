@@ -15,7 +15,7 @@ pasted buffer at piece = take at buffer ++ (piece ++ drop (at + length piece) bu
 abbrev pub atStart : List ℕ → List ℕ → List ℕ
 atStart t buffer = t ++ drop (length t) buffer
 
--- the buffer after a call that gives a text at its start: as it was where the call gives none
+-- the buffer after a call that writes a text at its start: unchanged if the call writes none
 abbrev pub overwritten : List ℕ → Option (List ℕ) → List ℕ
 overwritten buffer none = buffer
 overwritten buffer (some t) = atStart t buffer
@@ -23,14 +23,14 @@ overwritten buffer (some t) = atStart t buffer
 abbrev pub fitsIn : List ℕ → ℕ → List ℕ → Bool
 fitsIn buffer at piece = leb (at + length piece) (length buffer)
 
--- where a piece that is put at a place ends, and what the buffer is then: one that does not fit leaves it as it is
+-- where a piece that is put at a place ends, and the buffer after that: a piece that does not fit leaves it unchanged
 unfoldable pub putEnd : List ℕ → ℕ → List ℕ → ℕ
 putEnd buffer at piece = cond (fitsIn buffer at piece) (at + length piece) at
 
 unfoldable pub putInto : List ℕ → ℕ → List ℕ → List ℕ
 putInto buffer at piece = cond (fitsIn buffer at piece) (pasted buffer at piece) buffer
 
--- a piece was put at a place: where it ends, and what the buffer is then
+-- a piece was put at a place: where it ends, and the buffer after that
 pub record Put (buffer : List ℕ) (at : ℕ) (piece : List ℕ) (end : ℕ) (buffer′ : List ℕ) : Type 0 where
   pub ends : end ≡ at + length piece
   pub holds : buffer′ ≡ pasted buffer at piece

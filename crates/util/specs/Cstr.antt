@@ -17,11 +17,11 @@ pub record Place : Type 0 where
 abbrev pub place : ℕ → ℕ → Place
 place o n = record { start = o; size = n }
 
--- where the text is; an offset past the end has none, one at the end the empty text
+-- where the text is; there is none at an offset past the end, and the empty text at the end
 unfoldable pub textAt : List ℕ → ℕ → Option Place
 textAt s off = cond (leb off (length s)) (Option·map (place off) (textLength (drop off s))) none
 
--- the bytes of a part, none where it does not lie within
+-- the bytes of a part, none if it does not lie within
 unfoldable pub partOf : List ℕ → Place → List ℕ
 partOf s p = cond (leb (p .start + p .size) (length s)) (take (p .size) (drop (p .start) s)) []
 
@@ -29,11 +29,11 @@ abbrev pub textOf : Text → Option Place
 textOf (At o n) = some (place o n)
 textOf Nothing = none
 
--- the bytes of a text, none where there is none
+-- the bytes of a text, none if there is none
 abbrev pub textPart : List ℕ → Option Place → List ℕ
 textPart s none = []
 textPart s (some p) = partOf s p
 
--- the text of a field of fixed size (`segname` and `sectname` of mach-o/loader.h): up to the first NUL, the empty one where that is ill-formed
+-- the text of a field of fixed size (`segname` and `sectname` of mach-o/loader.h): up to the first NUL; empty if that is ill-formed
 unfoldable pub fixedText : List ℕ → List ℕ
 fixedText s = cond (wellFormed (untilNul s)) (untilNul s) []

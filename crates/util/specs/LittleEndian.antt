@@ -24,14 +24,14 @@ bytesAt n s off = cond (leb (off + n) (length s)) (some (take n (drop off s))) n
 unfoldable pub littleAt : ℕ → List ℕ → ℕ → Option ℕ
 littleAt n s off = Option·map littleEndian (bytesAt n s off)
 
--- the number that `n` means in so many bits of two's complement
+-- the number that `n` means in two's complement of `bits` bits
 unfoldable pub twosComplement : ℕ → ℕ → ℤ
 twosComplement bits n = cond (ltb n (2 ^ (bits - 1))) (pos n) (pos n -ℤ pos (2 ^ bits))
 
 unfoldable pub signedAt : ℕ → List ℕ → ℕ → Option ℤ
 signedAt n s off = Option·map (twosComplement (8 * n)) (littleAt n s off)
 
--- the numbers in the bytes of a header, 0 where they would run past it
+-- the numbers in the bytes of a header, 0 if they would run past it
 unfoldable pub unsignedIn : ℕ → List ℕ → ℕ → ℕ
 unsignedIn n header off = Option·getD (littleAt n header off) 0
 

@@ -1,6 +1,6 @@
--- The entries of a table: docs/SPECIFICATION.md, "Entries"; Metadata.h, `TargetMethodDescriptor`,
--- `TargetMethodOverrideDescriptor`, `TargetMethodDefaultOverrideDescriptor`, and the canonical specialized metadatas. One definition
--- over what the words of an entry are.
+-- The entries of a table: docs/SPECIFICATION.md, "Entries"; Metadata.h, `TargetMethodDescriptor`, `TargetMethodOverrideDescriptor`,
+-- `TargetMethodDefaultOverrideDescriptor`, and the canonical specialized metadata. One definition covers them all, over what the
+-- words of an entry are.
 use Prim.Native.Nat.{ℕ, zero, suc, _+_, _-_, _*_, _^_}
 use mathlib.Core.List.{List, [], _∷_}
 use mathlib.Core.Bool.{cond}
@@ -23,7 +23,7 @@ pub data Word : Type 0 where
   number : Word
   pointer : Word
 
--- what the words of an entry are, and how far its start is from the next entry's
+-- what the words of an entry are, and how many bytes it is from its start to the next entry's
 pub record Layout : Type 0 where
   pub words : List Word
   pub stride : ℕ
@@ -71,7 +71,7 @@ pub record Entry : Type 0 where
   pub address : ℕ
   pub words : List ℕ
 
--- the entry that these bytes are, at an address
+-- the entry at an address that has these bytes
 abbrev pub entryOf : Layout → ℕ → List ℕ → Entry
 entryOf layout a h = record { address = a; words = wordsFrom (layout .words) a 0 h }
 
@@ -93,7 +93,7 @@ upTo layout base (suc k) = bind (upTo layout base k) (λ _. entryAt layout base 
 unfoldable pub entry : Layout → ℕ → ℕ → ℕ → Reads Entry
 entry layout base count k = cond (ltb k count) (upTo layout base k) nothing
 
--- a walk: the table's start, the number of its entries, and the next one's. A walk starts at entry 0
+-- a walk: the table's start, how many entries it has, and the number of the next one. A walk starts at entry 0
 abbrev pub start : ℕ → ℕ → EntryIter
 start base count = record { «base_va» = base; count = count; next = 0 }
 
@@ -109,14 +109,14 @@ unfoldable pub entryStep : List ℕ → List ℕ → Layout → EntryIter → Op
 entryStep image segments layout c =
     cond (ltb (c .next) (c .count)) (some (record { found = run image segments (entryAt layout (c .«base_va») (c .next)); next = moved c })) none
 
--- the bytes of entry `k` of a table of entries of `size` bytes, `stride` bytes from one to the next, as the calls hand them on: none where
--- one of the entry's words, the last one at `size` - 4, does not lie below 2^64
+-- the bytes of entry `k` of a table of entries of `size` bytes, `stride` bytes from one to the next, as the calls hand them on: none if
+-- one of the entry's words, the last of which is at `size` - 4, does not lie below 2^64
 unfoldable pub entryBytes : List ℕ → List ℕ → ℕ → ℕ → ℕ → ℕ → List ℕ
 entryBytes image segments size stride base k =
     cond (ltb size 4) []
     (cond (leb (2 ^ 64) (base + stride * k + (size - 4))) [] (bytesRead image segments (base + stride * k) size))
 
--- an entry as a value of three words: one that its kind does not have is 0
+-- an entry as a value of three words: a word that its kind does not have is 0
 abbrev pub tableEntry : Entry → TableEntry
 tableEntry e = record { address = e .address; first = getD (e .words) 0 0; second = getD (e .words) 1 0; third = getD (e .words) 2 0 }
 

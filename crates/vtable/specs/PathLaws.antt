@@ -15,7 +15,7 @@ use Rattle.runtime.specs.ReadsLaws.{run-bind, path-bind}
 use Rattle.runtime.specs.PathLaws.{path-bytes, bytes-read}
 use Rattle.vtable.specs.Entries.{Layout, method, override, defaultOverride, prespecialization, entrySize, Entry, entryOf, entryAddress, entryAt, upTo, entry}
 
--- where an address lies in the file, 0 where it does not
+-- where an address lies in the file, 0 if it does not
 abbrev pub offsetOrZero : List ℕ → ℕ → ℕ
 offsetOrZero segments a = Option·getD (fileOffset (segmentsOf segments) a) 0
 
