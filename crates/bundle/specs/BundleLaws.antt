@@ -1,5 +1,5 @@
--- Records that obey the rules are opened with their layout (`complete`), and what is opened are such records (`sound`).
--- So refusal 2 is given exactly for bytes, not too many, of no such records (`broken-refused`, `refused-broken`).
+-- Records that obey the rules are opened with their layout (`complete`), and only such records are opened (`sound`). So
+-- refusal 2 is given exactly for bytes, not too many, that are not such records (`broken-refused`, `refused-broken`).
 -- Assumes nothing.
 use Prim.Native.Nat.{ℕ, zero, suc, _+_, _-_, _*_, _/_, _%_, _^_, _≤_, _<_}
 use native.Mathlib.Nat.{pow-succ'}
@@ -26,7 +26,7 @@ unfolding littleBytes
 little-length zero n = refl
 little-length (suc w) n = ap suc (little-length w (n / 256))
 
--- a number of so many bytes is the number of its bytes
+-- a number that fits in `w` bytes is the number of its bytes
 pub little-of : (w n : ℕ) → n < 256 ^ w → littleEndian (littleBytes w n) ≡ n
 unfolding littleEndian littleBytes
 little-of zero n h = omega arith
@@ -44,7 +44,7 @@ of-little (suc w) (x ∷ s) b h =
     let high : (x + 256 * littleEndian (take w s)) / 256 ≡ littleEndian (take w s) = omega (arith, b 0) in
     rw (low, high) (ap (λ (t : List ℕ). x ∷ t) (of-little w s (λ i. b (suc i)) (omega arith)))
 
--- what stands at an offset where a record is encoded
+-- the bytes at an offset where a record is encoded
 module _ (s : List ℕ) (at : ℕ) (r : Record) (rest : List ℕ) (e : drop at s ≡ encoded r ++ rest) where
   header : drop at s ≡ littleBytes 4 (length (r .body)) ++ (littleBytes 2 (r .kind) ++ (r .body ++ rest))
   unfolding encoded
@@ -107,7 +107,7 @@ record Stage (s : List ℕ) (at last : ℕ) (rs : List Record) : Type 0 where
   rising : Rising last rs
   bytes : drop at s ≡ bundleBytes rs
 
--- what is taken for a kind is its record, and the other kinds are where they were
+-- what is taken for a kind is its record, and the other kinds stay where they were
 record Step (t : Taken) (at kind : ℕ) (rs rest : List Record) : Type 0 where
   here : t .part ≡ bodyPlace kind at rs
   later : (j : ℕ) → kind < j → bodyPlace j at rs ≡ bodyPlace j (t .next) rest
@@ -228,7 +228,7 @@ module _ (s : List ℕ) (r0 r1 r2 r3 r4 r5 : List Record) (s1 : Step (image s) 0
       let p5 = s5 .here ∙ sym (from3 5 (omega arith) ∙ s4 .later 5 (omega arith)) in
       rw (whole, s1 .here, p2, p3, p4, p5)
 
--- a kind has a place exactly where there is a record of it
+-- a kind has a place exactly if there is a record of it
 placed : (k at : ℕ) (rs : List Record) → List·Memᴰ k (kinds rs) → 0 < bodyPlace k at rs .start
 unfolding bodyPlace
 placed k at [] m = absurd (List·Memᴰ·not-nil m)
@@ -269,7 +269,7 @@ complete rs obeys short =
     sym (opens s refl refl refl refl refl refl refl refl (λ q. omega arith) (none-left s (strings s .next) (f5 .rest) (f5 .stage)) short)
     ∙ ap answered (laid s rs (f1 .rest) (f2 .rest) (f3 .rest) (f4 .rest) (f5 .rest) (f1 .step) (f2 .step) (f3 .step) (f4 .step) (f5 .step) refl)
 
--- records that stand behind a layout of bytes
+-- records whose bytes have a layout
 pub record Behind (s : List ℕ) (l : Layout) : Type 0 where
   pub records : List Record
   pub obeys : Obeys records
@@ -277,7 +277,7 @@ pub record Behind (s : List ℕ) (l : Layout) : Type 0 where
   pub layout : layoutOf records ≡ l
   pub short : length s ≤ bundleMost
 
--- what it takes to be opened
+-- what a bundle needs to be opened
 pub opened-short : (s : List ℕ) (l : Layout) → openBundle s ≡ answered l → length s ≤ bundleMost
 opened-short s l e =
     elim (decLe (length s) bundleMost) [
@@ -328,7 +328,7 @@ sound s l bytes e =
       short = short;
     }
 
--- a bundle that is not too long is refused 2 if it breaks the rules, and only then
+-- a bundle that is not too long is refused with 2 if it breaks the rules, and only then
 module _ (s : List ℕ) where
   pub broken-refused : Bytes s → length s ≤ bundleMost → ((rs : List Record) → Obeys rs → bundleBytes rs ≡ s → ⊥) → openBundle s ≡ refused 2
   broken-refused bytes short broken =

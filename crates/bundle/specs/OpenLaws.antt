@@ -1,4 +1,4 @@
--- What the tests of the code, one after the other, say of the definitions of `Open`. Assumes nothing.
+-- What the tests of the code, one after the other, say about the definitions of `Open`. Assumes nothing.
 use Prim.Native.Nat.{ℕ, _+_, _-_, _%_, _≤_, _<_}
 use native.Mathlib.Omega.{arith}
 use mathlib.Core.Path.{_≡_, refl, sym, _∙_, ap}

@@ -1,4 +1,4 @@
--- A step of the printer, by what is left to print.
+-- A step of the printer, for each case of what is left to print.
 use Prim.Native.Nat.{ℕ, _%_}
 use native.Mathlib.Nat.{zero-add}
 use native.Mathlib.Omega.{arith}
@@ -81,7 +81,7 @@ step-size s segments (rows l c) t e = go (c .ended) (nextRow (bytesOf s (l .imag
 step-size s segments (refusal n) t e = let q : line (refusedLine n) finished ≡ t = cc in rw (← q)
 step-size s segments finished t e = let z : _≡_ {A = ℕ} 0 1 = cc in absurd (omega arith)
 
--- so the part of the buffer that an answer tells of is the text
+-- so the part of the buffer that an answer is about is the text
 pub step-part : (s segments : List ℕ) (p q : Pending) (b text : List ℕ) (n : ℕ) → some (record { text = take n b; size = n; next = q }) ≡ printStep s segments p → text ≡ partOf b (place 0 n)
     → lineText (answered (printStep s segments p)) ≡ some text
 step-part s segments p q b text n e et =

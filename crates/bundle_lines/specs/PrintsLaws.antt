@@ -1,4 +1,4 @@
--- Stepping to the end gives the lines of the definition, and nothing is left then: for every bundle, and for every number of steps from
+-- Stepping to the end gives the lines of the definition, and then nothing is left: for every bundle, and for every number of steps from
 -- 16,385 on.
 use Prim.Native.Nat.{ℕ, zero, suc, _+_, _-_, _%_, _^_, _≤_, _<_}
 use native.Mathlib.Nat.{add-zero, zero-add, mod-eq-of-lt}
@@ -37,7 +37,7 @@ module _ (s segments : List ℕ) where
   unfolding taken
   taken-some n p t e = rw (taken, e)
 
-  -- a walk that has given so many lines has the others left
+  -- a walk that has given some lines has the others left
   pub record Going (first : Pending) (lines : ℕ) (now : Pending) : Type 0 where
     pub few : lines ≤ linesMost
     pub rest : lines + length (taken (linesMost - lines) s segments now .lines) ≡ length (taken linesMost s segments first .lines)
@@ -148,7 +148,7 @@ bundle-prints s l n f h =
     let u : taken n s ns (at s ns l 0 0) ≡ spelled s ns l 0 (Slots.rows (bytesOf s (l .image)) ns (bytesOf s (l .types .part)) (l .types .address)) = t ∙ ap (spelled s ns l 0) (sym all) in
     rw (numbers-all s l f) (ap (λ (u : Taken). u .lines) u ∙ rw zero-add, ap (λ (u : Taken). printStep s ns (u .left)) u ∙ over-none s ns l _)
 
--- for every bundle, what the steps give is what is printed, and then nothing is left
+-- for every bundle, the steps give what is printed, and then nothing is left
 pub prints : (s : List ℕ) (n : ℕ) → linesMost ≤ n → Prints s n (startOf (openBundle s)) (printed s)
 unfolding printed
 prints s n h = go (openBundle s) refl
@@ -165,7 +165,7 @@ prints s n h = go (openBundle s) refl
 -- ---- the program's call of the steps
 
 module _ (s : List ℕ) (p : Pending) where
-  -- the segments' numbers are whole segments, and are lent from the start of their list
+  -- the segments' numbers are whole segments, and are passed on from the start of their list
   pub numbers-whole : length (numbersFor s p) % 4 ≡ 0
   numbers-whole = go p
     where

@@ -1,5 +1,4 @@
--- What a layout tells of is in the bytes: its places lie within, and the bytes there are the records' bodies.
--- Assumes nothing.
+-- A layout's places lie within the bytes, and the bytes there are the records' bodies. Assumes nothing.
 use Prim.Native.Nat.{ℕ, _+_, _-_, _%_, _≤_, _<_}
 use native.Mathlib.Omega.{arith}
 use mathlib.Core.Path.{_≡_, refl, _∙_, ap, subst}

@@ -1,4 +1,5 @@
--- What the reads of the code, one after the other, say of the segments; and that a segment by its number is the one of that number in the list of all. Assumes nothing.
+-- What the reads of the code, one after the other, say about the segments; and that the segment with a number is the one with that number
+-- in the list of all. Assumes nothing.
 use Prim.Native.Nat.{ℕ, zero, suc, _+_, _*_, _/_, _%_, _≤_, _<_, min}
 use native.Mathlib.Decide.{decLe}
 use native.Mathlib.Numerals.{add-one}
@@ -79,7 +80,7 @@ numbers-snoc (suc n) s =
 
 -- ---- filling a list
 
--- so many segments are in the list already
+-- some segments are already in the list
 pub record Started (body list list′ : List ℕ) (k : ℕ) : Type 0 where
   pub bound : 4 * k ≤ segmentNumbersMost
   pub within : 32 * k ≤ length body
@@ -115,7 +116,7 @@ started-more body list list′ k g f e h =
       holds = put-number body list _ (4 * k + 3) (4 * (k + 1)) (32 * k + 24) (g .filesize) three (omega arith) (omega arith) (omega arith) (r .filesize);
     }
 
--- where the walk ends, all that the list takes is there
+-- when the walk ends, the list has all that it can hold
 module _ (s : List ℕ) (l : Layout) (list list′ : List ℕ) (k : ℕ) (f : Started (segmentBytes s l) list list′ k) where
   filled : 4 * k ≡ min segmentNumbersMost (4 * (length (segmentBytes s l) / 32))
       → (4 * k ≡ length (listedNumbers s l)) × (list′ ≡ atStart (listedNumbers s l) list)
@@ -156,7 +157,7 @@ module _ (s : List ℕ) (l : Layout) where
   pub numbers-whole : Fit s l → 8 * length (segmentNumbers s l) ≡ l .segments .length
   numbers-whole f = omega (arith, numbers-length (4 * (length (segmentBytes s l) / 32)) (segmentBytes s l), segments-length s l f, f .whole)
 
-  -- the part of the list that a caller hands on
+  -- the part of the list that a caller passes on
   pub listed-part : (list list′ : List ℕ) (r : ℕ) → r ≡ length (listedNumbers s l) → list′ ≡ listedNumbers s l ++ drop r list → take r list′ ≡ listedNumbers s l
   listed-part list list′ r er e = rw e (take-at (listedNumbers s l) (drop r list) r (sym er))
 
@@ -185,7 +186,7 @@ segment-later body k =
     later : (o at : ℕ) → at ≡ 32 + o → u64In body at ≡ u64In (drop 32 body) o
     later o at e = rw (e, drop-drop)
 
--- so the segment of a number is the one of that number among all
+-- so the segment with a number is the one with that number among all
 segment-nth : (n : ℕ) (body : List ℕ) (k : ℕ) → n ≡ length body / 32 → segmentIn body k ≡ getElem? (segmentsOf (numbers (4 * n) body)) k
 unfolding numbers segmentsOf
 segment-nth zero body k e = sym (segment-past body k (omega arith))

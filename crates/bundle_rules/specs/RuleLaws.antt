@@ -1,5 +1,5 @@
--- What the tests of the code, one after the other, say of the definitions of `Rule`; and that no rule is told exactly where `openBundle` does not refuse with 2.
--- Assumes nothing.
+-- What the tests of the code, one after the other, say about the definitions of `Rule`; and that no rule is reported exactly if
+-- `openBundle` does not refuse with 2. Assumes nothing.
 use Prim.Native.Nat.{ℕ, zero, suc, _+_, _-_, _≤_, _<_}
 use native.Mathlib.Decide.{decLe}
 use native.Mathlib.Omega.{arith}
@@ -84,7 +84,7 @@ module _ (s : List ℕ) (last at : ℕ) where
         ∙ (λ i. checkKind last (little-value 2 s (at + 4) k found i) (size-is i) (at + 6 + size-is i))
         ∙ check-whole (omega (arith, size-is, whole))
 
--- what a record says that keeps the rules
+-- what a record says that obeys the rules
 pub record Kept (s : List ℕ) (last at k n : ℕ) : Type 0 where
   pub above : last < k
   pub high : k ≤ 5
@@ -114,7 +114,7 @@ pub too-long-whole : (s : List ℕ) → bundleMost < length s → Broken.Whole �
 unfolding brokenRule
 too-long-whole s h = rw (lt-ltb bundleMost (length s) h)
 
--- where the walk stands, with turns enough for the kinds that are left
+-- where the walk stands, with enough turns for the kinds that are left
 pub record RulesWalked (s : List ℕ) (image : Bool) (last at : ℕ) : Type 0 where
   pub turns : ℕ
   pub enough : 6 ≤ turns + last
@@ -126,7 +126,7 @@ unfolding brokenRule
 walked-none s h = record { turns = 6; enough = omega arith; low = omega arith; same = sym (rw (le-ltb bundleMost (length s) h)) }
 
 module _ (s : List ℕ) (image : Bool) (last at : ℕ) where
-  -- a turn, where there is one left
+  -- a turn, if one is left
   turned : (n : ℕ) → at < length s → walk (suc n) s image last at ≡ turn at (checkAt s last at) (λ kind next. walk n s (eqb kind 1 || image) kind next)
   unfolding walk
   turned n h = rw (walk, lt-leb (length s) at h)
@@ -168,7 +168,7 @@ module _ (s : List ℕ) (image : Bool) (last at : ℕ) where
   pub walked-missing : RulesWalked s image last at → length s ≤ at → image ≡ false → Broken.At Rule.NoImage (length s) ≡ brokenRule s
   walked-missing w h e = sym (ap (atEnd s) e) ∙ walked-ended w h
 
--- whether there was an image, as the code has it after a record that kept the rules
+-- whether there was an image, as the code has it after a record that obeyed the rules
 module _ (s : List ℕ) (image : Bool) (k n : ℕ) where
   pub seen-image : k ≡ 1 → RulesWalked s (eqb k 1 || image) k n → RulesWalked s (eqb k 1) k n
   seen-image e w = subst (λ (b : Bool). RulesWalked s b k n) (rw (eq-eqb k 1 e)) w
@@ -176,7 +176,7 @@ module _ (s : List ℕ) (image : Bool) (k n : ℕ) where
   pub seen-other : (k ≡ 1 → ⊥) → RulesWalked s (eqb k 1 || image) k n → RulesWalked s image k n
   seen-other e w = subst (λ (b : Bool). RulesWalked s b k n) (rw (ne-eqb k 1 e)) w
 
--- ---- whole exactly where it is not refused for a rule
+-- ---- whole exactly if it is not refused for a rule
 
 abbrev isWhole : Broken → Bool
 isWhole (Broken.At r at) = false
@@ -186,7 +186,8 @@ above-same : (a b k n next : ℕ) → ltb a k ≡ ltb b k → checkKind a k n ne
 unfolding checkKind
 above-same a b k n next e = rw e
 
--- a kind that is not there may be passed over: a record that is not of it breaks the same rule, or keeps them, and one of it that does not fit breaks a rule either way
+-- a kind that is missing may be passed over: a record of another kind breaks the same rule, or obeys the rules, and a record of this kind
+-- that does not fit breaks a rule either way
 module _ (last at : ℕ) (most : suc last ≤ 5) (more : ℕ → ℕ → Broken) where
   abbrev wholeAfter : Checked → Bool
   wholeAfter c = isWhole (turn at c more)
@@ -258,7 +259,7 @@ walk-end n s image at =
     breaks (Checked.Breaks r) e = refl
     breaks (Checked.Keeps k m) e = absurd (omega (arith, kept-by-check s 5 at k m e .above, kept-by-check s 5 at k m e .high))
 
--- the kinds up to `last` are taken, as `openBundle` takes them, with turns enough for the others
+-- the kinds up to `last` are taken, as `openBundle` takes them, with enough turns for the others
 record Stage (s : List ℕ) (image : Bool) (last at : ℕ) : Type 0 where
   turns : ℕ
   enough : 6 ≤ turns + last
@@ -277,7 +278,7 @@ stage s image last at most st = go (isAt (suc last) s at) refl (st .turns) (st .
         subst (λ (t : Taken). Stage s image (suc last) (t .next)) (take-none (suc last) s at is)
         (record { turns = suc n; enough = omega arith; same = f ∙ walk-passed s image last at most (suc n) is })
 
--- after the image, whether there was one stays
+-- after the image, it stays settled whether there was one
 stage-later : (s : List ℕ) (image : Bool) (last at : ℕ) → suc last ≤ 5 → 1 ≤ last → Stage s image last at → Stage s image (suc last) (takeAt (suc last) s at .next)
 stage-later s image last at most past st =
     subst (λ (b : Bool). Stage s b (suc last) (takeAt (suc last) s at .next)) (rw (ne-eqb (suc last) 1 (λ q. omega arith)) (either (isAt (suc last) s at))) (stage s image last at most st)

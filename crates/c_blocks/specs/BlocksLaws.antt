@@ -1,4 +1,4 @@
--- What an answer says of what is made of it: of the start of a descriptor's blocks, and of the block of a kind.
+-- What an answer says about what is made from it: the start of a descriptor's blocks, and the block of a kind.
 use Prim.Native.Nat.{ℕ, _%_}
 use mathlib.Core.Path.{_≡_, refl, _∙_, ap}
 use mathlib.Core.List.{List, [], _∷_, _++_}
@@ -22,7 +22,7 @@ use Rattle.steps.specs.Blocks.{kindFrom}
 use Rattle.c_numbers.specs.Flags.{flagNumber}
 use Rattle.c_blocks.specs.Blocks.{startAt, startNumbers, blockNumbers, kindBlockNumbers, blockNumbered}
 
--- ---- what is made of an answer
+-- ---- what is made from an answer
 
 module _ (segments : List ℕ) {A B : Type 0} (f : A → B) (x : A) where
   guarded-then : mapped f (guarded segments (answered x)) ≡ guarded segments (answered (f x))
@@ -55,7 +55,7 @@ module _ (b : Block) (k : ℕ) (l : List ℕ) (ek : k ≡ rowNumber (b .kind)) (
 -- ---- the block of a kind
 
 module _ (image segments : List ℕ) (address flags number : ℕ) where
-  -- made of a body
+  -- made from a body
   abbrev pub blockWith : Option Body → Option Block
   blockWith b = blockNumbered image segments (trailers address flags b) number
 

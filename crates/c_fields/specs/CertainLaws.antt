@@ -1,4 +1,4 @@
--- What is told of the answer that a call of `certainty` gives.
+-- What is written for the answer of a call of `certainty`.
 use Prim.Native.Nat.{ℕ}
 use mathlib.Core.Path.{_≡_}
 use mathlib.Core.List.{List}

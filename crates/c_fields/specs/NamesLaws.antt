@@ -1,4 +1,4 @@
--- The names of a record and of a descriptor are read at its own addresses, when it comes by the numbers that the steps write.
+-- The names of a record and of a descriptor that are made from the numbers that the steps write are read at their own addresses.
 use Prim.Native.Nat.{ℕ}
 use mathlib.Core.Path.{_≡_, refl}
 use mathlib.Core.Option.{some}

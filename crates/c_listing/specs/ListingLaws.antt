@@ -1,4 +1,4 @@
--- What the writing of a record and the turns of the loop say of the listing.
+-- What the writing of a record and the turns of the loop say about the listing.
 use Prim.Native.Nat.{ℕ, zero, suc, _+_, _-_, _*_, _/_, _%_, _^_, _≤_, _<_, max}
 use native.Mathlib.Nat.{div-add-mod, div-div-eq-div-mul}
 use native.Mathlib.Decide.{decLt}
@@ -29,7 +29,8 @@ unfoldable pub records : List ℕ → List ℕ → List Found → List ℕ
 records image segments [] = []
 records image segments (f ∷ fs) = rowBytes image segments (f .slot) (f .row) ++ records image segments fs
 
--- a listing `l` of these rows, with the rows from each slot on: from its slot to go on from there are the other records, and none if it says that all are given
+-- a listing `l` of these rows, with the rows from each slot on: the slot to go on from has the other records after it, and none if the
+-- listing says that all are given
 pub record Resumes (image segments : List ℕ) (all : List Found) (l : RowListing) (from : ℕ → List Found) : Type 0 where
   pub together : records image segments all ≡ l .bytes ++ records image segments (from (l .next))
   pub done : l .all ≡ 1 → from (l .next) ≡ []
@@ -62,7 +63,7 @@ module _ (image segments : List ℕ) (slot : ℕ) (row : TypeRow) where
       go true p q t ep eq = omega arith
       go false p q t ep eq = simp length-append (omega arith)
 
-  -- what the answer about the name says of the record
+  -- what the answer about the name says about the record
   module _ (size : ℕ) where
     pub written-bytes : (n : ℕ) → answered n ≡ mapped length (nameAnswer image segments row size)
         → rowBytes image segments slot row ≡ headBytes slot (row .address) (row .flags) n ++ qualifiedName image segments row
@@ -97,7 +98,7 @@ module _ (image segments : List ℕ) (slot : ℕ) (row : TypeRow) where
                   absurd (omega arith)
             ]
 
--- a refused name leaves the part as it was, and so the whole
+-- a refused name leaves the part unchanged, and so the whole
 pub kept-part : (at k : ℕ) (b ys image segments : List ℕ) (row : TypeRow) (size n : ℕ) → ys ≡ overwritten (midOf at k b) (answerOf (nameAnswer image segments row size))
     → refused n ≡ mapped length (nameAnswer image segments row size) → putMid at k b ys ≡ b
 kept-part at k b ys image segments row size n e f = go (nameAnswer image segments row size) e f
@@ -106,7 +107,7 @@ kept-part at k b ys image segments row size n e f = go (nameAnswer image segment
     go (answered t) e f = let z : _≡_ {A = ℕ} 0 1 = cc in absurd (omega arith)
     go (refused m) e f = ap (putMid at k b) e ∙ put-same at k b
 
--- a piece put before one that is there
+-- a piece put before one that is already in place
 put-before : (b p q b′ b″ : List ℕ) (at k : ℕ) → b′ ≡ pasted b (at + k) q → b″ ≡ pasted b′ at p → length p ≡ k → at + k + length q ≤ length b → b″ ≡ pasted b at (p ++ q)
 put-before b p q b′ b″ at k e f ek h =
     let len : length (take (at + k) b) ≡ at + k = length-take-le (at + k) b (omega arith) in
@@ -207,7 +208,7 @@ module _ (image segments : List ℕ) (past : ℕ) (all : List Found) (b₀ b : L
 
 -- ---- the layout
 
--- a number's eight bytes give it back
+-- a number is read back from its eight bytes
 digit : (n d x : ℕ) → x ≡ n / (d * 256) → n / d % 256 + 256 * x ≡ n / d
 digit n d x e = rw (e, ← div-div-eq-div-mul n d 256) (omega (arith, div-add-mod (n / d) 256))
 

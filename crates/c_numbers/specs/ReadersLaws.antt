@@ -1,4 +1,4 @@
--- What an answer says of its numbers.
+-- What an answer says about its numbers.
 use Prim.Native.Nat.{ℕ, _^_}
 use mathlib.Core.Path.{_≡_, ap}
 use mathlib.Core.List.{List, [], _∷_}

@@ -1,4 +1,4 @@
--- What an answer says of its status and its numbers.
+-- What an answer says about its status and its numbers.
 use Prim.Native.Nat.{ℕ, _%_}
 use mathlib.Core.Path.{_≡_, refl, _∙_, ap}
 use mathlib.Core.List.{List, [], _∷_}
@@ -23,7 +23,7 @@ module _ {A : Type 0} (numbers : A → List ℕ) (g : Guarded A) (out : List ℕ
   pub refuses : (r n : ℕ) → refused n ≡ g → r ≡ n → Tells (mapped numbers g) out r out
   refuses r n e er = rw (← e) (record { gives = er; writes = refl })
 
--- a call that tests the segments' count itself, and one of them that writes a text into a buffer
+-- a call that tests the segments' count itself, and such a call that writes a text into a buffer
 module _ {A : Type 0} (segments : List ℕ) (a : A) where
   module _ (numbers : A → List ℕ) (out : List ℕ) where
     pub tells-whole : (l : List ℕ) → l ≡ numbers a → length segments % 4 ≡ 0 → Tells (mapped numbers (guarded segments (answered a))) out 0 l

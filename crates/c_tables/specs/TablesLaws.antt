@@ -1,4 +1,4 @@
--- What a call tells of the answer that a call of `entry_tables` gives.
+-- What a call writes for the answer of a call of `entry_tables`.
 use Prim.Native.Nat.{ℕ}
 use mathlib.Core.Path.{subst}
 use mathlib.Core.List.{List}

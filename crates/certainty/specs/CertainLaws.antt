@@ -1,5 +1,6 @@
--- What is certain for the bytes that arrived is so whatever bytes follow (`certain-run`), or in other words for every image of which they are the first (`certain-first`): the
--- program's answer is that image's, and where it has none the image has none. It stays certain (`certain-stays`). No premise on texts.
+-- What is certain for the bytes that arrived holds whatever bytes follow (`certain-run`), that is, for every image that starts with them
+-- (`certain-first`): the program's answer is that image's, and if it has none the image has none. It stays certain (`certain-stays`). There
+-- is no premise on texts.
 use Prim.Native.Nat.{ℕ, zero, suc, _+_, _≤_, _<_}
 use native.Mathlib.Omega.{arith}
 use mathlib.Core.Path.{_≡_, refl, sym, _∙_, ap}
@@ -18,7 +19,7 @@ use Rattle.certainty.specs.Certain.{hasNul, ifThere, certain}
 
 -- ---- a NUL
 
--- there is one where the text before it is not all
+-- there is one if the text before it is not everything
 pub nul-is : (s : List ℕ) → hasNul s ≡ ltb (length (untilNul s)) (length s)
 unfolding hasNul untilNul
 nul-is [] = refl
@@ -70,7 +71,7 @@ module _ (arrived rest : List ℕ) where
 -- ---- a program
 
 module _ (arrived rest segments : List ℕ) where
-  -- the answer is the same, and certain with the rest too
+  -- the answer is the same, and still certain with the rest
   abbrev Kept : {A : Type 0} → Reads A → Type 0
   Kept p = certain arrived segments p ≡ true → (run (arrived ++ rest) segments p ≡ run arrived segments p) × (certain (arrived ++ rest) segments p ≡ true)
 
@@ -123,12 +124,12 @@ module _ (segments : List ℕ) {A : Type 0} (p : Reads A) where
   pub certain-stays : (arrived : List ℕ) → certain arrived segments p ≡ true → (rest : List ℕ) → certain (arrived ++ rest) segments p ≡ true
   certain-stays arrived e rest = kept arrived rest segments p e .1
 
-  -- of an image cut to its first `c` bytes
+  -- for an image cut to its first `c` bytes
   pub certain-cut : (image : List ℕ) (c : ℕ) → certain (take c image) segments p ≡ true → run image segments p ≡ run (take c image) segments p
   certain-cut image c e =
       ap (λ (s : List ℕ). run s segments p) (sym (take-append-drop c image)) ∙ certain-run (take c image) e (drop c image)
 
-  -- of every image of which these are the first bytes
+  -- for every image that starts with these bytes
   pub certain-first : (arrived : List ℕ) → certain arrived segments p ≡ true → (image : List ℕ) → take (length arrived) image ≡ arrived → run image segments p ≡ run arrived segments p
   certain-first arrived e image f =
       certain-cut image (length arrived) (ap (λ (s : List ℕ). certain s segments p) f ∙ e) ∙ ap (λ (s : List ℕ). run s segments p) f

@@ -1,7 +1,7 @@
--- What is certain of a listing. Of a row one comparison decides: its name ends before the last byte that arrived (`row-certain`); so it does for a text beside an item
--- (`text-certain`, `context-name-certain`), which is then that of every image that starts with these bytes (`text-first`, `context-name-first`, `field-name-first`). All that hangs
--- on a certain row, and is in the listing of what arrived, is an item of every such image, word for word (`item-kept`, and `item-first` in plain numbers). Items of the fields
--- section need no row.
+-- What is certain of a listing. For a row one comparison decides: its name ends before the last byte that arrived (`row-certain`). The same
+-- holds for a text beside an item (`text-certain`, `context-name-certain`), which is then that of every image that starts with these bytes
+-- (`text-first`, `context-name-first`, `field-name-first`). Every item of a certain row that is in the listing of what arrived is an item
+-- of every such image, word for word (`item-kept`, and `item-first` in plain numbers). Items of the fields section need no row.
 use Prim.Native.Nat.{ℕ, _+_, _^_, _≤_, _<_}
 use native.Mathlib.Decide.{decLe, decLt}
 use native.Mathlib.Omega.{arith}
@@ -35,7 +35,7 @@ use Rattle.certainty.specs.CertainLaws.{nul-is, certain-run, certain-fir
 
 -- ---- a text
 
--- the NUL of a text at an offset arrived where the text ends before the last byte
+-- the NUL of a text at an offset arrived if the text ends before the last byte
 pub nul-before : (arrived : List ℕ) (o : ℕ) → o ≤ length arrived → hasNul (drop o arrived) ≡ ltb (o + length (untilNul (drop o arrived))) (length arrived)
 nul-before arrived o h = nul-is (drop o arrived) ∙ go (decLt (length (untilNul (drop o arrived))) (length (drop o arrived)))
   where
@@ -62,7 +62,7 @@ place-looked image segments a = go (textOffset segments a)
     go (some o) = at o (textAt image o)
 
 module _ (arrived segments : List ℕ) where
-  -- a text at an offset past the end is none
+  -- there is no text at an offset past the end
   pub found-inside : (o : ℕ) (p : Place) → textAt arrived o ≡ some p → o ≤ length arrived
   unfolding textAt
   found-inside o p e = go (decLe o (length arrived))
@@ -75,13 +75,13 @@ module _ (arrived segments : List ℕ) where
           absurd (omega arith)
 
   module _ {A : Type 0} (a : ℕ) where
-    -- bytes that are there: what is read after them decides
+    -- bytes that can be read: what is read after them decides
     bytes-there : (n : ℕ) (k : List ℕ → Reads A) (x : A) (w : BytesRead arrived segments a n k x)
         → certain arrived segments (bytes a n k) ≡ certain arrived segments (k (take n (drop (w .offset) arrived)))
     unfolding certain
     bytes-there n k x w = rw (certain, w .at) (simp (le-leb (w .offset + n) (length arrived) (w .inside)))
 
-    -- a text that is there, and nothing read after it
+    -- a text that is found, and nothing read after it
     text-there : (f : Place → List ℕ → A) (x : A) (w : TextRead arrived segments a (λ p t. done (f p t)) x)
         → certain arrived segments (text a (λ p t. done (f p t))) ≡ ltb (w .place .start + w .place .size) (length arrived)
     unfolding certain textOffset
@@ -91,7 +91,7 @@ module _ (arrived segments : List ℕ) where
         simp (ne-eqb a 0 (w .address))
         (rw (w .at, w .found, size) (and-true (hasNul (drop o arrived)) ∙ nul-before arrived o (found-inside o _ (w .found))))
 
-  -- a text that was found is certain where it ends before the last byte that arrived
+  -- a text that was found is certain if it ends before the last byte that arrived
   pub text-certain : (a : ℕ) (n : Name) → run arrived segments (lookup a) ≡ some n
       → certain arrived segments (lookup a) ≡ ltb (n .place .start + n .place .size) (length arrived)
   unfolding lookup run
@@ -110,7 +110,7 @@ module _ (arrived segments : List ℕ) where
       go true f = let z : _≡_ {A = ℕ} 0 1 = cc in absurd (omega arith)
       go false f = text-certain (relativePointer v (signedIn 4 h 0)) n f
 
-  -- a context's name, whose offset is a read of its own
+  -- a context's name, whose offset is a separate read
   pub context-name-certain : (a flags : ℕ) (n : Name) → run arrived segments (name a flags) ≡ some n
       → certain arrived segments (name a flags) ≡ ltb (n .place .start + n .place .size) (length arrived)
   unfolding name nameAt run certain
@@ -141,7 +141,7 @@ module _ (arrived segments : List ℕ) where
           let q : typeRow a h (v .place) (untilNul (drop (v .place .start) arrived)) ≡ r = (let g = v .goes in cc) in
           text-there (nameAddress a h) (typeRow a h) r v ∙ ap (λ (m : TypeRow). ltb (m .name .start + m .name .size) (length arrived)) q
 
-  -- a row that is in the listing of what arrived is certain where its name ends before the last byte
+  -- a row that is in the listing of what arrived is certain if its name ends before the last byte
   pub row-certain : (types : List ℕ) (start i : ℕ) (r : TypeRow) → run arrived segments (slotRow types start i) ≡ some r
       → certain arrived segments (slotRow types start i) ≡ ltb (r .name .start + r .name .size) (length arrived)
   row-certain types start i r e =
@@ -158,7 +158,7 @@ module _ (arrived segments : List ℕ) where
       → (image : List ℕ) → take (length arrived) image ≡ arrived → run image segments (name a flags) ≡ some n
   context-name-first a flags n e h image f = certain-first segments (name a flags) arrived (context-name-certain a flags n e ∙ lt-ltb _ _ h) image f ∙ e
 
-  -- a field's name, of the image or, where it is certain that the image has none, of the string section
+  -- a field's name, in the image or, if it is certain that the image has none, in the string section
   pub field-name-first : (a : ℕ) → certain arrived segments (lookup a) ≡ true → (image : List ℕ) → take (length arrived) image ≡ arrived
       → (strings : List ℕ) (start : ℕ) → fieldName image segments strings start a ≡ fieldName arrived segments strings start a
   unfolding fieldName
@@ -204,7 +204,7 @@ module _ (arrived segments : List ℕ) where
             let w = and-eq-true-iff (hasNul (drop o arrived)) (ifThere (textAt arrived o) (λ p. certain arrived segments (k p (untilNul (drop o arrived))))) .0 f in
             ((λ t. w .0), found o (textAt arrived o) ends (w .1))
 
-    -- and a program that answers, and whose texts have theirs, is certain
+    -- and a program that answers, and whose texts have their NUL, is certain
     pub answers-certain : (p : Reads A) (x : A) → run arrived segments p ≡ some x → All Ended (path arrived segments p) → certain arrived segments p ≡ true
     unfolding certain run path bytesPlace within
     answers-certain (done a) x e = λ _. refl
@@ -249,7 +249,7 @@ module _ (arrived segments : List ℕ) where
   row-gone s i e = map-none arrived segments (rowOfSlot s i) e Answer.row
 
   module _ (s : Sections) (k : Key) (x : Answer) (e : run arrived segments (item s k) ≡ some x) where
-    -- an item that is in the listing of what arrived is certain where the row that it hangs on is
+    -- an item that is in the listing of what arrived is certain if its row is
     pub item-certain : ((i : ℕ) → slotOf k ≡ some i → certain arrived segments (rowOfSlot s i) ≡ true) → certain arrived segments (item s k) ≡ true
     item-certain row =
         answers-certain (item s k) x e

@@ -1,5 +1,5 @@
--- A joined name that is certain for the bytes that arrived is that of every image that starts with them, its refusals 3 and 4 included, for every length of the buffer
--- (`name-kept`, `name-first`), and so is the line that the printed listing has of the row (`line-first`).
+-- A joined name that is certain for the bytes that arrived is that of every image that starts with them, including refusals 3 and 4, for
+-- every length of the buffer (`name-kept`, `name-first`), and so is the row's line in the printed listing (`line-first`).
 use Prim.Native.Nat.{ℕ, zero, suc, _+_, _^_}
 use mathlib.Core.Path.{_≡_, refl, sym, _∙_, ap}
 use mathlib.Core.List.{List, _++_}
@@ -96,13 +96,13 @@ module _ (segments types : List ℕ) (start i : ℕ) (arrived : List ℕ) (e : n
       go none f = refl
       go (some r) f = ap some (answer-kept arrived segments rest r size f)
 
-  -- of every image of which these are the first bytes
+  -- for every image that starts with these bytes
   pub name-first : (image : List ℕ) → take (length arrived) image ≡ arrived → (size : ℕ) → joinedName image segments types start i size ≡ joinedName arrived segments types start i size
   name-first image f size =
       let g : image ≡ arrived ++ drop (length arrived) image = sym (take-append-drop (length arrived) image) ∙ ap (λ (s : List ℕ). s ++ drop (length arrived) image) f in
       ap (λ (s : List ℕ). joinedName s segments types start i size) g ∙ name-kept (drop (length arrived) image) size
 
-  -- and the row's line of the printed listing
+  -- and the row's line in the printed listing
   pub line-first : (r : TypeRow) → run arrived segments (slotRow types start i) ≡ some r → (image : List ℕ) → take (length arrived) image ≡ arrived
       → (run image segments (slotRow types start i) ≡ some r) × (rowLine image segments r ≡ rowLine arrived segments r)
   unfolding nameCertain rowLine nameText

@@ -1,5 +1,5 @@
--- Where a row of the listing of what arrived is not certain, it is open: one byte more, whichever but NUL, and the slot has another row or none (`row-open`). So no row is called
--- open that is settled.
+-- If a row in the listing of what arrived is not certain, it is open: with one byte more, any byte but NUL, the slot has another row or
+-- none (`row-open`). So no row that is settled is called open.
 use Prim.Native.Nat.{ℕ, zero, suc, _+_, _^_, _≤_}
 use native.Mathlib.Omega.{arith}
 use mathlib.Core.Path.{_≡_, refl, sym, _∙_, ap}

@@ -1,4 +1,4 @@
--- What the readers' answers say of certainty, as the calls' tests leave the cases.
+-- What the readers' answers say about certainty, in the cases that the calls' tests leave.
 use Prim.Native.Nat.{ℕ, zero, suc, _+_, _-_, _*_, _%_, _^_, _≤_, _<_}
 use native.Mathlib.Decide.{decLe}
 use native.Mathlib.Numerals.{add-one}
@@ -111,7 +111,7 @@ module _ (image segments : List ℕ) (a n : ℕ) {A : Type 0} (k : List ℕ → 
       go none f = absurd (omega (arith, ap length f))
       go (some o) f = at o (decLe (o + n) (length image)) f
 
-  -- bytes that were not: certain where the address is not in the file, else the end was met
+  -- bytes that were not: certain if the address is not in the file, else the end was met
   pub certain-no-bytes : length h < n → certain image segments (bytes a n k) ≡ nowhere segments a
   unfolding certain bytesRead bytesPlace within
   certain-no-bytes l = go (fileOffset (segmentsOf segments) a) e
@@ -218,7 +218,7 @@ module _ (image segments : List ℕ) (a : ℕ) where
       unfolding headerIn certain
       whole-header l = bytes-header ∙ certain-bytes image segments a 8 (headerIn a) h e (omega arith) l ∙ simp (lt-leb (2 ^ 64) (a + 4) w)
 
-  -- a header that was read: it is bytes alone
+  -- a header that was read: it is only bytes
   header-there : (h : Header) → some h ≡ run image segments (header a) → headerCertain image segments a ≡ true
   unfolding headerCertain headerAt
   header-there h e =

@@ -1,4 +1,4 @@
--- What the code finds, class after class, is the definition (`Going`); where all are given they are all methods of each class (`all-told`).
+-- What the code finds, class after class, is the definition (`Going`); if all are given, they are all methods of each class (`all-told`).
 use Prim.Native.Nat.{ℕ, zero, suc, _+_, _-_, _*_, _/_, _%_, _≤_, _<_}
 use native.Mathlib.Nat.{mul-div-le, mul-le-mul-left, add-zero}
 use native.Mathlib.Numerals.{add-one}
@@ -48,7 +48,7 @@ module _ (image segments : List ℕ) (m : Mapping) (w : TrueMapping segments m) 
       rw (run-mapped image segments m w (body a flags), kind-mapped BlockKind.VTable (trailers a flags (run image segments (body a flags))))
 
 module _ (image segments : List ℕ) (a flags : ℕ) (y : Option Body) (e : y ≡ run image segments (body a flags)) where
-  -- where nothing follows the body, or no vtable
+  -- if nothing follows the body, or no vtable
   pub nothing-follows : none ≡ trailers a flags y → none ≡ methodTable image segments a flags
   nothing-follows f = rw (← e, ← f)
 
@@ -171,7 +171,7 @@ module _ (image segments types : List ℕ) (start i₀ k₀ : ℕ) (b₀ : List 
   abbrev left : ℕ → ℕ → ℕ → ClassesListed
   left i k n = classesFrom image segments types start (slots types - i) i k n
 
-  -- so many classes are listed, and others follow
+  -- some classes are listed, and others follow
   abbrev after : List ℕ → ℕ → ClassesListed → ClassesListed
   after p c l = record { numbers = p ++ l .numbers; classes = c + l .classes; next = l .next; method = l .method; all = l .all }
 
@@ -201,7 +201,7 @@ module _ (image segments types : List ℕ) (start i₀ k₀ : ℕ) (b₀ : List 
       (record { classes = c; next = i; method = k; all = e } ≡ methodsGivenOf (left i₀ k₀ (length b₀)))
       × (b ≡ atStart (methodNumbersOf (left i₀ k₀ (length b₀))) b₀)
 
-  -- what is told in the end
+  -- the numbers at the end
   stops : (c i k at : ℕ) (e : Bool) (b : List ℕ) → at ≤ length b → drop at b ≡ drop at b₀ → left i₀ k₀ (length b₀) ≡ after (take at b) c (stopsAt i k e) → Done c i k e b
   stops c i k at e b h r g =
       let len : length (take at b) ≡ at = length-take-le at b h in
@@ -237,7 +237,7 @@ module _ (image segments types : List ℕ) (start i₀ k₀ : ℕ) (b₀ : List 
             let few : length b₀ - at < 4 = omega (arith, g .long) in
             stops c i k at false b (omega (arith, g .few, g .long)) (g .rest) (g .goes ∙ rw (one-left, classesFrom, ← e) (simp (lt-ltb (length b₀ - at) 4 few)))
 
-        -- its methods are listed, and what is told of them
+        -- its methods are listed, with their counts
         abbrev table : WholeTable
         table = tableIn image segments method (methodsAt (x .table) k) (length b - (at + 4))
 
@@ -316,14 +316,14 @@ module _ (image segments types : List ℕ) (start i₀ k₀ : ℕ) (b₀ : List 
                   goes = g .goes ∙ ap (after (take at b) c) (begun ∙ rw (ne-eqb stop 1 f)) ∙ with-it (left (i + 1) 0 (length b₀ - end));
                 }
 
--- ---- what is told
+-- ---- the numbers
 
 module _ (image segments types : List ℕ) (start : ℕ) where
   -- all methods of a class from method `k` on, up to the first that cannot be read
   abbrev pub allMethods : Class → ℕ → WholeTable
   allMethods c k = tableFrom image segments method (c .table .count) (methodsAt (c .table) k)
 
-  -- those of all classes of so many slots
+  -- those of all classes of a number of slots
   unfoldable pub allClasses : ℕ → ℕ → ℕ → List ℕ
   allClasses zero i k = []
   allClasses (suc m) i k =
@@ -338,7 +338,7 @@ module _ (image segments types : List ℕ) (start : ℕ) where
   never : _≡_ {A = Bool} false true → ⊥
   never f = let z : _≡_ {A = ℕ} 0 1 = cc in omega arith
 
-  -- where all are given they are these, however long the list is
+  -- if all are given, they are these, however long the list is
   pub all-told : (m i k n : ℕ) → listed m i k n .all ≡ true → listed m i k n .numbers ≡ allClasses m i k
   unfolding classesFrom allClasses
   all-told zero i k n e = refl

@@ -1,5 +1,6 @@
--- What a caller gets who goes on from where a call tells: the methods that the numbers of one call tell, read off the list (`readOff`), and all from
--- there on are all methods, each once and in order (`methods-going-on`); and a list of seven numbers or more takes each call on (`moves-on`).
+-- What a caller gets who goes on from the place that a call returns: the methods in the numbers of one call, read from the list
+-- (`readOff`), and all from that place on are all methods, each once and in order (`methods-going-on`); and with a list of seven numbers or
+-- more each call makes progress (`moves-on`).
 use Prim.Native.Nat.{ℕ, zero, suc, _+_, _-_, _*_, _/_, _≤_, _<_}
 use native.Mathlib.Nat.{zero-add, add-zero, div-eq-sub-div}
 use native.Mathlib.Decide.{decLt}
@@ -21,14 +22,14 @@ use Rattle.entry_tables.specs.TablesLaws.{entry-wide, full-all, all-there, size
 use Rattle.class_methods.specs.ClassMethods.{Class, slotClass, classNumbers, methodsAt, ClassesListed, stopsAt, classThen, classesFrom, classesIn}
 use Rattle.class_methods.specs.ClassMethodsLaws.{from-none, from-few, from-full, from-whole, allMethods}
 
--- ---- the methods that a list of numbers tells
+-- ---- the methods in a list of numbers
 
 -- those of a class, each with the class's slot
 abbrev pub methodRows : ℕ → ℕ → List ℕ → List (List ℕ)
 methodRows slot zero ns = []
 methodRows slot (suc n) ns = (slot ∷ take 3 ns) ∷ methodRows slot n (drop 3 ns)
 
--- and those of so many classes: the first number of a class is its slot, the third how many methods follow
+-- and those of a number of classes: the first number of a class is its slot, the third how many methods follow
 abbrev pub readOff : ℕ → List ℕ → List (List ℕ)
 readOff zero ns = []
 readOff (suc c) ns = methodRows (getD ns 0 0) (getD ns 2 0) (drop 4 ns) ++ readOff c (drop (3 * getD ns 2 0) (drop 4 ns))
@@ -58,7 +59,7 @@ module _ (image segments types : List ℕ) (start : ℕ) where
   abbrev every : Class → ℕ → WholeTable
   every = allMethods image segments types start
 
-  -- all methods of so many slots, of the first one's class from method `k` on
+  -- all methods of a number of slots, those of the first one's class from method `k` on
   unfoldable pub methodsFrom : ℕ → ℕ → ℕ → List (List ℕ)
   methodsFrom zero i k = []
   methodsFrom (suc m) i k =
@@ -107,13 +108,13 @@ module _ (image segments types : List ℕ) (start : ℕ) where
   abbrev pub leftFrom : ClassesListed → List (List ℕ)
   leftFrom l = methodsFrom (slots types - l .next) (l .next) (l .method)
 
-  -- what is told and all from where to go on are these, and nothing is left where all are given
+  -- the methods in the numbers, and all from the place to go on from, are these, and nothing is left if all are given
   pub record Resumes (all : List (List ℕ)) (i : ℕ) (l : ClassesListed) : Type 0 where
     pub together : readOff (l .classes) (l .numbers) ++ leftFrom l ≡ all
     pub done : l .all ≡ true → leftFrom l ≡ []
     pub onward : i ≤ l .next
 
-  -- the place to go on from is a later slot, or a later method of the same
+  -- the place to go on from is a later slot, or a later method of the same slot
   abbrev pub Further : ℕ → ℕ → ClassesListed → Type 0
   Further i k l = (i < l .next) ⊎ ((l .next ≡ i) × (k < l .method))
 
@@ -202,10 +203,10 @@ module _ (image segments types : List ℕ) (start : ℕ) where
   resumed zero i k n e = (out i k n e .0, λ h z. absurd (out i k n e .1 z))
   resumed (suc m) i k n e = both m i k n e (λ n. resumed m (suc i) 0 n (omega arith) .0)
 
-  -- what a call returns, and then all from where it tells to go on from, are all methods
+  -- what a call returns, and then all from the place to go on from, are all methods
   pub methods-going-on : (i k n : ℕ) → Resumes (methodsFrom (slots types - i) i k) i (classesIn image segments types start i k n)
   methods-going-on i k n = resumed (slots types - i) i k n refl .0
 
-  -- seven numbers take each call on
+  -- with seven numbers each call makes progress
   pub moves-on : (i k n : ℕ) → 7 ≤ n → classesIn image segments types start i k n .all ≡ false → Further i k (classesIn image segments types start i k n)
   moves-on i k n = resumed (slots types - i) i k n refl .1

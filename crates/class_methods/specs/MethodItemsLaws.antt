@@ -1,5 +1,6 @@
--- The methods that are told of a section's classes are the items of the listing: the class of a slot is its vtable (`class-listed`), its methods from the
--- first on are the items of that slot (`class-methods-listed`, `class-methods-numbers`), and a slot without a class has none (`no-class-methods`).
+-- The methods of a section's classes in one call are the items of the listing: the class of a slot is its vtable (`class-listed`), its
+-- methods from the first on are the items of that slot (`class-methods-listed`, `class-methods-numbers`), and a slot without a class has
+-- none (`no-class-methods`).
 use Prim.Native.Nat.{ℕ}
 use native.Mathlib.Omega.{arith}
 use mathlib.Core.Path.{_≡_, refl, sym, ap, _∙_}
@@ -84,7 +85,7 @@ module _ (image segments : List ℕ) (s : Sections) (i : ℕ) where
         let w = class-listed e in
         items.entries-listed image segments s i EntryKind.methods (w .vtable) (w .is-vtable) (c .table) (w .is-table) (c .table .count) k (omega arith)
 
-  -- and their numbers are those that are told of it
+  -- and their numbers are those in the caller's list
   pub class-methods-numbers : (c : Class)
       → tableFrom image segments method (c .table .count) (methodsAt (c .table) 0) .numbers ≡ numbersOfAll entryNumbers (listedEntries image segments method (c .table .count) (start (c .table .base) (c .table .count)))
   class-methods-numbers c = table-listed entryNumbers image segments method (c .table .count) (methodsAt (c .table) 0) .0

@@ -1,6 +1,7 @@
--- What the definitions of the blocks say from outside: the numbers of the kinds are their places in the table (`kind-row`, `table-length`),
--- stepping from the start gives the blocks of all kinds that are there and can be read (`stepped-blocks-take`, `stepped-blocks`), and then none is left
--- (`stepped-blocks-end`); what the set's count counts (`bits-are`); and that the block of a kind is of that kind, with what its row records (`block-recorded`).
+-- What holds of the definitions of the blocks: the numbers of the kinds are their places in the table (`kind-row`, `table-length`);
+-- stepping from the start gives the blocks of all kinds that are present and can be read (`stepped-blocks-take`, `stepped-blocks`), and
+-- then none is left (`stepped-blocks-end`); what the set's count counts (`bits-are`); and that the block of a kind is of that kind, with
+-- what its row records (`block-recorded`).
 use Prim.Native.Nat.{ℕ, zero, suc, _+_, _-_, _/_, _%_, _^_, _≤_, _<_}
 use native.Mathlib.Nat.{pow-suc, mod-lt, mul-comm, div-one, div-div-eq-div-mul}
 use native.Mathlib.Omega.{arith}
@@ -59,7 +60,7 @@ take-none zero = refl
 take-none (suc n) = refl
 
 module _ (image segments : List ℕ) where
-  -- a walk that is over stays so
+  -- a walk that has ended stays ended
   stepped-over : (n : ℕ) (w : Walk) → none ≡ nextBlock image segments w → steppedBlocks image segments n w ≡ []
   unfolding steppedBlocks
   stepped-over zero w e = refl
@@ -119,7 +120,7 @@ module _ (image segments : List ℕ) where
         rw (← kind-stops image segments t start i i e (omega arith)) (none-after n (i + 1) f)
 
     module _ (i a : ℕ) (h : i < 11) (e : some a ≡ run image segments (reached t start i)) where
-      -- a row that is not there: the next one lies at the same address
+      -- a row whose block is not present: the next one lies at the same address
       pub row-absent : rowAt i .there t ≡ false
           → (some a ≡ run image segments (reached t start (i + 1))) × (none ≡ run image segments (blockIn t start i)) × (nextBlock image segments (at i a) ≡ nextBlock image segments (at (i + 1) a))
       row-absent y = (

@@ -1,4 +1,4 @@
--- What the tests on a header and on an end say of a row's programs, and what those say of the walk and of a kind's block.
+-- What the tests on a header and on an end say about a row's programs, and what those say about the walk and a kind's block.
 use Prim.Native.Nat.{ℕ, zero, suc, _+_, _-_, _*_, _/_, _%_, _^_, _≤_, _<_}
 use native.Mathlib.Decide.{decLe}
 use native.Mathlib.Omega.{arith}
@@ -56,7 +56,7 @@ module _ (n : ℕ) where
           let z : _≡_ {A = ℕ} 0 1 = cc in
           absurd (omega arith)
 
--- entries of at most 12 bytes, and what stands before them
+-- entries of at most 12 bytes, and what comes before them
 pub entries-fit : (n k : ℕ) → n ≤ 12 → k < 2 ^ 32 → 4 + n * k < 2 ^ 64
 entries-fit n k h l = omega (arith, mul-le-mul-right k h)
 
@@ -69,7 +69,7 @@ module _ (k l : BlockKind) (e : k ≡ l) where
   pub kind-says : (image segments : List ℕ) (a : ℕ) (x : Option Ended) → x ≡ run image segments (blockAt (rowAt (rowNumber l)) a) → x ≡ run image segments (blockAt (rowAt (rowNumber k)) a)
   kind-says image segments a x h = rw e h
 
--- a number that is none of the first `k`
+-- a number that is not among the first `k`
 abbrev pub Past : ℕ → ℕ → Type 0
 Past zero n = Unit {0}
 Past (suc k) n = Past k n × (n ≡ k → ⊥)

@@ -14,12 +14,12 @@ use Rattle.classtrailers.specs.Blocks.{Trailing, BlockRow, rowAt, readHe
 use Rattle.classtrailers.specs.declared.block.Block.{Block}
 use Rattle.classtrailers.specs.declared.block.BlockKind.{BlockKind}
 
--- the image bytes of a header of so many bytes at an address; none if it has none
+-- the image bytes of a header of a size at an address; none if the size is 0
 abbrev pub headerRange : List ℕ → ℕ → ℕ → List Range
 headerRange segments a zero = []
 headerRange segments a (suc n) = also (fileOffset (segmentsOf segments) a) (λ o. bytesRange o (suc n) ∷ [])
 
--- that of row `n`, if its block is there
+-- that of row `n`, if its block is present
 abbrev pub rowRange : List ℕ → Trailing → ℕ → ℕ → List Range
 rowRange segments t n a = cond (rowAt n .there t) (headerRange segments a (rowAt n .header)) []
 
@@ -52,7 +52,7 @@ module _ (image segments : List ℕ) where
     somewhere-path none = refl
     somewhere-path (some e) = refl
 
-    -- what is made of a block reads no more than its header
+    -- what is made from a block reads no more than its header
     made-path : {A : Type 0} (f : Ended → Reads A) → ((y : Ended) → path image segments (f y) ≡ []) → (x : A) → some x ≡ run image segments (bind (blockAt r a) f)
         → path image segments (bind (blockAt r a) f) ≡ headerRange segments a (r .header)
     unfolding blockAt
@@ -112,7 +112,7 @@ module _ (image segments : List ℕ) where
             let g : some a ≡ run image segments (passed t (rowAt n) c) = e ∙ rw (run-bind, f) in
             rw (path-bind, headers, f, further c (sym f), passed-path n c a g)
 
-    -- a block: the headers of those before it that are there, and its own
+    -- a block: the headers of those before it that are present, and its own
     pub block-row-path : (n : ℕ) (b : Block) → some b ≡ run image segments (blockIn t start n) → path image segments (blockIn t start n) ≡ headers image segments t start (suc n)
     unfolding blockIn headers
     block-row-path n b e = go (run image segments (reached t start n)) refl

@@ -1,6 +1,6 @@
--- The printed listing of a cut image. Its lines are, in order, those of the whole image's rows whose paths lie before the cut, and their number (`cut-lines`,
--- `cut-printed`), with the same address, kind and own name (`row-line`, `name-column`); what is left of the names before the own one (`cut-line`, `kept-lines`); and where
--- a line is the same (`same-line`).
+-- The printed listing of a cut image. Its lines are, in order, those of the whole image's rows whose paths lie before the cut, and their
+-- number (`cut-lines`, `cut-printed`), with the same address, kind and own name (`row-line`, `name-column`); what is left of the names
+-- before the row's own (`cut-line`, `kept-lines`); and when a line is the same (`same-line`).
 use Prim.Native.Nat.{ℕ, zero, suc, _<_}
 use native.Mathlib.Omega.{arith}
 use mathlib.Core.Path.{_≡_, refl, sym, ap, _∙_}
@@ -60,7 +60,7 @@ module _ (image segments : List ℕ) (row : TypeRow) where
 -- ---- the contexts around a row
 
 module _ (image segments : List ℕ) (c : ℕ) where
-  -- the cut falls into no name of the first `n` contexts from an address on
+  -- the cut does not fall into a name of the first `n` contexts from an address on
   abbrev pub ClearChain : ℕ → ℕ → Type 0
   ClearChain n a = (k : ℕ) (h : Header) → k < n → run image segments (headerAt k a) ≡ some h → ClearBy image segments c (contextNameAt h)
 
@@ -177,7 +177,7 @@ module _ (image segments : List ℕ) (c : ℕ) where
           chain-by (take c image) segments n a (some h) (kept-run image segments c (header a) (w .0) ∙ t)
           ∙ rw (same-name h (v .0), ih (h .parent) (rw t at (w .1)) (v .1)) (sym (chain-by image segments n a (some h) t))
 
-  -- a line whose joined name reads nothing behind the cut is the whole image's: no premise is needed
+  -- a line whose joined name reads nothing after the cut is the whole image's: no premise is needed
   pub same-line : (row : TypeRow) → every (endsBy c) (joinedPath image segments (row .parent)) ≡ true → rowLine (take c image) segments row ≡ rowLine image segments row
   unfolding rowLine nameText nameAnswer qualifiedName tooDeep joinedPath
   same-line row e =
@@ -215,7 +215,7 @@ module _ (image segments : List ℕ) (s : Sections) (c : ℕ) (clear : (i : ℕ)
   unfolding lines
   cut-lines = rw (cut-rows image segments s c clear)
 
-  -- and where the cut falls into no context's name either, what each line says by the whole image
+  -- and if the cut does not fall into a context's name either, what each line says in terms of the whole image
   pub kept-lines : ((i k : ℕ) → ClearOf image segments s c (NameKey.context i k))
       → lines (take c image) segments (s .types) (s .typesStart)
       ≡ map (λ (f : Found). keptLine image segments c (f .row)) (keptRows image segments s c) ++ (endLine (length (keptRows image segments s c)) ∷ [])

@@ -1,6 +1,6 @@
--- What the code finds of a table is `tableFrom`: where an entry lies (`no-place`, `a-place`), its numbers in the list (`set-put`, `set-more`), the
--- entries of a run (`Ran`), and run after run (`Going`, for whatever numbers are said of an entry: `tableBy`). The table is the entries that stepping
--- gives, as numbers (`table-listed`); its counts do not go by those numbers (`same-counts`).
+-- What the code finds of a table is `tableFrom`: where an entry lies (`no-place`, `a-place`), its numbers in the list (`set-put`,
+-- `set-more`), the entries of a run (`Ran`), and run after run (`Going`, for any numbers of an entry: `tableBy`). The table is the entries
+-- that stepping gives, as numbers (`table-listed`); its counts do not depend on those numbers (`same-counts`).
 use Prim.Native.Nat.{ℕ, zero, suc, _+_, _-_, _*_, _/_, _%_, _^_, _≤_, _<_, min}
 use native.Mathlib.Nat.{mul-le-mul-left, mul-div-le, mul-zero, mul-suc, mul-add, mod-eq-of-lt, le-antisymm, le-trans, div-le-self, div-eq-of-lt, div-eq-sub-div, zero-add}
 use native.Mathlib.Decide.{decLe, decLt}
@@ -58,7 +58,7 @@ module _ (image segments : List ℕ) (size a : ℕ) where
           absurd (omega arith)
       go (no w) = (omega arith, bytes-within image segments a size o (simp (lt-leb (2 ^ 64) (a + (size - 4)) (omega arith)) at e))
 
--- how far entries go on: in a mapping, in the image, below 2^64
+-- how far entries reach: in a mapping, in the image, below 2^64
 lesser : (x a b : ℕ) → x ≡ min a b → (x ≤ a) × (x ≤ b)
 lesser x a b e = (omega arith, omega arith)
 
@@ -160,7 +160,7 @@ module _ (numbered : Bool) where
   shape-stride (suc zero) stride = refl
   shape-stride (suc (suc n)) stride = refl
 
--- more than two pointers are two
+-- more than two pointers count as two
 shape-least : (numbered : Bool) (more stride : ℕ) → shape numbered (min more 2) stride ≡ shape numbered more stride
 shape-least numbered zero stride = refl
 shape-least numbered (suc zero) stride = refl
@@ -190,7 +190,7 @@ module _ (image segments : List ℕ) (l : Layout) (base k : ℕ) (x : Entry) whe
       go (no w) =
           wide-at (bytesPlace image segments (entryAddress l base k) (entrySize l)) (simp (lt-leb (2 ^ 64) (entryAddress l base k + (entrySize l - 4)) (omega arith)) at e)
 
--- the last word of an entry lies below 2^64, also of one that starts so much further on
+-- the last word of an entry lies below 2^64, and so does that of an entry further on
 pub below-word : (a x more last : ℕ) → a ≡ x % 2 ^ 64 → x + last + (4 + 4 * more - 4) < 2 ^ 64 → a + last + 4 * more < 2 ^ 64
 below-word a x more last e h =
     let f : a ≡ x = e ∙ mod-eq-of-lt (omega arith) in
@@ -264,7 +264,7 @@ module _ (image : List ℕ) (numbered : Bool) (more stride o last a most : ℕ) 
   abbrev run-shape : Layout
   run-shape = shape numbered more stride
 
-  -- so many are put
+  -- `n` entries are put
   pub record Ran (n : ℕ) (b : List ℕ) : Type 0 where
     pub few : n ≤ most
     pub within : (i : ℕ) → i < n → stride * i ≤ last
@@ -314,14 +314,14 @@ module _ (image : List ℕ) (numbered : Bool) (more stride o last a most : ℕ) 
 
 -- ---- run after run
 
--- why a list ends that has no room for an entry
+-- why a list without room for an entry ends
 pub stop-full : (k count : ℕ) → k < count → 1 ≡ stopAt k count
 stop-full k count h = simp (lt-ltb k count h)
 
 pub stop-ended : (k count : ℕ) → count ≤ k → 0 ≡ stopAt k count
 stop-ended k count h = simp (le-ltb k count h)
 
--- whatever numbers are said of an entry
+-- for any numbers of an entry
 module _ (say : Entry → List ℕ) (image segments : List ℕ) (l : Layout) (base count : ℕ) where
   abbrev left : ℕ → ℕ → WholeTable
   left n k = tableBy say image segments l n (iterAt base count k)
@@ -366,7 +366,7 @@ module _ (say : Entry → List ℕ) (image segments : List ℕ) (l : Layout) (ba
   unfolding tableBy
   none-listed k = refl
 
-  -- where the list was full, the table from the entry after its last gives the others
+  -- if the list was full, the table from the entry after its last gives the others
   pub table-going-on : (n m k : ℕ) → left n k .stop ≡ 1 → left (n + m) k ≡ after (left n k .numbers) n (left m (n + k))
   table-going-on zero m k e =
       let no-numbers = none-listed k in
@@ -444,7 +444,7 @@ module _ (say : Entry → List ℕ) (image segments : List ℕ) (l : Layout) (ba
       go (yes h) = enough n count k f h
       go (no h) = sym (enough count n k (λ z. omega (arith, full-all count k z .1)) (omega arith))
 
-  -- how many numbers so many entries have
+  -- how many numbers the entries have
   module _ (each : ℕ) (wide : (k : ℕ) (x : Entry) → some x ≡ run image segments (entryAt l base k) → length (say x) ≡ each) where
     pub record Sized (n k : ℕ) : Type 0 where
       pub long : length (left n k .numbers) ≡ each * left n k .entries
@@ -482,7 +482,7 @@ module _ (say : Entry → List ℕ) (image segments : List ℕ) (l : Layout) (ba
         go ih (yes h) = found ih h (run image segments (entryAt l base k)) refl
         go ih (no h) = none-sized (suc n) k 0 (from-end (suc n) k (omega arith))
 
-  -- so many of each
+  -- how many numbers each entry has
   module _ (each : ℕ) (b₀ : List ℕ) (k₀ : ℕ) where
     abbrev most : ℕ
     most = length b₀ / each
@@ -588,14 +588,14 @@ module _ (image segments : List ℕ) (l : Layout) (base count : ℕ) (b₀ : Lis
         rw (ek, en)
         (goes-on entryNumbers image segments l base count (width l) b₀ k₀ (k + r) (n + r) (with-run r) (goes-along r (omega arith) (omega arith) (λ i j. f i (omega arith))) (omega arith) (omega arith) x (with-run (suc r)) is (ap suc (words-long (l .words) _ 0 _)) put)
 
--- so many entries more fit
+-- more entries fit
 pub room-for : (b : List ℕ) (w n r : ℕ) → n + r ≤ length b / w → w * n + w * r ≤ length b
 room-for b w n r h = omega (arith, mul-add w n r, mul-le-mul-left w h, mul-div-le (length b) w)
 
 pub room-few : (b : List ℕ) (w n : ℕ) → n ≤ length b / w → n ≤ length b
 room-few b w n h = omega (arith, h, div-le-self (length b) w)
 
--- ---- the same by the shape's numbers, as the code has them
+-- ---- the same in terms of the shape's numbers, as the code has them
 
 module _ (image segments : List ℕ) (numbered : Bool) (more stride base count : ℕ) (b₀ : List ℕ) (k₀ : ℕ) (small : more ≤ 2) where
   abbrev l : Layout
@@ -678,7 +678,7 @@ lists-least image segments numbered more r stride c b b′ x e h =
 
 -- ---- the calls
 
--- one that lists into a buffer: what it tells, and the numbers at the buffer's start
+-- a call that lists into a buffer: its answer, and the numbers at the buffer's start
 module _ {A B : Type 0} (tell : A → B) (say : A → List ℕ) (segments : List ℕ) (r : A) (b : List ℕ) where
   pub listed-ragged : (length segments % 4 ≡ 0 → ⊥)
       → (refused 1 ≡ mapped tell (guarded segments (answered r))) × (b ≡ overwritten b (answerOf (mapped say (guarded segments (answered r)))))
@@ -713,7 +713,7 @@ module _ (say : Entry → List ℕ) (image segments : List ℕ) (l : Layout) whe
   abbrev steps : ℕ → EntryIter → List Entry
   steps = listedEntries image segments l
 
-  -- a table of at most so many entries is what so many steps list, entry by entry
+  -- a table of at most `n` entries is what `n` steps list, entry by entry
   abbrev Told : ℕ → EntryIter → Type 0
   Told n c = (table n c .numbers ≡ numbersOfAll say (steps n c)) × (table n c .entries ≡ length (steps n c))
 
@@ -730,7 +730,7 @@ module _ (say : Entry → List ℕ) (image segments : List ℕ) (l : Layout) whe
       go ih none t = rw (tableBy, listedEntries, t) (refl, refl)
       go ih (some s) t = found ih s t (s .found) refl
 
-  -- how many entries, and why no more, does not go by the numbers that are said of an entry
+  -- how many entries there are, and why no more, does not depend on the numbers of an entry
   abbrev Same : (Entry → List ℕ) → ℕ → EntryIter → Type 0
   Same other n c = counts (table n c) ≡ counts (tableBy other image segments l n c)
 

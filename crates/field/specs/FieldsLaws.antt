@@ -1,6 +1,6 @@
--- What the calls' tests say of the fields section: where a step stays (`no-header`, `overruns`) and where it moves (`passes`); and what stepping
--- gives: the step after `k` steps gives descriptor `k` (`stepped-descriptor`), and the list of a caller who steps until there is none has those
--- whose programs answer, in order, and no others (`descriptors-listed-all`).
+-- What the calls' tests say about the fields section: when a step stays (`no-header`, `overruns`) and when it moves (`passes`); and what
+-- stepping gives: the step after `k` steps gives descriptor `k` (`stepped-descriptor`), and the list of a caller who steps until there is
+-- none has those whose programs answer, in order, and no others (`descriptors-listed-all`).
 use Prim.Native.Nat.{ℕ, zero, suc, _+_, _*_, _%_, _^_, _≤_, _<_}
 use native.Mathlib.Decide.{decLt}
 use native.Mathlib.Omega.{arith}

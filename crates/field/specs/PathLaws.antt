@@ -28,7 +28,7 @@ module _ (image segments fields : List ℕ) (vmaddr : ℕ) where
   unfolding descriptorAt
   descriptor-path k = no-path (descriptorFrom fields vmaddr 0 k)
 
-  -- a record that is there: the 12 bytes of each record 0 to `k`
+  -- a record that can be read: the 12 bytes of each record 0 to `k`
   pub record-path : (j k : ℕ) (d : FieldDescriptor) (e : Entry) → run image segments (descriptorAt fields vmaddr j) ≡ some d
       → run image segments (descriptorRecord fields vmaddr j k) ≡ some e
       → path image segments (descriptorRecord fields vmaddr j k) ≡ ranges segments (recordLayout (d .«field_record_size»)) (recordsBase (d .address)) k
@@ -72,7 +72,7 @@ abbrev high : ℕ → Option Entry
 high base = run (sampleImage ++ sampleImage) highSegments (fieldRecord base 12 1 0)
 
 pub record RecordPathsWorked : Type 0 where
-  -- a record has 12 bytes whatever the record size is
+  -- a record has 12 bytes whatever the record size
   pub twelve : (size : ℕ) → entrySize (recordLayout size) ≡ 12
   -- one record of 12 bytes, and one byte less: the walk stays
   pub fits : fieldStep (head 12 1 ++ (0 ∷ 0 ∷ 0 ∷ 0 ∷ 0 ∷ 0 ∷ 0 ∷ 0 ∷ 0 ∷ 0 ∷ 0 ∷ 0 ∷ [])) 4096 0 ≡ stands (some (says 4096 4080 4108 12 1)) 28
@@ -85,7 +85,7 @@ pub record RecordPathsWorked : Type 0 where
   -- a header at 2^64 - 4 is passed and gives nothing; one at 2^64 - 5 is a descriptor
   pub last-four : fieldStep (head 12 0) 18446744073709551612 0 ≡ stands none 16
   pub last-five : fieldStep (head 12 0) 18446744073709551611 0 ≡ stands (some (says 18446744073709551611 18446744073709551595 7 12 0)) 16
-  -- descriptors by number: the address counts modulo 2^64; a list ends at the first header that gives nothing
+  -- descriptors by number: the address is modulo 2^64; a list ends at the first header that gives nothing
   pub first : run [] [] (descriptorAt (head 12 0 ++ head 0 3) 18446744073709551600 0) ≡ some (says 18446744073709551600 18446744073709551584 18446744073709551612 12 0)
   pub wrapped : run [] [] (descriptorAt (head 12 0 ++ head 0 3) 18446744073709551600 1) ≡ some (says 0 18446744073709551600 12 0 3)
   pub no-third : run [] [] (descriptorAt (head 12 0 ++ head 0 3) 18446744073709551600 2) ≡ none
@@ -94,7 +94,7 @@ pub record RecordPathsWorked : Type 0 where
   pub base-last : recordsBase 18446744073709551599 ≡ 18446744073709551615
   pub base-zero : recordsBase 18446744073709551600 ≡ 0
   pub base-past : recordsBase 18446744073709551608 ≡ 0
-  -- a record that lies in the section and not in the image is none: records are read from the image
+  -- a record that lies in the section and not in the image cannot be read: records are read from the image
   pub from-the-image : run [] [] (descriptorRecord (head 12 1 ++ sampleImage) 4096 0 0) ≡ none
   -- record 1 of size 0 is record 0; of size 11, 12 and 13 it is at 11, 12 and 13
   pub record-0 : second 0 ≡ answered 4096 (16 ∷ (4096 ∷ (67310089 ∷ [])))

@@ -1,6 +1,6 @@
--- Records are entries, and the laws of their steps are those of entries (crate `vtable`): the step after `k` steps gives what the program of record
--- `k` gives, as long as no earlier record is unreadable (`stepped-record`); and the list of a caller who steps until a record is unreadable or the
--- end is there has the records whose programs answer, in order, and no others (`records-listed-all`).
+-- Records are entries, and the laws of their steps are those of entries (crate `vtable`): the step after `k` steps gives what the program
+-- of record `k` gives, as long as no earlier record is unreadable (`stepped-record`); and the list of a caller who steps up to an
+-- unreadable record or the end has the records whose programs answer, in order, and no others (`records-listed-all`).
 use Prim.Native.Nat.{ℕ, zero, suc, _+_, _^_, _≤_, _<_}
 use mathlib.Core.Path.{_≡_, refl, sym, ap, _∙_}
 use mathlib.Core.List.{List, [], _∷_}

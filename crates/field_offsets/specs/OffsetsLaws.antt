@@ -1,5 +1,6 @@
--- Field offsets: what the calls' tests say of the definitions; that the offsets by number are the program's list (`offset-listed`,
--- `static-listed`), each there if the vector is (`offset-there`); and the path of a slot's offsets (`offsets-path`).
+-- Field offsets: what the calls' tests say about the definitions; that the offsets by number are the program's list
+-- (`offset-listed`, `static-listed`), and that each exists if the vector does (`offset-there`); and the path of a slot's offsets
+-- (`offsets-path`).
 use Prim.Native.Nat.{ℕ, zero, suc, _+_, _*_, _^_, _≤_, _<_}
 use native.Mathlib.Decide.{decLt}
 use native.Mathlib.Omega.{arith}
@@ -31,7 +32,7 @@ use Rattle.field_offsets.specs.declared.offsets.FieldOffsets.{FieldOffse
 
 -- ---- an answer's cases
 
--- what is shown of a case holds of what is that case
+-- what is shown for a case holds for an answer in that case
 of-case : {A B : Type 0} (f : A → B) {r k : A} {x : B} → r ≡ k → x ≡ f k → x ≡ f r
 of-case f t e = e ∙ ap f (sym t)
 
@@ -59,7 +60,7 @@ offset-of image n o k x t e = of-case (λ (c : FieldOffsets). andThen (offsetsOf
 -- ---- the vector
 
 module _ (f v m : ℕ) where
-  -- what a vector asks for
+  -- what a vector requires
   pub record Wants : Type 0 where
     pub count : 0 < f
     pub word : 0 < v
@@ -133,7 +134,7 @@ static-at image segments a flags (some b) p x eo ep ex =
 
 -- ---- the program's list
 
--- the offsets by a descriptor's own singleton pointer, as a program
+-- the offsets from a descriptor's own singleton pointer, as a program
 unfoldable pub staticOffsets : ℕ → ℕ → Reads (List ℕ)
 staticOffsets a flags = bind (body a flags) (λ b. bind (metadataAt (blocksStart a flags b)) (fieldOffsets b))
 
@@ -241,7 +242,7 @@ module _ (image segments : List ℕ) where
       go none f = let z : _≡_ {A = ℕ} 0 1 = cc in absurd (omega arith)
       go (some b) f = at b (run image segments (metadataAt (blocksStart a flags b))) f
 
-  -- what `field_offset` answers of what was found is the number of the program's list
+  -- what `field_offset` answers for what was found is the number in the program's list
   listed : (k : ℕ) (x : Option (List ℕ)) (y : Option Offsets) → x ≡ Option·map (offsetList image) y
       → ((v : Offsets) → y ≡ some v → v .place + 4 * v .count ≤ length image) → andThen x (λ l. getElem? l k) ≡ andThen y (λ v. offsetIn image v k)
   listed k x none e w = rw e
@@ -257,7 +258,7 @@ module _ (image segments : List ℕ) where
 
 -- ---- the path
 
--- offsets that are there: the body is a struct's, and its vector is below 2^64
+-- offsets that exist: the body is a struct's, and its vector is below 2^64
 pub record OffsetsRead (image segments : List ℕ) (p : Reads Body) (m : ℕ) : Type 0 where
   pub fields : ℕ
   pub word : ℕ

@@ -1,4 +1,4 @@
--- What the code writes of a descriptor's blocks, kind after kind, is the definition's numbers (`Putting`).
+-- What the code writes for a descriptor's blocks, kind after kind, is the definition's numbers (`Putting`).
 use Prim.Native.Nat.{ℕ, zero, suc, _+_, _-_, _*_, _≤_, _<_}
 use native.Mathlib.Omega.{arith}
 use native.Mathlib.Nat.{mul-suc, add-zero}
@@ -84,7 +84,7 @@ module _ (k : BlockKind) (r o n a : ℕ) (e : r ≡ rowNumber k) where
   pub other-numbers : (r ≡ 4 → ⊥) → n ∷ (a ∷ (0 ∷ [])) ≡ tableRecorded k o n a
   other-numbers f = simp (ne-eqb (rowNumber k) 4 (λ q. f (e ∙ q)))
 
--- where nothing follows, all are 0
+-- if nothing follows, all are 0
 pub none-follow : (image segments : List ℕ) → zeros 44 ≡ blockFours image segments none
 unfolding blockFours
 none-follow image segments = refl

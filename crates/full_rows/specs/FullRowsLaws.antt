@@ -230,7 +230,7 @@ module _ (image segments types : List ℕ) (start i₀ : ℕ) (b₀ : List ℕ) 
 -- ---- what the records say
 
 module _ (image segments types : List ℕ) (start : ℕ) where
-  -- the rows given are those that as many steps give as there is room
+  -- the rows given are those that stepping gives, in as many steps as there is room for
   pub listed-stepped : (i n : ℕ)
       → (fullRowsIn image segments types start i n .numbers ≡ fullRows image segments (steppedRows image segments types start (n / 58) i))
       × (fullRowsIn image segments types start i n .records ≡ length (steppedRows image segments types start (n / 58) i))
@@ -240,7 +240,7 @@ module _ (image segments types : List ℕ) (start : ℕ) where
   abbrev from : ℕ → ℕ → List Found
   from m j = rowsFrom image segments types start (m - j) j
 
-  -- from the slot to go on from there are the rows that are left
+  -- the rows from the slot to go on from are those that are left
   resumed : (past n i m room : ℕ) → m - i ≡ n → m ≤ past
       → from m (nextSlot past (drop room (rowsFrom image segments types start n i))) ≡ drop room (rowsFrom image segments types start n i)
   unfolding rowsFrom
@@ -265,7 +265,7 @@ module _ (image segments types : List ℕ) (start : ℕ) where
   none-left-empty [] e = refl
   none-left-empty (f ∷ fs) e = let z : _≡_ {A = ℕ} 0 1 = cc in absurd (omega arith)
 
-  -- going on gives the same records as one call, and no row is left where all are given
+  -- going on gives the same records as one call, and no row is left if all are given
   pub full-rows-going-on : (i n : ℕ)
       → (fullRows image segments (from (slots types) i) ≡ fullRowsIn image segments types start i n .numbers ++ fullRows image segments (from (slots types) (fullRowsIn image segments types start i n .next)))
       × (fullRowsIn image segments types start i n .all ≡ true → from (slots types) (fullRowsIn image segments types start i n .next) ≡ [])

@@ -1,5 +1,5 @@
--- What the premise on texts asks for one name: nothing if the name is looked up nowhere (`nowhere`); where it is looked up at an address,
--- that the cut falls outside the text there (`there`, `asked`). The worked images use them.
+-- What the premise on texts asks for one name: nothing if the name is looked up nowhere (`nowhere`); if it is looked up at an address,
+-- that the cut does not fall into the text there (`there`, `asked`). The worked images use these laws.
 use Prim.Native.Nat.{ℕ, _+_, _≤_, _<_}
 use native.Mathlib.Omega.{arith}
 use mathlib.Core.Path.{_≡_, refl, ap}
@@ -11,7 +11,7 @@ use Rattle.runtime.specs.Reads.{textOffset, run, extent}
 use Rattle.items.specs.Keys.{Sections}
 use Rattle.items.specs.Texts.{NameKey, nameOf, ClearOf}
 
--- the cut falls before `o`, or at or behind `e`
+-- the cut falls before `o`, or at or after `e`
 abbrev pub Outside : ℕ → ℕ → ℕ → Type 0
 Outside o e c = (c < o) ⊎ (e ≤ c)
 

@@ -1,4 +1,4 @@
--- The cut theorem over all items, and what follows from it. docs/CUT.md leads through it.
+-- The cut theorem over all items, and what follows from it. docs/CUT.md explains it.
 use Prim.Native.Nat.{ℕ, zero, suc, _≤_, min}
 use native.Mathlib.Decide.{decLe}
 use native.Mathlib.Omega.{arith}
@@ -37,7 +37,7 @@ ends-clear c (r ∷ l) e =
     let w = and-eq-true-iff (endsBy c r) (every (endsBy c) l) .0 e in
     ((λ t. inr (by-ends c r (w .0))), ends-clear c l (w .1))
 
--- so a program that reads nothing behind the cut gives the whole image's answer: no premise is needed
+-- so a program that reads nothing after the cut gives the whole image's answer: no premise is needed
 pub kept-run : {A : Type 0} (image segments : List ℕ) (c : ℕ) (p : Reads A) → every (endsBy c) (path image segments p) ≡ true
     → run (take c image) segments p ≡ run image segments p
 kept-run image segments c p t = cut image segments c p (ends-clear c (path image segments p) t) ∙ rw t
@@ -47,7 +47,7 @@ module _ (image segments : List ℕ) (s : Sections) (c : ℕ) where
   pub cut-item : (k : Key) → All (Clear c) (path image segments (item s k)) → Claim image segments s c k
   cut-item k clear = cut image segments c (item s k) clear
 
-  -- of which its row's name is the only one: the premise for that text alone
+  -- the only one of which is its row's name: the premise for that text alone
   abbrev pub OwnClear : Key → Type 0
   OwnClear k = (i : ℕ) → slotOf k ≡ some i → ClearOf image segments s c (NameKey.descriptor i)
 
@@ -60,7 +60,7 @@ module _ (image segments : List ℕ) (s : Sections) (c : ℕ) where
 
   -- ---- what follows
 
-  -- what the cut image still tells, the whole one tells, word for word, and of bytes before the cut
+  -- what the cut image still gives, the whole image gives, word for word, from bytes before the cut
   pub survives : (k : Key) (x : Answer) → All (Clear c) (path image segments (item s k)) → run (take c image) segments (item s k) ≡ some x
       → (run image segments (item s k) ≡ some x) × (every (endsBy c) (path image segments (item s k)) ≡ true)
   survives k x clear e = go (every (endsBy c) (path image segments (item s k))) refl (sym (cut-item k clear) ∙ e)
@@ -70,7 +70,7 @@ module _ (image segments : List ℕ) (s : Sections) (c : ℕ) where
       go true t f = (f, t)
       go false t f = let z : _≡_ {A = ℕ} 0 1 = cc in absurd (omega arith)
 
-  -- and what the whole one tells of bytes before the cut is not lost: no premise is needed
+  -- and what the whole image gives from bytes before the cut is not lost: no premise is needed
   pub kept : (k : Key) → every (endsBy c) (path image segments (item s k)) ≡ true → run (take c image) segments (item s k) ≡ run image segments (item s k)
   kept k t = kept-run image segments c (item s k) t
 
@@ -91,10 +91,10 @@ module _ (image segments : List ℕ) (s : Sections) (c : ℕ) where
                 rw e (take-all d (take c l) (simp length-take (omega arith)))
           ]
 
--- ---- all that a listing tells
+-- ---- everything in a listing
 
--- what the cut image tells: of every item all numbers; of an offset list its place and count; and of every text, where the cut does not fall into that text, its place
--- and its bytes
+-- what the cut image gives: all numbers of every item; the place and count of an offset list; and the place and the bytes of every text
+-- that the cut does not fall into
 pub record Cut (image segments strings : List ℕ) (start : ℕ) (s : Sections) (c : ℕ) : Type 0 where
   pub items : (k : Key) → Claim image segments s c k
   pub places : (i m : ℕ)
@@ -102,7 +102,7 @@ pub record Cut (image segments strings : List ℕ) (start : ℕ) (s : Sections) 
   pub texts : (n : NameKey) → ClearOf image segments s c n → TextClaim image segments strings start s c n
 
 module _ (image segments strings : List ℕ) (start : ℕ) (s : Sections) (c : ℕ) where
-  -- the theorem: the cut falls into no name of a slot's descriptor
+  -- the theorem: the cut does not fall into the name of a slot's descriptor
   pub the-cut : ((i : ℕ) → ClearOf image segments s c (NameKey.descriptor i)) → Cut image segments strings start s c
   the-cut clear =
       record {
@@ -111,7 +111,7 @@ module _ (image segments strings : List ℕ) (start : ℕ) (s : Sections) (c : �
         texts = λ n own. cut-beside image segments c strings start s n (λ i e. clear i) own;
       }
 
-  -- nor into one of a context or of a field record: these are the texts that docs/SPECIFICATION.md has in the premise
+  -- nor into the name of a context or of a field record
   pub cut-listing : ((i : ℕ) → ClearOf image segments s c (NameKey.descriptor i))
       → ((i k : ℕ) → ClearOf image segments s c (NameKey.context i k))
       → ((j k : ℕ) → ClearOf image segments s c (NameKey.field j k))
@@ -129,7 +129,8 @@ module _ (image segments strings : List ℕ) (start : ℕ) (s : Sections) (c : �
       let w = the-cut (λ i. clear (NameKey.descriptor i)) in
       (w .items, (λ n. w .texts n (clear n)))
 
-  -- what may become of a text: it is the whole image's, or missing, or for a field's name what the string section has at its address
+  -- what may become of a text: it is the whole image's, or it is missing, or, for a field's name, it is what the string section has at its
+  -- address
   pub data Became (n : NameKey) : Type 0 where
     same : besideOf (take c image) segments strings start s n ≡ besideOf image segments strings start s n → Became n
     missing : besideOf (take c image) segments strings start s n ≡ none → Became n

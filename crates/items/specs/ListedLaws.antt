@@ -1,7 +1,8 @@
--- The calls give the items. Stepping from a walk's start to its end gives the items of a kind, in order and with their keys, and nothing else: the rows of a types
--- section (`rows-listed`), the blocks behind a body (`blocks-listed`), the entries of a block (`entries-listed`), the contexts around a row (`contexts-listed`,
--- with their names `contexts-named`), the descriptors of a fields section (`descriptors-listed`) and their records (`records-listed`). What is read by one call is its item (`body-listed`, `block-listed`,
--- `init-listed`, `pointer-listed`, `offsets-listed`, `static-offsets-listed`). An item of a slot without a row is none (`no-row`).
+-- The calls return the items. Stepping from a walk's start to its end gives the items of a kind, in order and with their keys, and nothing
+-- else: the rows of a types section (`rows-listed`), the blocks after a body (`blocks-listed`), the entries of a block (`entries-listed`),
+-- the contexts around a row (`contexts-listed`, with their names `contexts-named`), the descriptors of a fields section
+-- (`descriptors-listed`) and their records (`records-listed`). What one call reads is its item (`body-listed`, `block-listed`,
+-- `init-listed`, `pointer-listed`, `offsets-listed`, `static-offsets-listed`). A slot without a row has no item (`no-row`).
 use Prim.Native.Nat.{ℕ, zero, suc, _+_, _*_, _^_, _≤_, _<_}
 use native.Mathlib.Decide.{decLt}
 use native.Mathlib.Omega.{arith}
@@ -59,7 +60,7 @@ abbrev pub withItem : Key → Option Answer → List Item → List Item
 withItem k none l = l
 withItem k (some a) l = record { key = k; answer = a } ∷ l
 
--- those of some keys that have one, in order
+-- those of the keys that have an answer, in order
 abbrev pub itemsOf : List ℕ → List ℕ → Sections → List Key → List Item
 itemsOf image segments s [] = []
 itemsOf image segments s (k ∷ ks) = withItem k (run image segments (item s k)) (itemsOf image segments s ks)
@@ -97,7 +98,7 @@ module _ (image segments : List ℕ) (s : Sections) where
   unfolding item
   no-slot i h = run-map image segments Answer.row (rowOfSlot s i) ∙ rw (← past-slots image segments (s .types) (s .typesStart) i h)
 
-  -- ---- what hangs on a row
+  -- ---- what belongs to a row
 
   no-row-no-item : (k : Key) (i : ℕ) → slotOf k ≡ some i → ((j : ℕ) → slotOf k ≡ some j → run image segments (rowOfSlot s j) ≡ none) → run image segments (item s k) ≡ none
   unfolding item entryOfSlot contextOfSlot run
@@ -116,7 +117,7 @@ module _ (image segments : List ℕ) (s : Sections) where
   no-row-no-item (Key.fieldDescriptor j) i t e = let z : _≡_ {A = ℕ} 0 1 = cc in absurd (omega arith)
   no-row-no-item (Key.fieldRecord j k) i t e = let z : _≡_ {A = ℕ} 0 1 = cc in absurd (omega arith)
 
-  -- a slot without a row has nothing
+  -- a slot without a row has no item
   pub no-row : (k : Key) (i : ℕ) → slotOf k ≡ some i → run image segments (item s (Key.row i)) ≡ none → run image segments (item s k) ≡ none
   unfolding item
   no-row k i t e = no-row-no-item k i t (λ j u. let q : i ≡ j = cc in rw q at (un-map-none image segments Answer.row (rowOfSlot s i) e))
@@ -153,7 +154,7 @@ module _ (image segments : List ℕ) (s : Sections) (i : ℕ) (r : TypeRow) (is-
   unfolding item
   the-row = un-map image segments Answer.row (rowOfSlot s i) r (λ a e. cc) is-row
 
-  -- the body that is decoded at a row's address by its flags
+  -- the body that is decoded at a row's address with its flags
   pub body-listed : run image segments (item s (Key.body i)) ≡ Option·map Answer.body (run image segments (body (r .address) (r .flags)))
   unfolding item
   body-listed = run-map image segments Answer.body (bodyOfSlot s i) ∙ ap (Option·map Answer.body) (Hung.slot-body image segments (s .types) (s .typesStart) i r the-row)
@@ -197,14 +198,15 @@ module _ (image segments : List ℕ) (s : Sections) (i : ℕ) (r : TypeRow) (is-
             (ap (λ (j : BlockKind). record { key = Key.block i j; answer = Answer.block x } ∷ map (blockItem i) rest) q
             ∙ ap (λ (l : List Item). record { key = Key.block i k; answer = Answer.block x } ∷ l) further)
 
-    -- a walk that starts behind the body: as many steps as there are kinds, or more, give the blocks of all kinds
+    -- a walk that starts after the body: as many steps as there are kinds, or more, give the blocks of all kinds
     pub blocks-listed : (n : ℕ) → 11 ≤ n
         → map (blockItem i) (steppedBlocks image segments n (record { trailing = trailing (r .flags) b; row = 0; address = trailingStart (r .address) b }))
         ≡ itemsOf image segments s (blockKeys i blockKinds)
     unfolding blocks
     blocks-listed n h = rw (stepped-blocks image segments (trailing (r .flags) b) (trailingStart (r .address) b) n h) (blocks-items blockKinds)
 
-    -- the offsets by the descriptor's own singleton pointer are those for the metadata address that it gives, and without one there are none
+    -- the offsets from the descriptor's own singleton pointer are those for the metadata address that it gives, and without one there are
+    -- none
     static-by : staticPlace image segments (r .address) (r .flags) ≡ andThen (run image segments (pointerOfSlot s i)) (offsetsPlace image segments (some b))
     unfolding staticPlace metadataAt slotPointer
     static-by =
@@ -280,7 +282,7 @@ module _ (image segments : List ℕ) (s : Sections) (i : ℕ) (r : TypeRow) (is-
           rw (past-end (chain image segments contextsMost (r .parent)) k (omega (arith, chain-length image segments contextsMost (r .parent))))
           (simp (le-ltb k contextsMost (omega arith)))
 
--- ---- what hangs on a body
+-- ---- what belongs to a body
 
 module _ (image segments : List ℕ) (s : Sections) (i m : ℕ) where
   pub no-offsets : run image segments (item s (Key.body i)) ≡ none → run image segments (item s (Key.offsets i m)) ≡ none
@@ -294,7 +296,8 @@ module _ (image segments : List ℕ) (s : Sections) (i m : ℕ) where
         run-map image segments Answer.offsets (offsetsOfSlot s i m)
         ∙ ap (Option·map Answer.offsets) (Vector.slot-offsets image segments (s .types) (s .typesStart) i m b (un-map image segments Answer.body (bodyOfSlot s i) b (λ a e. cc) is-body))
 
-    -- the offsets for a metadata address: the numbers of the vector whose place and length are told (`offset-nth` has them by their number)
+    -- the offsets for a metadata address: the numbers of the vector whose place and length the call returns (`offset-nth` has them by their
+    -- number)
     pub offsets-listed : run image segments (item s (Key.offsets i m)) ≡ Option·map (λ v. Answer.offsets (offsetList image v)) (offsetsPlace image segments (some b) m)
     offsets-listed = its-offsets ∙ rw (Vector.offsets-run image segments b m) (go (offsetsPlace image segments (some b) m))
       where
@@ -302,7 +305,7 @@ module _ (image segments : List ℕ) (s : Sections) (i m : ℕ) where
         go none = refl
         go (some v) = refl
 
--- ---- what hangs on a block
+-- ---- what belongs to a block
 
 pub record TableIn (x : Block) : Type 0 where
   pub table : Table
@@ -342,7 +345,7 @@ module _ (image segments : List ℕ) (s : Sections) (i : ℕ) where
           ap (Option·map Answer.entry) (entries-listed-all image segments (entryLayout e) (t .base) (t .count) n k h ∙ sym its)
           ∙ sym (run-map image segments Answer.entry (entryOfSlot s i e k))
 
-  -- by the four kinds: the calls that step, and what they are given
+  -- for the four kinds: the calls that step, and their arguments
   module _ (count base n k : ℕ) (h : count ≤ n) where
     -- the entries that a walk from a table's start gives
     abbrev steps : Layout → Option Answer
@@ -364,7 +367,7 @@ module _ (image segments : List ℕ) (s : Sections) (i : ℕ) where
         → steps prespecialization ≡ run image segments (item s (Key.entry i EntryKind.prespecializations k))
     prespecializations-listed e = entries-listed EntryKind.prespecializations (tableBlock BlockKind.Prespecializations 0 count base) e (record { count = count; base = base }) refl n k h
 
-  -- the records of a singleton, each by its block's address
+  -- the singleton records, each at its block's address
   pub no-init : run image segments (item s (Key.block i BlockKind.SingletonMetadataInit)) ≡ none → run image segments (item s (Key.initialization i)) ≡ none
   unfolding item
   no-init f = map-none image segments _ (Hung.no-block-no-init image segments _ _ i (un-map-none image segments Answer.block (blockOfSlot s i BlockKind.SingletonMetadataInit) f)) _

@@ -1,5 +1,6 @@
--- The place of an offset list in the image is a number of what the calls tell and not of the item, which depends on no image. It goes with the item: the cut image tells
--- the whole one's place and count where the item's path ends at or before the cut, and else nothing (`cut-offsets`).
+-- The place of an offset list in the image is a number that the calls return and not a number of the item, which depends on no image. It
+-- goes with the item: the cut image gives the whole image's place and count if the item's path ends at or before the cut, and nothing
+-- otherwise (`cut-offsets`).
 use Prim.Native.Nat.{ℕ, _+_, _*_}
 use mathlib.Core.Path.{_≡_, refl, sym, ap, _∙_}
 use mathlib.Core.List.{List, _++_}
@@ -17,7 +18,7 @@ use Rattle.items.specs.Keys.{Sections, Key, Answer}
 use Rattle.items.specs.Items.{item, bodyOfSlot, offsetsOfSlot}
 use Rattle.items.specs.ProgramLaws.{path-map}
 
--- what `field_offsets` tells of a slot's body for a metadata address: the place and the count of its offset list
+-- what `field_offsets` returns for a slot's body and a metadata address: the place and the count of its offset list
 unfoldable pub offsetsTold : List ℕ → List ℕ → Sections → ℕ → ℕ → Option Offsets
 offsetsTold image segments s i m = andThen (run image segments (bodyOfSlot s i)) (λ b. offsetsPlace image segments (some b) m)
 

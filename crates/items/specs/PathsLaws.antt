@@ -1,5 +1,5 @@
--- The paths of the items are those of docs/SPECIFICATION.md, "Items, paths and the cut": an equation for each kind of item, each with the path of the item that
--- it hangs on.
+-- The paths of the items are those of docs/SPECIFICATION.md, "Items, paths and the cut": an equation for each kind of item, each with the
+-- path of the item that it belongs to.
 use Prim.Native.Nat.{ℕ, suc, _+_, _*_, _<_}
 use native.Mathlib.Decide.{decLt}
 use native.Mathlib.Omega.{arith}
@@ -42,7 +42,7 @@ use Rattle.items.specs.ProgramLaws.{path-map, un-map}
 abbrev pub rangeAt : List ℕ → ℕ → ℕ → Range
 rangeAt segments a n = bytesRange (offsetOrZero segments a) n
 
--- an address that has an offset has the one that ranges are counted from
+-- the offset of an address, if it has one, is the offset that ranges are counted from
 placed : (segments : List ℕ) (a o : ℕ) → fileOffset (segmentsOf segments) a ≡ some o → fileOffset (segmentsOf segments) a ≡ some (offsetOrZero segments a)
 placed segments a o e = e ∙ ap some (sym (ap (λ (x : Option ℕ). Option·getD x 0) e))
 
@@ -120,7 +120,7 @@ module _ (image segments : List ℕ) where
 
         -- ---- blocks
 
-        -- the body's path, the headers of the earlier blocks that are there, and its own if it has one
+        -- the body's path, the headers of the earlier blocks that are present, and its own if it has one
         pub item-block-path : (k : BlockKind) (x : Block) → run image segments (item s (Key.block i k)) ≡ some (Answer.block x)
             → path image segments (item s (Key.block i k))
             ≡ path image segments (item s (Key.body i)) ++ headers image segments (trailing (r .flags) b) (trailingStart (r .address) b) (suc (rowNumber k))
@@ -143,7 +143,7 @@ module _ (image segments : List ℕ) where
           ∙ context-reads image segments s i r the-row k h (un-map image segments Answer.context (contextOfSlot s i k) h (λ a e. cc) is-context)
           ∙ ap (λ (l : List Range). l ++ contextRanges segments (chain image segments (suc k) (r .parent))) (sym (path-map image segments Answer.row (rowOfSlot s i)))
 
-    -- ---- what hangs on a body
+    -- ---- what belongs to a body
 
     -- an offset list for a metadata address: the body's path, and the vector's bytes
     pub item-offsets-path : (f v m : ℕ) (l : List ℕ) → run image segments (item s (Key.body i)) ≡ some (Answer.body (ofStruct f v))
@@ -171,7 +171,7 @@ module _ (image segments : List ℕ) where
         ∙ Vector.offsets-path image segments (s .types) (s .typesStart) i m l f v (offsetOrZero segments (m + 8 * v)) b there (placed segments (m + 8 * v) (w .offset) (w .at))
         ∙ ap (λ (p : List Range). p ++ (rangeAt segments (m + 8 * v) (4 * f) ∷ [])) (sym (path-map image segments Answer.body (bodyOfSlot s i)))
 
-    -- ---- what hangs on a block
+    -- ---- what belongs to a block
 
     module _ (k : BlockKind) (x : Block) (is-block : run image segments (item s (Key.block i k)) ≡ some (Answer.block x)) where
       the-block : run image segments (blockOfSlot s i k) ≡ some x
@@ -197,7 +197,7 @@ module _ (image segments : List ℕ) where
         ∙ rw (the-block (tableKind e) x is-block, is-table, own-entries image segments (entryLayout e) (t .base) (t .count) k y (sym its ∙ there))
         (ap (λ (l : List Range). l ++ ranges segments (entryLayout e) (t .base) k) (sym (block-reads (tableKind e) x is-block)))
 
-    -- the records of a singleton: their block's path, and the 12 or 4 bytes that they read
+    -- singleton records: their block's path, and the 12 or 4 bytes that they read
     pub item-init-path : (v : ℕ) (y : Initialization) → run image segments (item s (Key.block i BlockKind.SingletonMetadataInit)) ≡ some (Answer.block (placedBlock BlockKind.SingletonMetadataInit v))
         → run image segments (item s (Key.initialization i)) ≡ some (Answer.initialization y)
         → path image segments (item s (Key.initialization i)) ≡ path image segments (item s (Key.block i BlockKind.SingletonMetadataInit)) ++ (rangeAt segments v 12 ∷ [])

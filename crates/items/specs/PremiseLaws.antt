@@ -1,6 +1,7 @@
--- The premise on texts by addresses and by paths. Where the cut falls into no text of a name, it falls into none of the path that reads the name (`name-clear`), and
--- the other way round (`clear-name`): the premise asks for no more. What reads a row's name is the row (`row-text`), what reads a context's is the crate `parent`'s
--- program (`context-text`), so the premise for them is that of the calls (`row-clear` and `clear-row`, `clear-context`, `clear-field`).
+-- The premise on texts in terms of addresses and of paths. If the cut does not fall into the text of a name, it does not fall into a text
+-- on the path that reads the name (`name-clear`), and conversely (`clear-name`): the premise asks for no more. A row's name is read by the
+-- row (`row-text`), a context's by the program of the crate `parent` (`context-text`), so the premise for them is that of the calls
+-- (`row-clear` and `clear-row`, `clear-context`, `clear-field`).
 use Prim.Native.Nat.{ℕ, _+_, _*_, _^_, _≤_}
 use native.Mathlib.Omega.{arith}
 use mathlib.Core.Path.{_≡_, refl, sym, ap, _∙_, fun-ext}
@@ -127,7 +128,7 @@ module _ (image segments : List ℕ) (c : ℕ) where
   -- ---- of a key
 
   module _ (s : Sections) where
-    -- a row's path is clear where the name of its slot's descriptor is
+    -- a row's path is clear if the name of its slot's descriptor is
     pub row-clear : (i : ℕ) → ClearOf image segments s c (NameKey.descriptor i) → All (Clear c) (path image segments (rowOfSlot s i))
     unfolding readName nameOf
     row-clear i h =
@@ -135,7 +136,7 @@ module _ (image segments : List ℕ) (c : ℕ) where
         = text-clear (slotNameAddress s i) (on-slot-name image segments (Clear c) (λ o n. bytes-clear c (bytesRange o n) refl) s i .all) h in
         rw (row-text s i, path-map image segments rowNamed (rowOfSlot s i)) at w
 
-    -- the path of a name is clear where the name is, and the name of the row that it hangs on
+    -- the path of a name is clear if the name is, and the name of the row that it belongs to
     pub name-clear : (n : NameKey) → ((i : ℕ) → besideRow n ≡ some i → ClearOf image segments s c (NameKey.descriptor i)) → ClearOf image segments s c n
         → All (Clear c) (path image segments (readName s n))
     unfolding readName
@@ -143,7 +144,7 @@ module _ (image segments : List ℕ) (c : ℕ) where
         text-clear (nameOf s n)
         (on-name image segments (Clear c) (λ o n. bytes-clear c (bytesRange o n) refl) s n (λ i e. record { all = row-clear i (rows i e) }) .all) h
 
-    -- and where the path is clear, the name is: the premise asks for no more
+    -- and if the path is clear, the name is: the premise asks for no more
     pub clear-name : (n : NameKey) → All (Clear c) (path image segments (readName s n)) → ClearOf image segments s c n
     unfolding readName
     clear-name n h = clear-text (nameOf s n) h
@@ -153,7 +154,7 @@ module _ (image segments : List ℕ) (c : ℕ) where
     unfolding nameOf slotNameAddress run
     no-slot-name i h = nowhere image segments s c (NameKey.descriptor i) (simp (le-ltb i (slots (s .types)) h))
 
-    -- by what the calls read: a row; a context and its name; a field record and the text at its third word
+    -- in terms of what the calls read: a row; a context and its name; a field record and the text at its third word
     pub clear-row : (i : ℕ) → All (Clear c) (path image segments (rowOfSlot s i)) → ClearOf image segments s c (NameKey.descriptor i)
     clear-row i h = clear-name (NameKey.descriptor i) (rw (row-text s i, path-map image segments rowNamed (rowOfSlot s i)) h)
 

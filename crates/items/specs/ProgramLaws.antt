@@ -1,5 +1,6 @@
--- What the laws of items stand on: an answer under another name (`run-map`, `path-map`), and that of all that an item reads only its row's name is a text:
--- what holds of every range of bytes and of the row's path holds of the item's path (`on-item`), and of that of a name's address (`on-name`).
+-- What the laws of items rest on: an answer under another name (`run-map`, `path-map`), and that only its row's name is a text among all
+-- that an item reads: what holds of every range of bytes and of the row's path holds of the item's path (`on-item`), and of that of a
+-- name's address (`on-name`).
 use Prim.Native.Nat.{ℕ, zero, suc, _+_, _-_, _*_, _^_}
 use native.Mathlib.Omega.{arith}
 use mathlib.Core.Path.{_≡_, refl, sym, ap, _∙_}
@@ -49,7 +50,7 @@ module _ (image segments : List ℕ) {A B : Type 0} (f : A → B) (p : Reads A) 
       go none = append-nil _
       go (some a) = append-nil _
 
--- what hangs on something that is not there is not there
+-- what depends on something that does not exist does not exist
 module _ (image segments : List ℕ) {A B : Type 0} (p : Reads A) (e : run image segments p ≡ none) where
   pub map-none : (f : A → B) → run image segments (mapReads f p) ≡ none
   map-none f = run-map image segments f p ∙ rw e
@@ -83,7 +84,7 @@ pub every-append : (t : Range → Bool) (l m : List Range) → every t (l ++ m) 
 every-append t [] m = refl
 every-append t (r ∷ l) m = ap (λ (b : Bool). t r && b) (every-append t l m) ∙ sym (and-assoc (t r) (every t l) (every t m))
 
--- the slot on whose row a text hangs that stands beside an item; a row's own name hangs on none
+-- the slot of the row that a text beside an item belongs to; a row's own name has none
 abbrev pub besideRow : NameKey → Option ℕ
 besideRow (NameKey.descriptor i) = none
 besideRow (NameKey.context i k) = some i
@@ -296,7 +297,7 @@ module _ (image segments : List ℕ) (P : Range → Type 0) (onBytes : (o n : �
   on-superclass (ofStruct f v) = on-nothing
   on-superclass (ofEnum p w e) = on-nothing
 
-  -- what is read for the address of a name beside the row of its slot are bytes
+  -- what is read for the address of a name, besides the row of its slot, is bytes
   pub on-name : (s : Sections) (n : NameKey) → ((i : ℕ) → besideRow n ≡ some i → On (rowOfSlot s i)) → On (nameOf s n)
   unfolding nameOf
   on-name s (NameKey.descriptor i) row = on-slot-name s i
@@ -307,7 +308,7 @@ module _ (image segments : List ℕ) (P : Range → Type 0) (onBytes : (o n : �
   on-name s (NameKey.descriptorType j) row = on-map _ (on-descriptor (s .fields) (s .fieldsStart) j)
   on-name s (NameKey.descriptorSuperclass j) row = on-map _ (on-descriptor (s .fields) (s .fieldsStart) j)
 
-  -- what an item reads beside the row of its slot are bytes
+  -- what an item reads besides the row of its slot is bytes
   pub on-item : (s : Sections) (k : Key) → ((i : ℕ) → slotOf k ≡ some i → On (rowOfSlot s i)) → All P (path image segments (item s k))
   unfolding item
   on-item s (Key.row i) row = rw path-map (row i refl .all)

@@ -1,6 +1,7 @@
--- Texts by the cut. What the calls tell of a text, and the bytes that they hand out for it, is what is looked up at the address of its name, the bytes too (`part-read`,
--- `field-part`, `beside-by`, `beside-read`). So under the premise for a text, and for the name of the row that it hangs on, the cut image tells the whole image's, or nothing, or
--- of a field's name what the string section has (`cut-beside`). A text is read where its item is (`beside-path`), and without the item it is not told (`no-beside`).
+-- Texts under the cut. The place that the calls return for a text, and its bytes, are those of the text that is looked up at the address of
+-- its name (`part-read`, `field-part`, `beside-by`, `beside-read`). So under the premise for a text, and for the name of the row that it
+-- belongs to, the cut image gives the whole image's text, or nothing, or, for a field's name, what the string section has (`cut-beside`). A
+-- text's path has its item's (`beside-path`), and without the item there is no text (`no-beside`).
 use Prim.Native.Nat.{ℕ, _+_, _<_}
 use native.Mathlib.Decide.{decLt}
 use native.Mathlib.Omega.{arith}
@@ -39,7 +40,7 @@ abbrev pub ofName : Name → Beside
 ofName n = record { place = inImage (n .place); bytes = n .bytes }
 
 module _ (image segments : List ℕ) where
-  -- the place of a text, as the calls tell it, and the bytes that `text_part` hands out for it are those of the text that is looked up
+  -- the place that the calls return for a text, and the bytes that `text_part` returns for it, are those of the text that is looked up
   pub part-read : (strings : List ℕ) (a : ℕ) → withPart image strings (Option·map inImage (textPlace image segments a)) ≡ Option·map ofName (run image segments (lookup a))
   unfolding lookup run
   part-read strings a = go (textPlace image segments a) refl
@@ -57,10 +58,10 @@ module _ (image segments : List ℕ) where
       go none e = sym (ap (Option·map (λ (n : Name). n .place)) (run-no-text image segments a (λ p t. done (nameIn p t)) (sym e)))
       go (some p) e = sym (ap (Option·map (λ (n : Name). n .place)) (run-text image segments a (λ p t. done (nameIn p t)) p (sym e)))
 
--- ---- what the calls tell, by the name's address
+-- ---- what the calls return, in terms of the name's address
 
 module _ (image segments strings : List ℕ) (start : ℕ) where
-  -- the image's text at an address, or for a field's name what a field's name is
+  -- the image's text at an address, or, for a field's name, the field name at it
   abbrev placeAt : Bool → ℕ → Option NamePlace
   placeAt b a = cond b (fieldName image segments strings start a) (Option·map inImage (textPlace image segments a))
 
@@ -112,7 +113,7 @@ module _ (image segments strings : List ℕ) (start : ℕ) where
     told-by (NameKey.descriptorType j) = by-number (descriptorAt (s .fields) (s .fieldsStart) j) (λ d. d .«mangled_type_name_va») (placeAt false)
     told-by (NameKey.descriptorSuperclass j) = by-number (descriptorAt (s .fields) (s .fieldsStart) j) (λ d. d .«superclass_va») (placeAt false)
 
-    -- what the calls tell of a text, by the address of its name
+    -- what the calls return for a text, in terms of the address of its name
     pub beside-by : (n : NameKey) → besideOf image segments strings start s n ≡ andThen (run image segments (nameOf s n)) (λ a. withPart image strings (placeAt (isField n) a))
     unfolding besideOf
     beside-by n = rw (told-by n) (go (run image segments (nameOf s n)))
@@ -121,7 +122,7 @@ module _ (image segments strings : List ℕ) (start : ℕ) where
         go none = refl
         go (some a) = refl
 
-    -- so of a text that is not a field's name it is what the program of the name answers
+    -- so for a text that is not a field's name it is what the program of the name answers
     pub beside-read : (n : NameKey) → isField n ≡ false → besideOf image segments strings start s n ≡ Option·map ofName (run image segments (readName s n))
     unfolding readName
     beside-read n e = beside-by n ∙ rw (run-bind image segments lookup (nameOf s n)) (go (isField n) e (run image segments (nameOf s n)))
@@ -145,8 +146,8 @@ module _ (image segments strings : List ℕ) (start : ℕ) where
 
 -- ---- the cut
 
--- the claim: the image's first `c` bytes give the whole image's text if its path, the item's that it stands beside and its own, ends at or before `c`; if only the path of
--- its address does, of a field's name the string section's, else none; and where that is lost, none
+-- the claim: the image's first `c` bytes give the whole image's text if its path, that of its item and its own, ends at or before `c`; if
+-- only the path of its address does, they give the string section's for a field's name, else none; and if that is lost, none
 abbrev pub TextClaim : List ℕ → List ℕ → List ℕ → ℕ → Sections → ℕ → NameKey → Type 0
 TextClaim image segments strings start s c n =
     besideOf (take c image) segments strings start s n
@@ -167,7 +168,7 @@ module _ (image segments : List ℕ) (c : ℕ) where
   cut-text a clear = cut image segments c (lookup a) (lookup-clear image segments c a clear)
 
   module _ (strings : List ℕ) (start : ℕ) where
-    -- as the calls tell it, and a field's name
+    -- as the calls return it, and a field's name
     cut-part : (b : Bool) (a : ℕ) → ClearAt image segments c a
         → withPart (take c image) strings (placeAt (take c image) segments strings start b a)
         ≡ cond (textEndsBy a) (withPart image strings (placeAt image segments strings start b a)) (cond b (sectionBeside strings start a) none)
@@ -228,7 +229,7 @@ besideKey (NameKey.descriptorType j) = some (Key.fieldDescriptor j)
 besideKey (NameKey.descriptorSuperclass j) = some (Key.fieldDescriptor j)
 
 module _ (image segments : List ℕ) (s : Sections) where
-  -- what is read for a context's address beside the context: the four bytes of the offset
+  -- what is read for the address of a context's name besides the context: the four bytes of the offset
   abbrev pub offsetPath : NameKey → List Range
   offsetPath (NameKey.descriptor i) = []
   offsetPath (NameKey.context i k) = also (run image segments (contextOfSlot s i k)) (λ h. path image segments (contextNameAt h))
@@ -241,7 +242,7 @@ module _ (image segments : List ℕ) (s : Sections) where
   abbrev Stands : NameKey → Key → Type 0
   Stands n k = path image segments (nameOf s n) ≡ path image segments (item s k) ++ offsetPath n
 
-  -- for the address of a text its item is read, and of a context those four bytes
+  -- for the address of a text its item is read, and for a context's name those four bytes
   beside-item : {A B C : Type 0} (f : A → B) (g : A → C) (p : Reads A) → path image segments (mapReads f p) ≡ path image segments (mapReads g p) ++ []
   beside-item f g p = path-map image segments f p ∙ sym (path-map image segments g p) ∙ sym (append-nil _)
 
@@ -283,19 +284,19 @@ module _ (image segments : List ℕ) (s : Sections) where
   no-item (NameKey.descriptorType j) k e f = map-none image segments _ (un-map-none image segments Answer.fieldDescriptor _ (its k (Key.fieldDescriptor j) e f)) _
   no-item (NameKey.descriptorSuperclass j) k e f = map-none image segments _ (un-map-none image segments Answer.fieldDescriptor _ (its k (Key.fieldDescriptor j) e f)) _
 
-  -- and not told
+  -- and not returned
   pub no-beside : (strings : List ℕ) (start : ℕ) (n : NameKey) (k : Key) → besideKey n ≡ some k → run image segments (item s k) ≡ none
       → besideOf image segments strings start s n ≡ none
   no-beside strings start n k e f = beside-by image segments strings start s n ∙ rw (no-item n k e f)
 
--- the addresses that a record's call tells
+-- the addresses that a record's call returns
 pub record-name : (r : FieldRecord) → recordName (ofRecord r) ≡ r .«field_name_va»
 record-name r = refl
 
 pub record-type : (r : FieldRecord) → recordTypeName (ofRecord r) ≡ r .«mangled_type_name_va»
 record-type r = refl
 
--- ---- contexts, as the calls give them
+-- ---- contexts, as the calls return them
 
 module _ (image segments : List ℕ) (c : ℕ) where
   -- the same header, and the whole image's name or none

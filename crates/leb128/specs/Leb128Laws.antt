@@ -27,7 +27,7 @@ one-more : (b : ℕ) (x : Option (List ℕ)) (e : List ℕ) → Option·map (λ 
 one-more b none e h = let z : _≡_ {A = ℕ} 0 1 = cc in absurd (omega arith)
 one-more b (some f) e h = (f, (refl, cc))
 
--- bytes that go on are not all of an encoding
+-- continuation bytes alone are not an encoding
 pub goes-on : (s : List ℕ) (i : ℕ) → ((k : ℕ) → k < i → 128 ≤ getD s k 0) → (e : List ℕ) → encoding s ≡ some e → i < length e
 unfolding encoding
 goes-on [] i on e h = let z : _≡_ {A = ℕ} 0 1 = cc in absurd (omega arith)
@@ -186,7 +186,7 @@ module _ (s : List ℕ) (bits b : ℕ) (r : Running s 9 bits) (h : 9 < length s)
 
 -- ---- what the readers make of an encoding
 
--- nothing of a longer one
+-- they read nothing from a longer one
 longer : {A : Type 0} (f : List ℕ → Option A) (s : List ℕ) → ((e : List ℕ) → 11 < length e → none ≡ f e) → ((e : List ℕ) → encoding s ≡ some e → 11 < length e) → none ≡ ofEncoding f (encoding s)
 longer f s none-of h = go (encoding s) refl
   where
@@ -219,7 +219,7 @@ module _ (s : List ℕ) (bits weight last count : ℕ) (r : Chunk s bits weight 
   chunk-length : length (take count s) ≡ count
   chunk-length = length-take-le count s (omega (arith, r .within))
 
-  -- the eleventh byte, or what stands for it
+  -- the eleventh byte, or what takes its place
   eleventh : (d : ℕ) → 10 < count → getD (take count s) 10 d ≡ last
   eleventh d h =
       let ten : count - 1 ≡ 10 = omega (arith, r .within) in
@@ -270,7 +270,7 @@ module _ (s : List ℕ) (bits weight last count : ℕ) (r : Chunk s bits weight 
     sleb-refused b f h =
         rw (r .is, short, ← r .low, eleventh (signBits bits) (omega (arith, eleven)), ne-eqb last (signBits bits) (λ e. h (e ∙ sym f)))
 
-  -- up to nine bytes: the last one's weight, and the bits below it
+  -- up to nine bytes: the weight of the last one, and the bits below it
   module _ (h : count < 10) where
     abbrev k : ℕ
     k = count - 1

@@ -28,12 +28,12 @@ use Rattle.entry_tables.specs.TablesLaws.{numbersOfAll, table-listed, same-coun
 use Rattle.named_records.specs.NamedRecords.{namedNumbers, namedTable}
 use Rattle.named_records.specs.NamedRecordsLaws.{text-long, name-long}
 
--- a record of three words, by its own numbers and by all
+-- a record of three words, as its own numbers and as all ten
 module _ (image segments strings : List ℕ) (start : ℕ) where
   abbrev all : Entry → List ℕ
   all = namedNumbers image segments strings start
 
-  -- the next record of a list with names, and the same of one without
+  -- the next record of a list with names, and of one without
   pub record Named (named own : List ℕ) : Type 0 where
     pub first : take 4 named ≡ take 4 own
     pub typeName : take 3 (drop 4 named) ≡ textNumbers (textPlace image segments (getD own 2 0))
@@ -114,11 +114,12 @@ module _ (image segments strings : List ℕ) (start : ℕ) where
 
 -- ---- by examples
 
--- an image at 4096: a record with flags 2, its type's name 8 bytes behind its slot, and its field's so many (below 2^16); then the text "Si"
+-- an image at 4096: a record with flags 2, its type's name 8 bytes after its slot, and its field's name a given number of bytes after its
+-- slot (below 2^16); then the text "Si"
 abbrev sample : ℕ → ℕ → List ℕ
 sample low high = 2 ∷ 0 ∷ 0 ∷ 0 ∷ 8 ∷ 0 ∷ 0 ∷ 0 ∷ low ∷ high ∷ 0 ∷ 0 ∷ letters "Si" ++ 0 ∷ []
 
--- its records, of a list that says to have two, with the text "x" in a string section at an address; the second cannot be read
+-- its records, in a list that claims to have two, with the text "x" in a string section at an address; the second cannot be read
 abbrev listedFrom : ℕ → ℕ → ℕ → ℕ → WholeTable
 listedFrom low high start n =
     namedTable (sample low high) (4096 ∷ 15 ∷ 0 ∷ 15 ∷ []) (120 ∷ 0 ∷ []) start (record { «base_va» = 4096; count = 2; «entry_size» = 12; cursor = 0 }) n

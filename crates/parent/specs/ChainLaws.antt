@@ -16,7 +16,7 @@ use Rattle.parent.specs.Chain.{contextsMost, headerAt, contextAt, chain,
 use Rattle.parent.specs.ContextLaws.{chain-full, chain-ends, chain-goes-on}
 
 module _ (image segments : List ℕ) where
-  -- the chain by what the first header reads
+  -- the chain in terms of what the first header reads
   abbrev pub chained : ℕ → Option Header → List Context
   chained n none = []
   chained n (some h) = withName image segments h ∷ chain image segments n (h .parent)
@@ -58,7 +58,7 @@ module _ (image segments : List ℕ) where
   unfolding steppedChain
   step-by n a g x e = rw (steppedChain, e)
 
-  -- as many contexts of the chain as steps, and 256 at most
+  -- as many contexts of the chain as steps, and at most 256
   pub stepped-chain : (n a g : ℕ) → steppedChain n a g ≡ chain image segments (min n (contextsMost - g)) a
   unfolding steppedChain chain
   stepped-chain zero a g = let z : 0 ≡ min 0 (contextsMost - g) = omega arith in ap (λ (k : ℕ). chain image segments k a) z

@@ -1,4 +1,4 @@
--- What the tests on a context and on its name say of their programs, and what a context says of a chain.
+-- What the tests on a context and on its name say about their programs, and what a context says about a chain.
 use Prim.Native.Nat.{ℕ, _+_, _^_, _≤_, _<_}
 use native.Mathlib.Omega.{arith}
 use mathlib.Core.Path.{_≡_, sym, _∙_}
@@ -90,7 +90,7 @@ module _ (image segments : List ℕ) (a : ℕ) where
   unfolding contextRead
   no-context e = rw (← e)
 
-  -- a context that no segment puts into the file
+  -- a context that no segment has in the file
   pub nowhere : (a ≡ 0 → ⊥) → none ≡ fileOffset (segmentsOf segments) a → none ≡ contextRead image segments a
   nowhere z e = no-context (no-header z [] (read-nothing image segments a 8 (bytes-nowhere image segments a 8 e)) (omega arith))
 

@@ -19,7 +19,7 @@ use Rattle.parent.specs.Context.{Name, Header, headerIn, header, slotNam
 use Rattle.parent.specs.Chain.{headerAt, chain}
 use Rattle.parent.specs.ChainLaws.{chain-by, next-by}
 
--- a program behind a test answers only where the test lets it through
+-- a program after a test answers only if the test passes
 module _ (image segments : List ℕ) {A : Type 0} (x : A) (p : Reads A) where
   unless : (b : Bool) → run image segments (cond b nothing p) ≡ some x → cond b nothing p ≡ p
   unfolding run
@@ -39,7 +39,7 @@ place-is p t n e = cc
 
 -- ---- the header
 
--- where a header that is there was read
+-- where a header that can be read was read
 record HeaderFound (image segments : List ℕ) (a : ℕ) (h : Header) : Type 0 where
   offset : ℕ
   at : fileOffset (segmentsOf segments) a ≡ some offset
@@ -66,7 +66,7 @@ module _ (image segments : List ℕ) (a : ℕ) where
             ∙ ap (λ (r : Reads Header). bytesRange (w .offset) 8 ∷ path image segments r) q;
       }
 
-  -- the header that is read at an address is that address's
+  -- the header that is read at an address has that address
   pub header-address : (h : Header) → run image segments (header a) ≡ some h → h .address ≡ a
   header-address h e = header-found h e .address
 
@@ -101,7 +101,7 @@ module _ (image segments : List ℕ) (a : ℕ) where
       ∙ ap (λ (l : List Range). bytesRange (w .offset) 4 ∷ l) (slot-path (a + 8) _ n (w .goes))
       ∙ ap (λ (u : ℕ). bytesRange u 4 ∷ (withNul image (n .place) ∷ [])) (same-offset _ _ _ (w .at) at)
 
-  -- the same of a context by its flags
+  -- the same for a context with its flags
   pub context-name-path : (flags o : ℕ) (n : Name) → run image segments (name a flags) ≡ some n → fileOffset (segmentsOf segments) (a + 8) ≡ some o
       → path image segments (name a flags) ≡ bytesRange o 4 ∷ (withNul image (n .place) ∷ [])
   unfolding name
@@ -153,7 +153,7 @@ module _ (image segments : List ℕ) where
           ∙ rw f (ap (λ (l : List Range). path image segments (header a) ++ l) (ih (t .parent) (sym (next-by image segments k a (some t) f) ∙ e)))
           ∙ sym (chain-ranges (suc k) a t f)
 
-  -- no more contexts than are asked for
+  -- no more contexts than requested
   pub chain-length : (n a : ℕ) → length (chain image segments n a) ≤ n
   unfolding chain
   chain-length zero a = omega arith

@@ -1,4 +1,4 @@
--- More contexts than so many can be read: by the chain, and by the program of the context with that number.
+-- More than `n` contexts can be read: in terms of the chain, and of the program of context `n`.
 use Prim.Native.Nat.{ℕ, zero, suc}
 use native.Mathlib.Omega.{arith}
 use mathlib.Core.Path.{_≡_, refl, sym, _∙_, ap}
@@ -30,7 +30,7 @@ module _ (image segments : List ℕ) where
       go none e ih = rw (chain-by image segments (suc n) a none e, next-by image segments n a none e) (lt-leb (suc (suc n)) 0 (omega arith))
       go (some h) e ih = rw (chain-by image segments (suc n) a (some h) e, next-by image segments n a (some h) e, leb·suc-suc) (ih (h .parent))
 
-  -- where there are no more, those are all
+  -- if there are no more, those are all
   pub not-deeper : (n a : ℕ) → deeper image segments n a ≡ false → chain image segments (suc n) a ≡ chain image segments n a
   unfolding chain
   not-deeper zero a e = go (run image segments (header a)) refl

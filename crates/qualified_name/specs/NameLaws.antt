@@ -1,4 +1,4 @@
--- What a written answer says of the buffer and of its length, and what the hops say of the joined name.
+-- What a written answer says about the buffer and its length, and what the hops say about the joined name.
 use Prim.Native.Nat.{ℕ, _+_, _-_, _^_, _≤_, _<_, min}
 use native.Mathlib.Nat.{add-comm, zero-add}
 use native.Mathlib.Decide.{decLt}
@@ -18,7 +18,7 @@ use Rattle.qualified_name.specs.Name.{hops, tooDeep, qualifiedName, name
 use Rattle.qualified_name.specs.Walk.{deeper, before, hopsAnswer, filled}
 use Rattle.typedescriptor.specs.Row.{TypeRow}
 
--- a refusal leaves the buffer as it is
+-- a refusal leaves the buffer unchanged
 pub kept : (r : ℕ) (t b : List ℕ) → b ≡ filled (refused r) t b
 unfolding filled
 kept r t b = refl
@@ -41,7 +41,7 @@ from-start b t b′ n w = w .holds ∙ ap (λ (k : ℕ). t ++ drop k b) (zero-ad
 
 -- ---- the hops from an address on
 
--- the answer of the contexts further out, with so many bytes more
+-- the answer of the contexts further out, with more bytes after them
 abbrev pub onward : ℕ → Guarded ℕ → Guarded ℕ
 onward k = mapped (λ n. n + k)
 
@@ -79,7 +79,7 @@ hops-written image segments left a rest size n e = length-told (deeper image seg
 
 -- ---- the joined name
 
--- the two ways to say it: by the first 256 contexts, and by the contexts that are read to see whether there are more
+-- the two ways to say it: with the first 256 contexts, and with the contexts that are read to see whether there are more
 module _ (image segments : List ℕ) (row : TypeRow) (own : List ℕ) (eo : own ≡ row .nameBytes) where
   abbrev ahead : List ℕ
   ahead = before image segments contextsMost (row .parent)
@@ -130,7 +130,7 @@ module _ (image segments : List ℕ) (row : TypeRow) (own : List ℕ) (eo : own 
     name-filled b b′ b″ n end e eb en w h =
         rw (name-answered n e) (from-start b (ahead ++ own) b″ end (put-then b ahead own b′ b″ 0 n end (at-start b ahead b′ n en eb) w (omega arith)))
 
--- what an answer says of the name
+-- what an answer says about the name
 pub name-length : (image segments : List ℕ) (row : TypeRow) (size n : ℕ) → answered n ≡ mapped length (nameAnswer image segments row size)
     → (nameAnswer image segments row size ≡ answered (qualifiedName image segments row)) × ((n ≡ length (qualifiedName image segments row)) × (n ≤ size))
 unfolding nameAnswer

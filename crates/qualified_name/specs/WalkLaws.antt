@@ -1,4 +1,4 @@
--- How a block grows by a context, and what its ends say.
+-- How a block grows by a context, and what its end says.
 use Prim.Native.Nat.{ℕ, zero, suc, _+_, _-_, _^_, _≤_, _<_, min}
 use native.Mathlib.Numerals.{add-one}
 use native.Mathlib.Omega.{arith}
@@ -30,7 +30,7 @@ use Rattle.segment.specs.declared.segment.Around.{Around}
 part-length : (image : List ℕ) (p n : ℕ) → p + n ≤ length image → length (partOf image (place p n)) ≡ n
 part-length image p n h = rw (part-in image p n h) (simp (length-take, length-drop) (omega arith))
 
--- a name that is stored at `k` is none of the first `n`
+-- a name that is stored at `k` is not among the first `n`
 module _ (image places lengths : List ℕ) (k p l : ℕ) where
   stored-past : (n : ℕ) → n ≤ k → gathered image (set places k p) (set lengths k l) n ≡ gathered image places lengths n
   unfolding gathered
@@ -213,7 +213,7 @@ module _ (image segments : List ℕ) (left a rest : ℕ) (places lengths : List 
   pub last-filled : (t t′ : List ℕ) (n : ℕ) → Put t 0 (gathered image places lengths count) n t′ → t′ ≡ filled (answered n) (before image segments left a) t
   last-filled t t′ n w = rw (b .hops) (from-start t (gathered image places lengths count) t′ n w)
 
--- where there is not a context
+-- if there is no context
 module _ (image segments : List ℕ) (left a : ℕ) (e : none ≡ contextRead image segments a) where
   pub none-long : (rest size : ℕ) → size < rest → rest < 2 ^ 64 → size < 2 ^ 64 - 1 → refused 3 ≡ hopsAnswer image segments left a rest size
   none-long rest size h hr hs = last-long image segments left a rest [] [] 0 rest (no-names image segments left a rest e hr) size h hs

@@ -1,5 +1,5 @@
--- What the calls' answers say of the language of reads: a caller gets what `run` says from a call's contract in one step
--- (`run-bytes`, `run-no-bytes`, `run-text`, `run-no-text`). And the cases of the definitions, as the calls' tests leave them.
+-- What the calls' answers say about the language of reads: from a call's contract a caller gets what `run` is in one step
+-- (`run-bytes`, `run-no-bytes`, `run-text`, `run-no-text`). And the cases of the definitions that the calls' tests leave.
 use Prim.Native.Nat.{ℕ, _+_, _-_, _≤_, _<_}
 use native.Mathlib.Decide.{decLe}
 use native.Mathlib.Omega.{arith}
@@ -96,7 +96,7 @@ module _ (image segments : List ℕ) (a n : ℕ) where
   read-nothing e = rw (← e)
 
   module _ {A : Type 0} (k : List ℕ → Reads A) (r : List ℕ) (e : r ≡ bytesRead image segments a n) where
-    -- as many bytes as were asked for: the program goes on with them
+    -- as many bytes as requested: the program goes on with them
     pub run-bytes : 0 < n → n ≤ length r → run image segments (bytes a n k) ≡ run image segments (k r)
     unfolding run bytesRead
     run-bytes h l = go (bytesPlace image segments a n) e
@@ -166,7 +166,7 @@ module _ (image segments : List ℕ) (a : ℕ) where
       go (some o) f = found-there o p (sym f) .0
 
   module _ {A : Type 0} (k : Place → List ℕ → Reads A) where
-    -- a text that is there: the program goes on with its place and its bytes
+    -- a text that is found: the program goes on with its place and its bytes
     pub run-text : (p : Place) → some p ≡ textPlace image segments a → run image segments (text a k) ≡ run image segments (k p (partOf image p))
     unfolding run textPlace
     run-text p e = go (textOffset segments a) e

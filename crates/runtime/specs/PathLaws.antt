@@ -1,5 +1,5 @@
--- What a path and the cut's tests on it are, as equations with plain lists and numbers. The cut's theorem has them in its premise and in its
--- conclusion, so that it would hold of wrong ones too: these laws, and not the theorem, fix them.
+-- What a path and the cut's tests on it are, as equations with plain lists and numbers. The cut theorem has them in its premise and in its
+-- conclusion, so it could hold with wrong ones too: these laws, and not the theorem, fix them.
 use Prim.Native.Nat.{ℕ, zero, suc, _+_, _-_, _≤_, _<_, min, max}
 use native.Mathlib.Decide.{decLe, decLt}
 use native.Mathlib.Omega.{arith}
@@ -18,7 +18,7 @@ use Rattle.runtime.specs.Reads.{Reads, done, nothing, bytes, text, andTh
 
 -- ---- a text's extent
 
--- the text and its NUL, not past the bytes' end; and one byte at least
+-- the text and its NUL, not past the end of the bytes; and at least one byte
 pub extent-is : (s : List ℕ) → extent s ≡ max 1 (min (length s) (length (untilNul s) + 1))
 unfolding extent untilNul
 extent-is [] = refl
@@ -59,7 +59,7 @@ module _ (image segments : List ℕ) {A : Type 0} where
   path-done x = refl
 
   module _ (a n : ℕ) (k : List ℕ → Reads A) where
-    -- bytes that are there, and what is read after them
+    -- bytes that can be read, and what is read after them
     pub path-bytes : (o : ℕ) → fileOffset (segmentsOf segments) a ≡ some o → o + n ≤ length image
         → path image segments (bytes a n k) ≡ record { from = o; to = o + n; isText = false } ∷ path image segments (k (take n (drop o image)))
     unfolding path bytesPlace within
@@ -99,14 +99,14 @@ module _ (image segments : List ℕ) {A : Type 0} where
 
 -- ---- the reads of a program that answers
 
--- its bytes are there, and it goes on with them
+-- its bytes can be read, and it goes on with them
 pub record BytesRead (image segments : List ℕ) {A : Type 0} (a n : ℕ) (k : List ℕ → Reads A) (x : A) : Type 0 where
   pub offset : ℕ
   pub at : fileOffset (segmentsOf segments) a ≡ some offset
   pub inside : offset + n ≤ length image
   pub goes : run image segments (k (take n (drop offset image))) ≡ some x
 
--- its text is there, and it goes on with that
+-- its text is found, and it goes on with that
 pub record TextRead (image segments : List ℕ) {A : Type 0} (a : ℕ) (k : Place → List ℕ → Reads A) (x : A) : Type 0 where
   pub place : Place
   pub address : a ≡ 0 → ⊥

@@ -78,7 +78,7 @@ head-is e = cc
 tail-is : {x y : ℕ} {s t : List ℕ} → x ∷ s ≡ y ∷ t → s ≡ t
 tail-is e = cc
 
--- a list that is no longer and agrees over the extent has the same text
+-- a list that is not longer and agrees over the extent has the same text
 until-same : (s s′ : List ℕ) → length s′ ≤ length s → take (extent s) s′ ≡ take (extent s) s → untilNul s′ ≡ untilNul s
 unfolding extent untilNul
 until-same [] [] h e = refl
@@ -102,7 +102,7 @@ text-missing : (s : List ℕ) (o : ℕ) → length s < o → textAt s o ≡ none
 unfolding textAt
 text-missing s o h = simp (lt-leb o (length s) h)
 
--- what is asked of each range: where it is good the images agree, elsewhere the second one is too short
+-- what is asked of each range: if it is good, the images agree; otherwise the second one is too short
 abbrev Judged : List ℕ → List ℕ → (Range → Bool) → Range → Type 0
 Judged image image′ good r = ((good r ≡ true) × Agrees image image′ r) ⊎ ((good r ≡ false) × Missing image′ r)
 

@@ -1,4 +1,4 @@
--- What the segments that a walk passes, and the one that decides, say of the addresses around one.
+-- What the segments that a walk passes, and the one that decides, say about the addresses around one.
 use Prim.Native.Nat.{ℕ, _+_, _-_, _^_, _≤_, _<_, min, max}
 use native.Mathlib.Decide.{decLt}
 use native.Mathlib.Omega.{arith}
@@ -31,7 +31,7 @@ module _ (segments : List ℕ) (m : Mapping) (v : ℕ) (r : Lookup) (e : decided
   unfolding fileOffset segmentsOf withMapping
   near-next x t f = f ∙ rw (← e, t)
 
--- a mapping whose addresses have the offsets that it says is true
+-- a mapping whose addresses have the offsets that it gives them is true
 module _ (segments : List ℕ) (m : Mapping) (ends : m .vmaddr + m .size < 2 ^ 64) (fits : m .fileoff + m .size ≤ 2 ^ 64)
     (holds : (v : ℕ) → m .vmaddr ≤ v → v < m .vmaddr + m .size → fileOffset (segmentsOf segments) v ≡ some (m .fileoff + (v - m .vmaddr))) where
   mapped-at : (v : ℕ) → fileOffset (segmentsOf (withMapping m segments)) v ≡ fileOffset (segmentsOf segments) v
@@ -135,7 +135,7 @@ module _ (s : Segment) (v : ℕ) where
         offset = offset;
       }
 
--- a segment that leaves `a` to the next one leaves it all addresses from `low` up to `high`
+-- a segment that leaves `a` to the next one leaves to it all addresses from `low` up to `high`
 module _ (s : Segment) (a low high : ℕ) (e : none ≡ decides s a)
     (el : s .vmaddr + s .vmsize ≤ a → s .vmaddr + s .vmsize ≤ low) (eh : a < s .vmaddr → high ≤ s .vmaddr) where
   no-file : s .vmaddr ≤ a → a < s .vmaddr + s .vmsize → s .filesize ≡ 0
@@ -230,7 +230,7 @@ module _ (l : List ℕ) (i low high : ℕ)
     pub around-mapped : TrueMapping l m
     around-mapped = mapped l m (omega (arith, w .to)) (w .fits) (λ v f t. around-exact .offset v (record { from = f; to = t }))
 
--- ---- what `locate` promises fixes the address's offset, and where it has none, the answer
+-- ---- what `locate` promises fixes the address's offset, and the answer if it has none
 
 pub located-offset : (segments : List ℕ) (v : ℕ) (m : Mapping) → Located segments v (Around.Mapping m) → fileOffset (segmentsOf segments) v ≡ some (m .fileoff + (v - m .vmaddr))
 located-offset segments v m w = w .2 .offset v (w .1)

@@ -1,4 +1,4 @@
--- What the tests of a segment, one after the other, say of `decides`.
+-- What the tests of a segment, one after the other, say about `decides`.
 use Prim.Native.Nat.{ℕ, _+_, _-_, _^_, _≤_, _<_}
 use native.Mathlib.Nat.{add-zero}
 use native.Mathlib.Omega.{arith}

@@ -1,4 +1,4 @@
--- A turn of the walk over the segments, and for which of them an offset leads back to the address that it came from.
+-- A turn of the walk over the segments, and for which segments an offset leads back to the address that it came from.
 use Prim.Native.Nat.{ℕ, _+_, _-_, _^_, _≤_, _<_, min}
 use native.Mathlib.Decide.{decLt}
 use native.Mathlib.Omega.{arith}
@@ -91,7 +91,7 @@ unfolding fileOffset
 not-free [] v o e end = let z : _≡_ {A = ℕ} 0 1 = cc in absurd (omega arith)
 not-free (s ∷ ss) v o e (free w h rest) = held-by s ss v o (decides s v) (says s v) e h (λ f. not-free ss v o f rest)
 
--- where at most one segment has the offset, it leads back to the address
+-- if at most one segment has the offset, it leads back to the address
 module _ (s : Segment) (ss : List Segment) (v o : ℕ) (w : s .fileoff + min (s .vmsize) (s .filesize) < 2 ^ 64) where
   leads-back : (x : Option (Option ℕ)) → Says s v x → Option·getD x (fileOffset ss v) ≡ some o → (Holds s o → Free o ss) → (y : Option ℕ) → (fileOffset ss v ≡ some o → y ≡ some v)
       → Option·getD (decides (turned s) o) y ≡ some v
@@ -116,7 +116,7 @@ unfolding fileOffset vmAddress
 vm-again [] v o e end = let z : _≡_ {A = ℕ} 0 1 = cc in absurd (omega arith)
 vm-again (s ∷ ss) v o e (once w h rest) = leads-back s ss v o w (decides s v) (says s v) e h _ (λ f. vm-again ss v o f rest)
 
--- so it does for every address of segments whose file bytes stand one after the other, from an offset on
+-- so it does for every address of segments whose file bytes follow one another, from an offset on
 pub data InOrder : ℕ → List Segment → Type 0 where
   end : {from : ℕ} → InOrder from []
   then : {from : ℕ} {s : Segment} {ss : List Segment} → from ≤ s .fileoff → s .fileoff + min (s .vmsize) (s .filesize) < 2 ^ 64
@@ -133,7 +133,7 @@ once-in-order (s ∷ ss) from o (then f w rest) = once w (λ g. free-before ss _
 pub vm-again-in-order : (ss : List Segment) (v o : ℕ) → InOrder 0 ss → fileOffset ss v ≡ some o → vmAddress ss o ≡ some v
 vm-again-in-order ss v o h e = vm-again ss v o e (once-in-order ss 0 o h)
 
--- the smallest inputs from which nothing leads back (docs/DIFFERENCES.md): a file byte at the last offset, and two segments with the same file byte
+-- the smallest inputs that do not lead back (docs/DIFFERENCES.md): a file byte at the last offset, and two segments with the same file byte
 abbrev lastByte : List Segment
 lastByte = segmentsOf (0 ∷ (1 ∷ (0xffffffffffffffff ∷ (1 ∷ []))))
 

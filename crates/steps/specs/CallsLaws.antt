@@ -1,4 +1,4 @@
--- The test of the segments' count, for a call that gives a text at a buffer's start.
+-- The test of the segments' count, for a call that writes a text at a buffer's start.
 use Prim.Native.Nat.{ℕ, _%_}
 use mathlib.Core.Path.{_≡_, ap, _∙_}
 use mathlib.Core.List.{List}

@@ -1,4 +1,4 @@
--- What the tests on a line and on a text say of their definitions. `i` is a walk's place in a list: its turns go from `i` to `i + 1`.
+-- What the tests on a line and on a text say about their definitions. `i` is a walk's place in a list: its turns go from `i` to `i + 1`.
 use Prim.Native.Nat.{ℕ, zero, suc, _+_, _-_, _*_, _/_, _%_, _^_, _≤_, _<_}
 use native.Mathlib.Nat.{zero-add}
 use native.Mathlib.Numerals.{add-one}
@@ -161,7 +161,7 @@ digits-each [] i e h = absurd (omega arith)
 digits-each (b ∷ s) zero e h = ltb-true _ _ (and-eq-true-iff (ltb (digitOf b) 16) (allDigits s) .0 e .0)
 digits-each (b ∷ s) (suc i) e h = digits-each s i (and-eq-true-iff (ltb (digitOf b) 16) (allDigits s) .0 e .1) (omega arith)
 
--- more digits make a number no smaller
+-- more digits do not make a number smaller
 value-least : (n : ℕ) (s : List ℕ) → n ≤ hexValue n s
 unfolding hexValue
 value-least n [] = omega arith
@@ -277,7 +277,7 @@ module _ (out : List ℕ) (x : Option (List ℕ)) where
     unfolding fitting
     fitting-short h = simp (lt-leb (length t) (length out) h) at (ap (fitting out) e)
 
--- what a buffer got, as its count and its bytes
+-- what was written to a buffer, as its count and its bytes
 pub answered : (out : List ℕ) (x y : Option (List ℕ)) → x ≡ y → (Option·map length x ≡ Option·map length y) × (overwritten out x ≡ overwritten out y)
 answered out x y e = (ap (Option·map length) e, ap (overwritten out) e)
 
@@ -290,7 +290,7 @@ field-beyond s zero h = absurd (omega arith)
 field-beyond [] (suc n) h = no-field (suc n)
 field-beyond (b ∷ s) (suc n) h = field-beyond (drop (suc (span 32 (b ∷ s))) (b ∷ s)) n (rw length-drop (omega arith))
 
--- so one that is a number is not
+-- so a field that is a number is not past the end
 pub number-within : (s : List ℕ) (n v : ℕ) → some v ≡ hexNumber (fieldOf s n) → n ≤ length s
 number-within s n v e = go (decLe n (length s))
   where
@@ -301,7 +301,7 @@ number-within s n v e = go (decLe n (length s))
         let z : _≡_ {A = ℕ} 0 1 = cc in
         absurd (omega arith)
 
--- the numbers from a field on, where it is known what the field is
+-- the numbers from a field on, if it is known what the field is
 numbers-by : (s : List ℕ) (at step m : ℕ) (x : Option ℕ) → x ≡ hexNumber (fieldOf s at)
     → numbersOfFields s at step (suc m) ≡ (elim x as (λ _. List ℕ) [ none ↦ [] | some v ↦ v ∷ numbersOfFields s (at + step) step m ])
 unfolding numbersOfFields
@@ -371,7 +371,7 @@ numbers-most s at step (suc n) = go (hexNumber (fieldOf s at)) (numbers-most s (
     go none h = omega arith
     go (some v) h = omega arith
 
--- what stands behind `k` elements of the first `n`, and behind those
+-- what follows `k` elements of the first `n`, and what follows those
 part-rest : (k n : ℕ) (l : List ℕ) → k ≤ n → drop k (take n l) ++ drop n l ≡ drop k l
 part-rest zero n l h = take-append-drop n l
 part-rest (suc k) zero l h = absurd (omega arith)
@@ -382,7 +382,7 @@ module _ (s : List ℕ) (from : ℕ) (out : List ℕ) where
   abbrev Listed : Option ℕ → List ℕ → Type 0
   Listed x out′ = (x ≡ listCount s from (length out)) × (out′ ≡ listNumbers s from (length out) ++ drop (length (listNumbers s from (length out))) out)
 
-  -- by what the field of the count is
+  -- by the case of the field of the count
   abbrev countBy : Option ℕ → Option ℕ
   countBy x =
       elim x as (λ _. Option ℕ) [

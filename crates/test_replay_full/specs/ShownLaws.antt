@@ -1,4 +1,4 @@
--- What a step says of how much is shown.
+-- What a step says about how much is shown.
 use Prim.Native.Nat.{ℕ, suc, _+_, _-_, _%_, _≤_, _<_}
 use native.Mathlib.Decide.{ℕ-discrete}
 use native.Mathlib.Omega.{arith}

@@ -1,4 +1,4 @@
--- What the tests on a body say of its program.
+-- What the tests on a body say about its program.
 use Prim.Native.Nat.{ℕ, _+_, _/_, _%_, _^_, _≤_, _<_}
 use mathlib.Core.Path.{_≡_, sym, _∙_, ap}
 use mathlib.Core.List.{List}
@@ -58,7 +58,7 @@ module _ (image segments : List ℕ) (a n : ℕ) (k : List ℕ → Body) where
     unfolding bodyBytes run
     body-at b eb z l w = simp (lt-leb (2 ^ 64) (a + 20 + n) w) (ap some eb ∙ sym (run-bytes image segments (a + 20) n (λ h. done (k h)) h e z l))
 
--- a body goes by the kind that the flags tell
+-- a body depends on the kind in the flags
 module _ (image segments : List ℕ) (a flags : ℕ) (r k : ContextDescriptorKind) (e : r ≡ contextKind flags) (t : r ≡ k) where
   pub body-kind : (x : Option Body) → x ≡ run image segments (bodyOfKind k a flags) → x ≡ run image segments (body a flags)
   unfolding body

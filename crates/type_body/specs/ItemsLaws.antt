@@ -17,7 +17,7 @@ module _ (s : Start) where
   unfolding startBelow
   start-below w = simp (lt-leb (2 ^ 64) (s .start) w)
 
--- the same by another name for the extra flags
+-- the same with another name for the extra flags
 pub extra-is : (flags x y a : ℕ) (b : Bool) (r : Option Start) → x ≡ y → r ≡ startBelow (record { trailing = record { flags = flags; isClass = b; extra = x }; start = a })
     → r ≡ startBelow (record { trailing = record { flags = flags; isClass = b; extra = y }; start = a })
 extra-is flags x y a b r t e = e ∙ ap (λ (z : ℕ). startBelow (record { trailing = record { flags = flags; isClass = b; extra = z }; start = a })) t

@@ -29,7 +29,7 @@ use Rattle.typedescriptor.specs.PathLaws.{row-address, slot-program, slot-path}
 
 -- ---- one program after another
 
--- what the first of them answers, where both have answered
+-- what the first of them answers, if both have answered
 pub record BothRead (image segments : List ℕ) {A B : Type 0} (p : Reads A) (f : A → Reads B) (x : B) : Type 0 where
   pub first : A
   pub there : run image segments p ≡ some first
@@ -44,7 +44,7 @@ both-read image segments {A} {B} p f x e = go (run image segments p) refl (sym (
 
 -- ---- bodies
 
--- a body that is there: its bytes end below 2^64 and lie within the image, and they are all that is read
+-- a body that can be read: its bytes end below 2^64 and lie within the image, and they are all that is read
 pub record BodyRead (image segments : List ℕ) (a : ℕ) (p : Reads Body) (b : Body) : Type 0 where
   pub below : a + 20 + bodySize b < 2 ^ 64
   pub offset : ℕ
@@ -110,7 +110,7 @@ module _ (image segments : List ℕ) (a : ℕ) (b : Body) where
 
 -- ---- the items of a slot
 
--- what hangs on something that is not there is not there
+-- what depends on something that does not exist does not exist
 module _ (image segments types : List ℕ) (start i : ℕ) where
   module _ (e : run image segments (slotRow types start i) ≡ none) where
     pub no-row-no-body : run image segments (slotBody types start i) ≡ none
@@ -136,7 +136,7 @@ unfolding slotBody
 slot-body-row image segments types start i b e = both-read image segments (slotRow types start i) _ b e
 
 module _ (image segments types : List ℕ) (start i : ℕ) (row : TypeRow) (er : run image segments (slotRow types start i) ≡ some row) where
-  -- a row's address is the one that its slot refers to
+  -- a row's address is that to which its slot refers
   pub slot-row-address : row .address ≡ slotAddress types start i
   slot-row-address = row-address image segments row (slotAddress types start i) (rw (slot-program image segments types start i row er) at er)
 
@@ -193,7 +193,7 @@ slot-block-recorded image segments types start i k x e =
     let v = both-read image segments (body (w .first .address) (w .first .flags)) _ x (w .goes) in
     block-recorded image segments k (trailing (w .first .flags) (v .first)) (trailingStart (w .first .address) (v .first)) x (v .goes)
 
--- ---- the records of a singleton, by their block
+-- ---- singleton records, from their block
 
 module _ (image segments types : List ℕ) (start i v : ℕ) where
   targets-path : (h : List ℕ) → path image segments (targets v h) ≡ []

@@ -1,4 +1,4 @@
--- What the tests on a singleton's records say of their programs.
+-- What the tests on singleton records say about their programs.
 use Prim.Native.Nat.{ℕ, _+_, _^_, _≤_, _<_}
 use native.Mathlib.Omega.{arith}
 use mathlib.Core.Path.{_≡_, sym, _∙_, ap}

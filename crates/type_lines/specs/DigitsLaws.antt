@@ -1,4 +1,4 @@
--- What the code's steps say of digits.
+-- What the code's steps say about digits.
 use Prim.Native.Nat.{ℕ, zero, suc, _+_, _-_, _/_, _%_, _^_, _≤_, _<_}
 use native.Mathlib.Nat.{div-one, pow-suc, div-div-eq-div-mul}
 use native.Mathlib.Numerals.{add-one}
@@ -19,7 +19,7 @@ pub digit-high : (n : ℕ) → 10 ≤ n → 87 + n ≡ digit n
 unfolding digit
 digit-high n h = simp (le-ltb n 10 h)
 
--- zeros, and after them the digits that are made already
+-- zeros, and after them the digits that are already made
 module _ (value left : ℕ) (ds : List ℕ) (rest : ℕ) where
   pub record Made : Type 0 where
     pub bound : left ≤ 16

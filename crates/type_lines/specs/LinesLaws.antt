@@ -1,4 +1,4 @@
--- What pieces put one after the other say of the lines.
+-- What pieces put one after the other say about the lines.
 use Prim.Native.Nat.{ℕ, _+_, _-_, _/_, _%_, _^_, _≤_, _<_}
 use native.Mathlib.Nat.{mod-eq-of-lt, zero-add}
 use native.Mathlib.Omega.{arith}
@@ -66,7 +66,7 @@ module _ (b : List ℕ) (at k : ℕ) (fits : at + k ≤ length b) where
       sym (drop-append-le (length t) (take k (drop at b)) (drop k (drop at b)) (omega arith)) ∙ ap (drop (length t)) (take-append-drop k (drop at b)) ∙ drop-drop (length t) at b in
       record { ends = refl; holds = ap (λ (l : List ℕ). take at b ++ l) (rw (e, append-assoc, back)) }
 
-  -- a window that is as it was
+  -- a window that is unchanged
   window-kept : (w : List ℕ) → w ≡ take k (drop at b) → putMid at k b w ≡ b
   window-kept w e = rw e (put-same at k b)
 

@@ -91,7 +91,7 @@ module _ (image segments : List ℕ) (a o : ℕ) (at : fileOffset (segmentsOf se
 -- ---- slots
 
 module _ (image segments types : List ℕ) (start i : ℕ) where
-  -- a slot with a row reads what the descriptor reads that it refers to
+  -- a slot with a row reads what the descriptor that it refers to reads
   pub slot-program : (row : TypeRow) → run image segments (slotRow types start i) ≡ some row → slotRow types start i ≡ descriptor (slotAddress types start i)
   unfolding slotRow run
   slot-program row e = go (ltb i (slots types)) (eqb (unsignedIn 4 types (4 * i)) 0) (descriptor (slotAddress types start i)) e

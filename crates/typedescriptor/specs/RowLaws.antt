@@ -1,4 +1,4 @@
--- What the tests on a descriptor and on a slot say of their programs.
+-- What the tests on a descriptor and on a slot say about their programs.
 use Prim.Native.Nat.{ℕ, suc, _+_, _-_, _*_, _%_, _^_, _≤_, _<_}
 use native.Mathlib.Nat.{sub-eq-zero-of-le}
 use native.Mathlib.Omega.{arith}

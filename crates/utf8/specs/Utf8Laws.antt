@@ -1,5 +1,6 @@
--- What `wellFormed` accepts is well-formed by Table 3-7 (`utf8-sound`), and what is well-formed it accepts (`utf8-complete`).
--- What `lead_limits` promises fixes its answer (`leads-injective`). And which bytes `untilNul` and `textLength` speak of. Assumes nothing.
+-- What `wellFormed` accepts is well-formed by Table 3-7 (`utf8-sound`), and it accepts what is well-formed (`utf8-complete`). What
+-- `lead_limits` promises fixes its answer (`leads-injective`). The last laws say which bytes `untilNul` and `textLength` speak of.
+-- Assumes nothing.
 use Prim.Native.Nat.{ℕ, zero, suc, _≤_}
 use native.Mathlib.Omega.{arith}
 use mathlib.Core.Path.{_≡_, refl, sym, ap, subst, _∙_}
@@ -37,7 +38,7 @@ within-false r b out = go (inRange r b) refl
     go true w = let bounds = within-bounds r b w in absurd (out (bounds .0) (bounds .1))
     go false w = w
 
--- a byte that starts a sequence of a row, and what the row asks after it
+-- a byte that starts a sequence of a row, and what the row requires after it
 pub record Starts (rows : List (List ByteRange)) (b : ℕ) (rs : List ByteRange) : Type 0 where
   pub lead : ByteRange
   pub row : List·Memᴰ (lead ∷ rs) rows
@@ -58,7 +59,7 @@ following-starts ((r ∷ rs′) ∷ rows) b rs e = go (λ k. following-starts ro
         record { lead = r; row = List·Memᴰ·head {x = r ∷ rs′} (cc); bounds = within-bounds r b w }
     go later false w = starts-later (later (rw (w, following) at e))
 
--- the rows are apart by their lead bytes, so the row of a lead byte is the one that is found
+-- the rows have different lead bytes, so the row of a lead byte is the one that is found
 starts-following : (n : ℕ) (rows : List (List ByteRange)) (b : ℕ) (rs : List ByteRange) → Ordered n rows → Starts rows b rs → (n ≤ b) × (following rows b ≡ some rs)
 unfolding following
 starts-following n [] b rs o s = absurd (List·Memᴰ·not-nil (s .row))

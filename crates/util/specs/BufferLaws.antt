@@ -10,7 +10,7 @@ use borrow.Author.Tests.{le-leb, lt-leb}
 use borrow.Rule.Slice.PartMut.{putMid}
 use Rattle.util.specs.Buffer.{pasted, putEnd, putInto, Put}
 
--- a piece copied into the tail from a place on, as the loan of the tail leaves it
+-- a piece copied into the buffer's tail from a place on
 pub put-in : (b p ys : List ℕ) (at n : ℕ) → n ≡ length p → ys ≡ take (length p) p ++ drop (length p) (take (length b - at) (drop at b)) → at + length p ≤ length b
     → Put b at p (at + n) (putMid at (length b - at) b ys)
 put-in b p ys at n en e h =

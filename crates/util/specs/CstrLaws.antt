@@ -1,4 +1,4 @@
--- What the tests on a part and on a text say of their definitions.
+-- What the tests on a part and on a text say about their definitions.
 use Prim.Native.Nat.{ℕ, zero, suc, _+_, _-_, _≤_, _<_}
 use native.Mathlib.Nat.{add-sub-cancel-left}
 use native.Mathlib.Omega.{arith}
@@ -17,7 +17,7 @@ module _ (s : List ℕ) (o n : ℕ) where
   unfolding partOf
   part-in h = simp (le-leb (o + n) (length s) h)
 
-  -- the part as a range of a slice leaves it
+  -- the part as a range of a slice gives it
   pub part-range : o + n ≤ length s → take (o + n - o) (drop o s) ≡ partOf s (place o n)
   part-range h = rw add-sub-cancel-left (sym (part-in h))
 
@@ -30,7 +30,7 @@ module _ (s : List ℕ) (off : ℕ) where
   unfolding textAt
   text-past h = simp (lt-leb off (length s) h)
 
-  -- the text of the bytes from the offset on, as a range of a slice leaves them
+  -- the text of the bytes from the offset on, as a range of a slice gives them
   pub text-scanned : (x : Option ℕ) → x ≡ textLength (take (length s - off) (drop off s)) → off ≤ length s → Option·map (place off) x ≡ textAt s off
   unfolding textAt
   text-scanned x e h =

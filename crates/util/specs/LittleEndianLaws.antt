@@ -32,7 +32,7 @@ unfolding littleEndian
 little-append [] ys = omega arith
 little-append (b ∷ xs) ys = rw (little-append xs ys, pow-succ' 256 (length xs), mul-assoc 256 (256 ^ length xs) (littleEndian ys)) (omega arith)
 
--- what the bytes at an offset mean, by any reading `f` of them
+-- what the bytes at an offset mean, for any reading `f` of them
 module _ (f : List ℕ → ℕ) (n : ℕ) (s : List ℕ) (off : ℕ) where
   pub bytes-found : (v : ℕ) → off + n ≤ length s → v ≡ f (take n (drop off s)) → some v ≡ Option·map f (bytesAt n s off)
   unfolding bytesAt
@@ -100,7 +100,7 @@ module _ (n : ℕ) (s : List ℕ) (off : ℕ) where
   unfolding signedAt
   signed-nothing e = ap (Option·map (twosComplement (8 * n))) e
 
--- two's complement by its two halves
+-- two's complement, for its two halves
 module _ (bits n : ℕ) where
   pub twos-positive : n < 2 ^ (bits - 1) → twosComplement bits n ≡ pos n
   unfolding twosComplement

@@ -1,4 +1,4 @@
--- An offset of 0, as a test leaves it, and what it says of a relative address.
+-- An offset of 0, as a test finds it, and what it says about a relative address.
 use Prim.Native.Nat.{ℕ, zero, suc}
 use native.Mathlib.Omega.{arith}
 use mathlib.Core.Path.{_≡_, refl, ap}

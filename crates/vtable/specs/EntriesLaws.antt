@@ -1,6 +1,7 @@
--- What the calls' tests say of the definitions, once for every layout: the bytes of an entry (`small`, `wraps`, `below`), what they say
--- (`entry-of`, `no-entry`, `an-entry`), a step's answers (`step-end`, `step-gives`, `step-moves`), and that a true mapping changes none (`step-mapped`);
--- and of a step over the entries of a kind (`kind-end`, `kind-unreadable`, `kind-entry`), whose answer has the entry's words (`words-in`).
+-- What the calls' tests say about the definitions, once for every layout: the bytes of an entry (`small`, `wraps`, `below`), what they say
+-- (`entry-of`, `no-entry`, `an-entry`), a step's answers (`step-end`, `step-gives`, `step-moves`), and that a true mapping changes none
+-- (`step-mapped`); and the same for a step over the entries of a kind (`kind-end`, `kind-unreadable`, `kind-entry`), whose answer has the
+-- entry's words (`words-in`).
 use Prim.Native.Nat.{ℕ, _+_, _-_, _*_, _%_, _^_, _≤_, _<_}
 use native.Mathlib.Nat.{mod-eq-of-lt, mul-le-mul-left, mul-lt-mul-of-pos-right, lt-of-le-of-lt, le-of-lt}
 use native.Mathlib.Decide.{decLe}
@@ -27,7 +28,7 @@ use Rattle.vtable.specs.Entries.{Word, pointer, Layout, wordsOf, kindLay
 pub product : {a b : ℕ} → a < 2 ^ 32 → b < 2 ^ 32 → a * b < 2 ^ 64
 product {a} {b} ha hb = lt-of-le-of-lt (mul-le-mul-left a (le-of-lt hb)) (mul-lt-mul-of-pos-right ha (omega arith))
 
--- bytes are read all or none
+-- either all bytes are read or none
 whole : (image segments : List ℕ) (a n : ℕ) (h : List ℕ) → h ≡ bytesRead image segments a n → (length h ≡ 0 → ⊥) → n ≤ length h
 unfolding bytesRead
 whole image segments a n h e z = go (bytesPlace image segments a n) refl
@@ -142,7 +143,7 @@ module _ (image segments : List ℕ) (layout : Layout) (c : EntryIter) where
   unfolding entryStep
   step-gives x e l = simp (lt-ltb (c .next) (c .count) l) (rw (← e))
 
-  -- the same of a cursor that was moved
+  -- the same for a cursor that was moved
   pub step-moves : (x : Option Entry) (n : EntryIter) → x ≡ run image segments (entryAt layout (c .«base_va») (c .next)) → n ≡ moved c → c .next < c .count
       → some (record { found = x; next = n }) ≡ entryStep image segments layout c
   step-moves x n e f l = rw f (step-gives x e l)
@@ -160,7 +161,7 @@ some-words EntryKind.Override = omega arith
 some-words EntryKind.DefaultOverride = omega arith
 some-words EntryKind.Prespecialization = omega arith
 
--- an entry's value has its words, in their order
+-- an entry's value has its words, in order
 pub words-in : (kind : EntryKind) (a : ℕ) (h : List ℕ)
     → take (length (wordsOf kind)) (tableEntry (entryOf (kindLayout kind) a h) .first ∷ (tableEntry (entryOf (kindLayout kind) a h) .second ∷ (tableEntry (entryOf (kindLayout kind) a h) .third ∷ [])))
     ≡ entryOf (kindLayout kind) a h .words

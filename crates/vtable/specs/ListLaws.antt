@@ -1,5 +1,5 @@
--- What stepping gives, for every layout at once: the step after `k` steps from the start gives what the program of entry `k` gives, as long as no
--- earlier entry is unreadable (`stepped-entry`); and the list of a caller who steps until an entry is unreadable or the end is there has the
+-- What stepping gives, for every layout at once: the step after `k` steps from the start gives what the program of entry `k` gives, as long
+-- as no earlier entry is unreadable (`stepped-entry`); and the list of a caller who steps up to an unreadable entry or the end has the
 -- entries whose programs answer, in order, and no others (`entries-listed-all`).
 use Prim.Native.Nat.{ℕ, zero, suc, _+_, _≤_, _<_}
 use native.Mathlib.Decide.{decLt}

@@ -77,7 +77,7 @@ module _ (image segments : List ℕ) (layout : Layout) (base : ℕ) where
 
   -- ---- an entry of a list
 
-  -- the last one before an entry that is there, and itself
+  -- the entry before an entry that can be read, and that entry itself
   record Both (k : ℕ) (e : Entry) : Type 0 where
     before : Entry
     was : run image segments (upTo layout base k) ≡ some before
@@ -128,7 +128,7 @@ module _ (image segments : List ℕ) (layout : Layout) (base : ℕ) where
             let z : _≡_ {A = ℕ} 0 1 = cc in
             absurd (omega arith)
 
-    -- the number of an entry that is there is one of the table's
+    -- the number of an entry that can be read is below the table's count
     pub entry-counted : k < count
     entry-counted = is-program .0
 
