@@ -27,7 +27,7 @@ struct Records {
 }
 
 impl Records {
-    /// The numbers of record `next`, by its bytes in the image: the Rust gives no addresses.
+    /// The numbers of record `next`, from its bytes in the image: the Rust returns no addresses.
     fn numbers(&self, input: &Input, next: u32, record: &FieldRecord<'_>) -> [u64; 6] {
         let distance = u64::from(next) * u64::from(self.size);
         let va = self.base.wrapping_add(distance);
@@ -90,7 +90,7 @@ impl Checker {
         Ok(())
     }
 
-    /// The names of a record and of a descriptor that nobody gave, each of whose addresses is any number.
+    /// The names of a made-up record and of a made-up descriptor, whose addresses may be any numbers.
     fn made_up_names(
         &mut self,
         input: &Input,
@@ -278,7 +278,7 @@ impl Checker {
         let readable = list.len() / width;
         let at_end = u64::from(start) + readable as u64 >= u64::from(count);
         let around = sizes(list.len(), width).filter(|_| start == 0);
-        // Of the record after the last known one it was not asked whether it can be read.
+        // Whether the record after the last known one can be read was not asked.
         let most = if readable == LISTED && !at_end {
             width * LISTED
         } else {
@@ -310,7 +310,7 @@ impl Checker {
         Ok(())
     }
 
-    /// The offset vector of a descriptor: by its singleton pointer, and for other metadata addresses.
+    /// The offset vector of a descriptor: from its singleton pointer, and for other metadata addresses.
     pub fn field_offsets(
         &mut self,
         input: &Input,

@@ -14,7 +14,7 @@ const CHAINS: usize = 8;
 const ROUNDS: usize = 60;
 const BASE: u64 = 0x1_0000_0000;
 
-/// A class's flags with every block that one can have at once, and the bit of the extra class flags for the Objective-C stub.
+/// A class's flags with every block that a class can have at once, and the bit of the extra class flags for the Objective-C stub.
 const ALL_BLOCKS: u32 = 0xe049_00b0;
 const HAS_STUB: u32 = 1;
 
@@ -23,12 +23,12 @@ const NAMED: u32 = 17;
 const ANONYMOUS: u32 = 2;
 
 /// `ROWS` rows with these flags, each with a name of its own; every name has `name` bytes. A class has room for its blocks, whose counts
-/// are 0. Of the segments the last one has the image.
+/// are 0. The last segment has the image.
 fn case(flags: u32, name: usize, segments: usize) -> Input {
     nested(flags, NAMED, name, 0, segments)
 }
 
-/// Structs of which all but every eighth slot refers to an address in no segment.
+/// Structs, where all but every eighth slot refer to an address in no segment.
 fn sparse(name: usize, segments: usize) -> Input {
     let mut input = case(17, name, segments);
     for i in (0..ROWS).filter(|i| i % 8 > 0) {
@@ -85,7 +85,7 @@ fn nested(flags: u32, around: u32, name: usize, depth: usize, segments: usize) -
     input
 }
 
-/// An image at `BASE` in the last of so many segments.
+/// An image at `BASE` in the last of a number of segments.
 fn mapped(image: Vec<u8>, segments: usize) -> Input {
     let length = image.len() as u64;
     let mut input = Input {
@@ -105,8 +105,8 @@ fn mapped(image: Vec<u8>, segments: usize) -> Input {
 /// How far apart the segments of `spread` start.
 const APART: u64 = 0x10_0000;
 
-/// `ROWS` rows with these flags and names of 8 bytes over so many segments, each with the names of its rows: neighbouring slots lie in different
-/// segments. A class has so many methods, 13 at most.
+/// `ROWS` rows with these flags and names of 8 bytes, spread over a number of segments, each with the names of its rows: neighbouring slots
+/// lie in different segments. A class has up to 13 methods.
 fn spread(flags: u32, methods: usize, segments: usize) -> Input {
     let size = if flags & 31 == 16 { 160 } else { 28 };
     let each = ROWS.div_ceil(segments);
@@ -183,7 +183,7 @@ struct Times {
     ratio: f64,
 }
 
-/// Rounds of both sides in turn. The ratio is the middle one of the rounds' own: a processor that changes its clock changes both times of a round.
+/// Rounds of both sides in turn. The ratio is the median of the rounds' ratios: a processor that changes its clock changes both times of a round.
 fn both(items: usize, rust: impl FnMut() -> usize, proved: impl FnMut() -> usize) -> Times {
     let mut rust = time(items, rust);
     let mut proved = time(items, proved);
@@ -287,7 +287,7 @@ fn whole(input: &Input) -> Times {
     )
 }
 
-/// How many blocks the Rust has recorded of a body.
+/// How many blocks the Rust has recorded for a body.
 fn recorded(body: &TypeKindBody<'_>) -> usize {
     let there: &[bool] = match body {
         TypeKindBody::Class(c) => &[
@@ -316,10 +316,10 @@ fn recorded(body: &TypeKindBody<'_>) -> usize {
     there.iter().filter(|&&b| b).count()
 }
 
-/// How many records of full rows the lent buffer holds: 30 kB.
+/// How many records of full rows the caller's buffer holds: 30 kB.
 const RECORDS: usize = 64;
 
-/// Rows with their bodies and all blocks, which the Rust reads with the row: the proved side in as many calls as a buffer of `RECORDS` asks for.
+/// Rows with their bodies and all blocks, which the Rust reads with the row: the proved side in as many calls as a buffer of `RECORDS` needs.
 fn bodies(input: &Input) -> Times {
     let rt = runtime(input);
     let image = Image::of(input);
@@ -403,10 +403,10 @@ fn bodies_in_steps(input: &Input) -> Times {
     )
 }
 
-/// Entries in all of a pass over tables of `count`.
+/// All entries in a pass over tables of `count`.
 const ENTRIES: usize = 1024;
 
-/// Where each table of `count` entries of so many bytes starts.
+/// Where each table of `count` entries of a size starts.
 fn tables(count: usize, size: usize) -> impl Iterator<Item = u64> + Clone {
     (0..(ENTRIES / count).max(1)).map(move |i| BASE + (i * count * size) as u64)
 }
@@ -417,13 +417,14 @@ fn method_tables(count: usize, segments: usize) -> Input {
     mapped(image.collect(), segments)
 }
 
-/// What both sides make of an entry's numbers. One number is kept from the compiler, not the three: a copy of the three, two at a time, would wait
-/// for a buffer that was just written one by one.
+/// What both sides do with an entry's numbers. One number is hidden from the compiler, not all three: a copy of the three, two at a time,
+/// would wait for a buffer that was just written one by one.
 fn sum([a, b, c]: [u64; 3]) -> usize {
     black_box(a.wrapping_add(b).wrapping_add(c)) as usize
 }
 
-/// The same of a record's numbers. In steps all three are kept from the compiler, which else reads a step's answer two numbers at a time and waits.
+/// The same for a record's numbers. In steps all three are hidden from the compiler, which otherwise reads a step's answer two numbers at a
+/// time and waits.
 fn sum_of_record<const STEPS: bool>(numbers: [u64; 3]) -> usize {
     if STEPS {
         let [a, b, c] = black_box(numbers);
@@ -504,11 +505,11 @@ fn classes(count: usize, segments: usize) -> Input {
     input
 }
 
-/// How many numbers the lent buffer for methods of classes holds: 32 kB.
+/// How many numbers the caller's buffer for methods of classes holds: 32 kB.
 const NUMBERS: usize = 4096;
 
-/// The methods of all classes of a section: rows, bodies, the blocks up to the vtable, and its entries; the proved side in as many calls as a buffer of
-/// `NUMBERS` asks for.
+/// The methods of all classes of a section: rows, bodies, the blocks up to the vtable, and its entries; the proved side in as many calls as
+/// a buffer of `NUMBERS` needs.
 fn class_methods(input: &Input, count: usize) -> Times {
     let rt = runtime(input);
     let image = Image::of(input);
@@ -546,7 +547,7 @@ fn class_methods(input: &Input, count: usize) -> Times {
     )
 }
 
-/// Tables of records whose type names and names, of 8 bytes, lie behind them.
+/// Tables of records whose type names and field names, of 8 bytes, lie after them.
 fn record_tables(count: usize, segments: usize) -> Input {
     let all = (ENTRIES / count).max(1) * count;
     let mut image = Vec::new();
@@ -566,7 +567,8 @@ fn record_tables(count: usize, segments: usize) -> Input {
     mapped(image, segments)
 }
 
-/// All records of tables with both names, which the Rust looks up with each: in one call for each table, or by a step and two calls for each.
+/// All records of tables with both names, which the Rust looks up with each record: in one call for each table, or with a step and two
+/// calls for each record.
 fn records<const STEPS: bool>(input: &Input, count: usize) -> Times {
     let rt = runtime(input);
     let image = Image::of(input);

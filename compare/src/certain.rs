@@ -1,5 +1,6 @@
-//! What is certain by an image's first bytes (docs/CUT.md), tried by running: a row that the proved call tells to be certain, all that the cut listing has of it, and a
-//! joined name, are the whole image's, and those of the same bytes with others behind them. Which are certain is computed here once more from the bytes.
+//! What is certain by an image's first bytes (docs/CUT.md), tried by running: a row that the proved call says is certain, all that the cut
+//! listing has of it, and a joined name, are the whole image's, and those of the same bytes followed by others. Which are certain is
+//! computed here again from the bytes.
 
 use super::{Item, Kind, Listing, Text, Whole, pointer, slot_address};
 use crate::generate::Rng;
@@ -11,7 +12,7 @@ use std::cell::Cell;
 
 #[derive(Default)]
 pub struct Counts {
-    /// Slots asked, of which certain: with a row, and without; and of those with a row the joined names.
+    /// How many slots were asked and how many were certain: with a row, and without; and the joined names of those with a row.
     rows: [u64; 2],
     empty: [u64; 2],
     names: [u64; 2],
@@ -34,7 +35,7 @@ impl Counts {
     }
 }
 
-/// Whether what is read of an address is settled by what arrived: an address that is not in the file is.
+/// Whether what arrived settles what is read at an address: an address that is not in the file is settled.
 fn bytes_settled(arrived: &Whole, address: u64, length: u64) -> bool {
     arrived.offset(address).is_none() || arrived.bytes(address, length).is_some()
 }
@@ -62,7 +63,7 @@ fn row_settled(arrived: &Whole, input: &Input, slot: u64) -> bool {
     }
 }
 
-/// A context's name, where its kind has one.
+/// A context's name, if its kind has one.
 fn context_name_settled(arrived: &Whole, address: u64, flags: u32) -> bool {
     let named = matches!(flags & 0x1f, 0 | 1 | 3 | 16..=18);
     let Some(slot) = address.checked_add(8).filter(|_| named) else {
@@ -133,7 +134,7 @@ fn names(image: Image<'_>, row: &Item) -> Vec<Result<Vec<u8>, String>> {
         .collect()
 }
 
-/// What is certain of the image's first `cut` bytes is so of the image `longer`, whose listing this is.
+/// What is certain by the image's first `cut` bytes holds of the image `longer`, whose listing this is.
 fn held(
     input: &Input,
     cut: usize,
@@ -154,7 +155,7 @@ fn held(
         segments,
     };
     let (kept_items, kept_texts) = (Cell::new(0), Cell::new(0));
-    // An item of the longer image, word for word; and the texts beside it, where they end before the last byte that arrived.
+    // An item of the longer image, word for word; and the texts beside it, if they end before the last byte that arrived.
     let kept = |item: &Item| {
         let other = items.iter().find(|other| other.key == item.key);
         let same = |o: &&Item| o.numbers == item.numbers && o.name == item.name;
@@ -239,7 +240,8 @@ fn held(
     Ok(())
 }
 
-/// What is certain of the first `cut` bytes, held against the whole image, and every fourth time against an image of the same beginning.
+/// What is certain by the first `cut` bytes, compared with the whole image, and every fourth time with another image that starts with the
+/// same bytes.
 pub fn check(
     input: &Input,
     cut: usize,

@@ -1,4 +1,4 @@
-//! One input given to both sides, and everything that they answer compared.
+//! Gives one input to both sides, and compares everything that they answer.
 
 use crate::full::Block;
 use crate::input::Input;
@@ -18,10 +18,10 @@ pub const HEAD: usize = 32;
 /// What a buffer holds before a name is written.
 const PATTERN: u8 = 0xa7;
 
-/// Bytes kept free before and after a lent buffer, which no call may write.
+/// Bytes before and after the caller's buffer, which no call may write.
 const GUARD: usize = 16;
 
-/// The same for a lent buffer of numbers.
+/// The same for a buffer of numbers.
 pub const NUMBER: u64 = 0xa7a7_0123_4567_a7a7;
 pub const NUMBER_GUARD: usize = 4;
 
@@ -86,9 +86,9 @@ pub struct Checker {
     /// The listing of the Rust's rows, and where each record ends.
     listing: Vec<u8>,
     ends: Vec<usize>,
-    /// A list of segment numbers that is no multiple of four.
+    /// A list of segment numbers whose count is not a multiple of four.
     ragged: Vec<u64>,
-    /// The Rust's blocks of a descriptor, the numbers of a list of entries, and a lent buffer for them.
+    /// The Rust's blocks of a descriptor, the numbers of a list of entries, and a caller's buffer for them.
     pub blocks: Vec<Block>,
     pub list: Vec<u64>,
     pub numbers: Vec<u64>,
@@ -123,7 +123,7 @@ pub fn place_in(bytes: &[u8], text: &str) -> (u64, u64) {
     (place as u64, text.len() as u64)
 }
 
-/// Compares two answers, and tells of them where they differ.
+/// Compares two answers, and reports them if they differ.
 macro_rules! same {
     ($rust:expr, $proved:expr, $($what:tt)*) => {{
         let (rust, proved) = ($rust, $proved);
@@ -144,7 +144,7 @@ impl Checker {
         self.made_up(input, &rt)
     }
 
-    /// The same without the fields section, and without descriptors, walks and tables that are made up.
+    /// The same without the fields section, and without made-up descriptors, walks and tables.
     pub fn basic(&mut self, input: &Input) -> Result<(), String> {
         self.counts.inputs += 1;
         let rt = runtime(input);
@@ -153,7 +153,7 @@ impl Checker {
         self.ragged(input)
     }
 
-    /// The bodies, blocks, entries and offset vectors of the rows alone.
+    /// Only the bodies, blocks, entries and offset vectors of the rows.
     pub fn descriptors(&mut self, input: &Input) -> Result<(), String> {
         self.counts.inputs += 1;
         let rt = runtime(input);
@@ -268,7 +268,7 @@ impl Checker {
         }
     }
 
-    /// The records from a slot on into so many bytes.
+    /// The records from a slot on, into a buffer of a size.
     fn listing_from(&mut self, input: &Input, start: usize, size: usize) -> Result<Listed, String> {
         self.counts.listings += 1;
         // Records are written up to the first that does not fit.
@@ -312,7 +312,7 @@ impl Checker {
         Ok(ours)
     }
 
-    /// Lists of segment numbers that are no multiple of four are refused by every call, which changes no number and no byte.
+    /// Every call refuses lists of segment numbers whose count is not a multiple of four, and changes no number and no byte.
     fn ragged(&mut self, input: &Input) -> Result<(), String> {
         let (image, types, va) = (&input.image[..], &input.types[..], input.types_va);
         let target = input.targets.first().copied().unwrap_or(va);
@@ -425,7 +425,7 @@ impl Checker {
         Ok(())
     }
 
-    /// Whether all bytes before the lent buffer and from `end` on are as they were.
+    /// Whether all bytes before the caller's buffer and from `end` on are unchanged.
     fn left_alone(&self, end: usize) -> bool {
         let mut left = self.buffer[..GUARD].iter().chain(&self.buffer[end..]);
         left.all(|&b| b == PATTERN)
@@ -608,12 +608,12 @@ impl Checker {
     }
 }
 
-/// 1 for a text of the image, 2 for one of the string section, told apart by the pointer.
+/// 1 for a text in the image, 2 for one in the string section, as the pointer shows.
 pub fn field_numbers(input: &Input, name: Option<&str>) -> [u64; 3] {
     let Some(name) = name else {
         return [0, 0, 0];
     };
-    // Two parts of different allocations can't be confused: an empty text at an image's end lies within it or right behind it.
+    // Two parts of different allocations can't be confused: an empty text at an image's end lies within it or right after it.
     let (place, length) = place_in(&input.image, name);
     if place <= input.image.len() as u64 && !lies_in_strings(input, name) {
         return [1, place, length];

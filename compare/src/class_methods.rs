@@ -20,8 +20,8 @@ const HEAD: usize = 4;
 const METHOD: usize = 3;
 
 impl Checker {
-    /// All classes in buffers of sizes around their length, from the first slot and from others, of the first class from other methods; and going on
-    /// in buffers for a method or two.
+    /// All classes in buffers of sizes around their length, from the first slot and from others, in the first class also from later
+    /// methods; and going on in buffers for a method or two.
     pub fn class_methods(&mut self, input: &Input, rt: &SwiftRuntime<'_>) -> Result<(), String> {
         let mut classes = Vec::new();
         for (number, row) in rt.types().enumerate() {
@@ -99,7 +99,7 @@ impl Checker {
     }
 }
 
-/// What so many numbers hold of the classes from a slot on, of its class from a method on.
+/// What a buffer of a size holds of the classes from a slot on, for its class from a method on.
 fn listed(
     rt: &SwiftRuntime<'_>,
     classes: &[Class],

@@ -1,7 +1,7 @@
-//! The cut tried by running: the proved calls list of an image's first c bytes what they list of the whole image, but for the items whose
-//! paths end past c; and each text beside an item is the whole image's, or missing, or for a field's name the string section's. Paths and
-//! texts are computed here from the bytes, by docs/SPECIFICATION.md, "Items, paths and the cut"; of the whole listing only which items there
-//! are is taken.
+//! The cut tried by running: for an image's first c bytes the proved calls list what they list for the whole image, except the items whose
+//! paths end past c; and each text beside an item is the whole image's, or missing, or, for a field's name, the string section's. Paths and
+//! texts are computed here from the bytes, by docs/SPECIFICATION.md, "Items, paths and the cut"; only which items there are is taken from
+//! the whole listing.
 
 #[path = "certain.rs"]
 mod certain;
@@ -15,7 +15,7 @@ use crate::proved_full::{self as full, Image};
 use std::ops::Range;
 use std::time::Instant;
 
-/// The cuts of a longer image.
+/// How many cuts are tried of a longer image.
 const CUTS: usize = 200;
 /// Lists end here on both sides: entries of a table, records of a field descriptor, numbers of an offset list; contexts.
 const ENTRIES: u32 = 40;
@@ -54,7 +54,7 @@ const KINDS: [&str; 13] = [
     "field records",
 ];
 
-/// What an item is known by: its slot or field descriptor, the block's kind or the metadata's address, its number in a list.
+/// What identifies an item: its slot or field descriptor, the block's kind or the metadata's address, its number in a list.
 #[derive(Clone, Copy, Debug, PartialEq)]
 struct Key {
     kind: Kind,
@@ -83,13 +83,13 @@ struct Item {
 }
 
 impl Item {
-    /// Whether it is this item of the whole image, its texts apart.
+    /// Whether it is this item of the whole image, apart from its texts.
     fn is(&self, whole: &Item) -> bool {
         self.key == whole.key && self.numbers == whole.numbers && self.name == whole.name
     }
 }
 
-/// The listing by the proved calls of an image that may be cut, with the input's segments and sections; offset lists for these slots and
+/// The proved calls' listing of an image that may be cut, with the input's segments and sections; offset lists for these slots and
 /// metadata addresses.
 struct Listing<'a> {
     input: &'a Input,
@@ -130,7 +130,7 @@ impl Listing<'_> {
         &mut self.items[last]
     }
 
-    /// What a call tells of a text, with the bytes that are there.
+    /// What a call returns for a text, with the bytes at that place.
     fn part(&self, [found, place, length]: [u64; 3]) -> Result<Text, String> {
         let part = |bytes: &[u8]| {
             let part = bytes.get(place as usize..(place + length) as usize);
@@ -311,8 +311,8 @@ struct Whole<'a> {
     strings_va: u64,
 }
 
-/// A text that is looked up at an address: where the offset that it is taken from ends, if that is a read of its own; and whether the
-/// string section serves too.
+/// A text that is looked up at an address: where the offset of its address ends, if that is a separate read; and whether the string
+/// section is tried too.
 #[derive(Clone, Copy, Debug, Default)]
 struct Lookup {
     address: u64,
@@ -333,7 +333,7 @@ fn pointer(slot: u64, offset: u32) -> u64 {
     slot.wrapping_add(offset as i32 as u64)
 }
 
-/// The same where offset 0 refers to nothing.
+/// The same if offset 0 refers to nothing.
 fn pointer_or_none(slot: u64, offset: u32) -> u64 {
     if offset == 0 {
         0
@@ -368,7 +368,7 @@ impl Whole<'_> {
         None
     }
 
-    /// The range of so many bytes that start at an address.
+    /// The range of a number of bytes that start at an address.
     fn bytes(&self, address: u64, length: u64) -> Option<Range<u64>> {
         let start = self.offset(address)?;
         let end = start.checked_add(length)?;
@@ -389,14 +389,14 @@ impl Whole<'_> {
         Some(start..start.saturating_add(length as u64))
     }
 
-    /// The text at the address that a descriptor's own offset at 8 refers to, an offset of 0 too.
+    /// The text at the address that a descriptor's offset at 8 refers to, even if the offset is 0.
     fn descriptor_name(&self, address: u64) -> Option<Range<u64>> {
         let header = self.bytes(address, 20)?;
         let slot = address.checked_add(8)?;
         self.text(pointer(slot, self.u32_at(header.start + 8)?))
     }
 
-    /// A context's, where its kind has a name and the offset is not 0. The offset is a read of its own.
+    /// A context's, if its kind has a name and the offset is not 0. The offset is a separate read.
     fn context_name(&self, address: u64, flags: u32) -> Option<Lookup> {
         if !matches!(flags & 0x1f, 0 | 1 | 3 | 16..=18) {
             return None;
@@ -410,7 +410,7 @@ impl Whole<'_> {
         })
     }
 
-    /// What an image of which the first so many bytes are there tells of a text; none where the cut falls into it.
+    /// What an image that is cut gives for a text; none if the cut falls into it.
     fn told(&self, text: Lookup, cut: u64) -> Option<Text> {
         let Lookup {
             address,
@@ -435,7 +435,7 @@ impl Whole<'_> {
         Some(found.or_else(section).unwrap_or_default())
     }
 
-    /// How long a block is, by its header.
+    /// How long a block is, from its header.
     fn block_size(&self, kind: u64, header: Option<&Range<u64>>) -> Option<u64> {
         let word = |at: u64| Some(u64::from(self.u32_at(header?.start + at)?));
         Some(match kind {
@@ -479,7 +479,7 @@ struct Place {
     row: u64,
     context: u64,
     body: u64,
-    /// The block, its entries, and the block behind it.
+    /// The block, its entries, and the next block.
     block_at: u64,
     entries_at: u64,
     next_at: u64,
@@ -508,7 +508,7 @@ impl Paths {
         Ok(paths)
     }
 
-    /// A text beside the item at hand.
+    /// A text beside the current item.
     fn text(&mut self, text: Lookup) {
         self.beside.last_mut().expect("an item").push(text);
     }
@@ -625,7 +625,7 @@ fn slot_address(input: &Input, slot: u64) -> Option<u64> {
     (offset != 0).then(|| pointer(input.types_va.wrapping_add(4 * slot), offset))
 }
 
-/// A field descriptor's address and its 16 bytes: each descriptor is behind the records of the one before.
+/// A field descriptor's address and its 16 bytes: each descriptor follows the records of the one before.
 fn field_header(input: &Input, number: u64) -> Option<(u64, &[u8; 16])> {
     let mut at = 0;
     for n in 0.. {
@@ -654,7 +654,7 @@ struct Counts {
     texts: Texts,
 }
 
-/// How many texts beside items that survived were the image's, the string section's and missing, and how many the cut fell into.
+/// How many texts beside surviving items were the image's, the string section's and missing, and how many the cut fell into.
 #[derive(Default)]
 struct Texts {
     image: u64,
@@ -664,7 +664,7 @@ struct Texts {
 }
 
 impl Texts {
-    /// Whether the texts beside an item are those that they have to be. One that the cut falls into is left out by its premise.
+    /// Whether the texts beside an item are those that they must be. The premise leaves out a text that the cut falls into.
     fn hold(&mut self, given: &[Text], right: &[Option<Text>]) -> bool {
         for text in right {
             *match text {
@@ -718,7 +718,7 @@ fn whole_listing(input: &Input) -> Result<(Vec<Item>, Vec<(u64, u64)>), String> 
     Ok((Listing::of(input, length, &metadata)?, metadata))
 }
 
-/// All cuts of an image, or so many spread over it. A difference is told with its cut.
+/// All cuts of an image, or some spread over it. A difference is reported with its cut.
 fn check(input: &Input, rng: &mut Rng, counts: &mut Counts) -> Result<(), String> {
     let (whole, metadata) = whole_listing(input)?;
     let read = Whole::of(input);
@@ -762,8 +762,8 @@ fn check(input: &Input, rng: &mut Rng, counts: &mut Counts) -> Result<(), String
     Ok(())
 }
 
-/// The specification's image of 33 bytes: its row reads the first 20, and the name from 28 on with its NUL; the cuts to 28 through 32 fall in
-/// the text; the one to 27 shows nothing. Listings cannot tell of the NUL: without it the same text runs to the cut image's end.
+/// The specification's image of 33 bytes: its row reads the first 20, and the name from 28 on with its NUL; the cuts to 28 through 32 fall
+/// into the text; the cut to 27 shows nothing. Listings cannot show the NUL: without it the same text runs to the cut image's end.
 fn clue() -> Result<(), String> {
     let mut input = Input::default();
     for word in [17u32, 0, 20, 0, 0, 0, 0] {
@@ -786,8 +786,8 @@ fn clue() -> Result<(), String> {
     ))
 }
 
-/// The image of 51 bytes of docs/CUT.md, whose superclass's name the cut to 49 shortens: the cut falls into no name of a descriptor, a context
-/// or a field record, and the body is there; only the premise for the superclass's name leaves that name out.
+/// The image of 51 bytes of docs/CUT.md, whose superclass's name the cut to 49 shortens: the cut does not fall into the name of a
+/// descriptor, a context or a field record, and the body is present; only the premise for the superclass's name leaves that name out.
 fn elder() -> Result<(), String> {
     let mut input = Input::default();
     input.image.extend_from_slice(b"A\0\0\0");
@@ -820,7 +820,7 @@ fn elder() -> Result<(), String> {
     Err(format!("Elder's texts are {told:?}, not {right:?}"))
 }
 
-/// Cuts a segment in two whose parts change places in the file, so that what follows in addresses lies before in the image.
+/// Cuts a segment in two and exchanges the parts in the file, so that what has later addresses lies earlier in the image.
 fn turn(rng: &mut Rng, input: &mut Input) {
     let at = rng.below(input.segments.len().max(1));
     let Some(&[va, vmsize, off, filesize]) = input.segments.get(at) else {
@@ -851,7 +851,7 @@ pub fn run(seed: u64, count: u64) {
     let mut full = FullGenerator::default();
     let mut input = Input::default();
     for i in 0..count {
-        // Every fourth input is one for rows and contexts, the others for all that there is.
+        // Every fourth input is made for rows and contexts, the others for everything.
         if i % 4 == 3 {
             generator.make(seed, i, &mut input);
         } else {

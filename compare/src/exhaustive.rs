@@ -1,4 +1,5 @@
-//! What can be tried whole: short texts, flag words, chains around the limit, blocks by all flags, blocks and tables around 2^64, cuts.
+//! What can be tried exhaustively: short texts, flag words, chains around the limit, blocks with all flags, blocks and tables around 2^64,
+//! cuts.
 
 use crate::check::{Checker, LIMIT};
 use crate::generate::{Generator, chain, relative};
@@ -14,7 +15,7 @@ fn must(checker: &mut Checker, input: &Input) {
     }
 }
 
-/// A text at an offset, at the end of the bytes and with a NUL and more behind it.
+/// A text at an offset, at the end of the bytes and with a NUL and more after it.
 fn text(checker: &mut Checker, bytes: &[u8]) {
     let mut data = [0x41; 8];
     data[1..1 + bytes.len()].copy_from_slice(bytes);
@@ -30,7 +31,8 @@ fn text(checker: &mut Checker, bytes: &[u8]) {
     }
 }
 
-/// All texts of one, two and three bytes; of four and five where a byte that is no ASCII leads, with bytes of each class at the end.
+/// All texts of one, two and three bytes; those of four and five that start with a byte that is not ASCII, with bytes of each class at the
+/// end.
 fn texts(checker: &mut Checker, few: bool) {
     const ENDS: [u8; 8] = [0x00, 0x41, 0x7f, 0x80, 0x8f, 0x90, 0xbf, 0xc0];
     for a in 0..=255u8 {
@@ -123,7 +125,7 @@ fn cuts(checker: &mut Checker, images: u64) {
     }
 }
 
-/// Whether the sides agree on the rows' bodies, blocks and entries alone.
+/// Whether the sides agree on the rows' bodies, blocks and entries only.
 fn must_rows(checker: &mut Checker, input: &Input) {
     if let Err(what) = checker.descriptors(input) {
         report(input, &what);
@@ -164,7 +166,7 @@ fn planted(address: u64, plan: &Plan, offset: i32) -> Input {
 /// Every type flags word, generic and not, with the invertible set and without, of the three kinds, with and without bit 0 of the extra class
 /// flags; every block can be read.
 fn blocks(checker: &mut Checker, few: bool) {
-    // The bits that no block goes by: all clear, all set, and each alone.
+    // The bits that no block depends on: all clear, all set, and each alone.
     let others: u32 = 0x1fb4;
     let mut input = Input::default();
     input.types_va = 0x3000;
@@ -182,7 +184,7 @@ fn blocks(checker: &mut Checker, few: bool) {
             let kind = 16 + case % 3;
             let low = kind | (case / 3 & 1) << 5 | (case / 6 & 1) << 7;
             image[..4].copy_from_slice(&(low | types << 16).to_le_bytes());
-            // The name is the text at descriptor + 8, of no bytes.
+            // The name is the empty text at descriptor + 8.
             image[8..12].copy_from_slice(&[0; 4]);
             if kind == 16 {
                 image[28..32].copy_from_slice(&(2 + case / 12).to_le_bytes());
@@ -197,7 +199,7 @@ fn blocks(checker: &mut Checker, few: bool) {
 
 const COUNTS: [u32; 5] = [0, 1, 2, u32::MAX - 1, u32::MAX];
 
-/// Each block alone and before each other one, where what it takes ends around 2^64.
+/// Each block alone and before each other one, ending around 2^64.
 fn ends(checker: &mut Checker) {
     // Generic, resilient with the stub, foreign, singleton, methods, overrides, prespecializations, invertible, pointer, default overrides.
     let bits: [u32; 10] = [
@@ -272,7 +274,7 @@ fn last_addresses(checker: &mut Checker) {
     }
 }
 
-/// A field descriptor with so many records this far apart, at an address, in a section that ends around the records' end.
+/// A field descriptor with a number of records this far apart, at an address, in a section that ends around the records' end.
 fn field_sections(checker: &mut Checker) {
     for size in [0, 1, 2, 11, 12, 13, 65_535u16] {
         for count in [0, 1, 2, 3, 1000, u32::MAX] {

@@ -18,7 +18,7 @@ unsafe extern "C" {
     fn hodrupec_method_flags(word: u32, out: &mut [u64; 7]) -> u64;
 }
 
-/// What an array holds before a call, so that a number left unwritten shows.
+/// What an array holds before a call, so that a number that was not written is noticed.
 const UNWRITTEN: u64 = 0x5a5a_a5a5_0ff0_1234;
 
 /// Compares the Rust's numbers with those of a proved call on the same word.
@@ -198,7 +198,8 @@ fn halves(half: u16) -> Result<(), String> {
     Ok(())
 }
 
-/// All words of 16 bits; of 32 bits all low halves and all high halves alone, and all words with at most two bits set, and with at most two clear.
+/// All words of 16 bits; of the words of 32 bits those with only a low or only a high half, and all with at most two bits set or at most
+/// two clear.
 pub fn exhaustive() -> Result<u64, String> {
     let mut calls = 0;
     for half in 0..=u16::MAX {

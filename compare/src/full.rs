@@ -1,4 +1,5 @@
-//! The full level compared: bodies, trailing blocks, entries, singleton records; of every row, and of made-up descriptors, walks and tables.
+//! The full level compared: bodies, trailing blocks, entries, singleton records; for every row, and for made-up descriptors, walks and
+//! tables.
 
 use crate::check::{Checker, NUMBER, NUMBER_GUARD, place_in, same};
 use crate::input::Input;
@@ -13,7 +14,7 @@ use darwinscope::swift::{
 };
 use darwinscope::util::{read_i32_le_at, read_u16_le_at, relative_pointer, vm_to_file_offset_in};
 
-/// The single steps compared from a table's start on, and the entries that a list in one call is compared for.
+/// How many single steps are compared from a table's start, and how many entries of a list in one call.
 pub const STEPS: u32 = 40;
 pub const LISTED: usize = 40;
 
@@ -22,7 +23,7 @@ pub type Block = [u64; 4];
 
 const KINDS: u32 = 11;
 
-/// The type flags and context flags that tell of blocks.
+/// The type flags and context flags that decide which blocks there are.
 const GENERIC: u32 = 1 << 7;
 const INVERTIBLE: u32 = 1 << 5;
 const INITIALIZATION: u32 = 3 << 16;
@@ -38,7 +39,7 @@ pub fn offset_of(input: &Input, va: u64) -> Option<u64> {
     vm_to_file_offset_in(input.segments.iter().map(|s| (s[0], s[1], s[2], s[3])), va)
 }
 
-/// The address that the relative pointer at a byte of the image gives whose own address is `slot`: 0 for offset 0.
+/// The address that the relative pointer at a byte of the image refers to, whose own address is `slot`: 0 for offset 0.
 pub fn pointer_at(image: &[u8], off: u64, slot: u64) -> u64 {
     match read_i32_le_at(image, off as usize) {
         None | Some(0) => 0,
@@ -158,7 +159,7 @@ pub fn body_blocks(body: &TypeKindBody<'_>, list: &mut Vec<Block>) {
     }
 }
 
-/// Where the walk stands after a block that lies at `at`: the next row and address, or past the table where its end reaches 2^64.
+/// Where the walk stands after a block that lies at `at`: the next row and address, or past the table if the block's end reaches 2^64.
 pub fn after(input: &Input, block: &Block, at: u64) -> [u64; 2] {
     let size = match block {
         [0, ..] => {
@@ -263,8 +264,8 @@ fn trailers(
     value_blocks!(body, list);
 }
 
-/// The same for a walk that stands at a row: the Rust's for flags without the rows before. False for the one walk that it cannot be asked
-/// for: with the singleton pointer still to come the initialization's bits have to stay, so its 12 bytes are put before the address.
+/// The same for a walk that stands at a row: the Rust's for flags without the rows before. False for the one walk that the Rust cannot
+/// make: if the singleton pointer is still to come, the initialization's bits must stay, so its 12 bytes are put before the address.
 fn trailers_from(rt: &SwiftRuntime<'_>, walk: &Walk, list: &mut Vec<Block>) -> bool {
     let Walk {
         mut flags,
@@ -322,7 +323,7 @@ fn trailers_from(rt: &SwiftRuntime<'_>, walk: &Walk, list: &mut Vec<Block>) -> b
     true
 }
 
-/// A walk over blocks as a caller has it.
+/// A walk over blocks, as a caller holds it.
 #[derive(Clone, Copy)]
 pub struct Walk {
     pub flags: u32,
@@ -332,8 +333,8 @@ pub struct Walk {
     pub address: u64,
 }
 
-/// What a list in one call gives for a buffer of so many numbers, `width` to an entry: how many of the entries that can be read, of which
-/// `readable` are known, and why no more: 0 at the table's end, else 1 without room for one more, else 2 at an unreadable entry.
+/// What a list in one call gives for a buffer of a number of numbers, `width` to an entry: how many of the entries that can be read, of
+/// which `readable` are known, and why no more: 0 at the table's end, else 1 without room for one more, else 2 at an unreadable entry.
 pub fn listed(size: usize, width: usize, readable: usize, at_end: bool) -> [u64; 2] {
     let given = readable.min(size / width);
     let why = if given == readable && at_end {
@@ -353,7 +354,7 @@ pub fn sizes(whole: usize, width: usize) -> impl Iterator<Item = usize> {
     near.into_iter().chain(around)
 }
 
-/// The fields of a made-up table: where it starts and how many entries it says to have.
+/// The fields of a made-up table: where it starts and how many entries it claims to have.
 #[derive(Clone, Copy)]
 pub struct Table {
     pub base: u64,
@@ -361,7 +362,7 @@ pub struct Table {
 }
 
 impl Checker {
-    /// All that a descriptor tells of.
+    /// Everything that follows from a descriptor.
     pub fn descriptor(
         &mut self,
         input: &Input,
@@ -448,7 +449,7 @@ impl Checker {
             |w: &Walk| proved::next_block(image, w.flags, w.class, w.extra, w.row, w.address);
         for block in blocks {
             let &[kind, a, b, c] = block;
-            // Rows that are not there are passed: the block lies where the walk stands.
+            // Rows without a block are passed over: the block lies where the walk stands.
             let [row, address] = after(input, block, walk.address);
             same!(
                 [1, kind, a, b, c, row, address],
@@ -584,7 +585,7 @@ impl Checker {
         Ok(())
     }
 
-    /// Single steps of a table of a kind at cursors around its end, in its midst, and far past it.
+    /// Single steps of a table of a kind at cursors around its end, in the middle, and far past it.
     pub fn made_up_table(
         &mut self,
         input: &Input,
@@ -674,7 +675,7 @@ impl Checker {
             let readable = list.len() / width;
             let at_end = u64::from(start) + readable as u64 >= u64::from(count);
             let around = sizes(list.len(), width).filter(|_| start == 0);
-            // Of the entry after the last known one it was not asked whether it can be read.
+            // Whether the entry after the last known one can be read was not asked.
             let most = if readable == LISTED && !at_end {
                 width * LISTED
             } else {
@@ -708,7 +709,7 @@ impl Checker {
         Ok(())
     }
 
-    /// Whether the lent numbers start with these, and those around and behind them are as they were.
+    /// Whether the caller's numbers start with these, and those around and after them are unchanged.
     pub fn holds(&self, written: &[u64]) -> bool {
         let end = NUMBER_GUARD + written.len();
         let mut left = self.numbers[..NUMBER_GUARD]
@@ -795,7 +796,7 @@ impl Checker {
     }
 }
 
-/// The numbers of the Rust's entries of a table of a kind from one on, up to the first that it cannot read or the last that is asked for.
+/// The numbers of the Rust's entries of a table of a kind from one on, up to the first that it cannot read or the last that is requested.
 fn entries_from(rt: &SwiftRuntime<'_>, kind: u64, table: Table, start: u32, list: &mut Vec<u64>) {
     let Table { base, count } = table;
     match kind {

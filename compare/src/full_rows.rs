@@ -63,7 +63,7 @@ impl Checker {
         Ok(())
     }
 
-    /// The records from a slot on into so many numbers, of which `records` has all.
+    /// The records from a slot on, into a buffer of a size; `records` has all of them.
     fn full_rows_from(
         &mut self,
         input: &Input,

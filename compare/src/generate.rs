@@ -1,5 +1,5 @@
 //! Inputs made from a seed: images with planted descriptors, contexts and texts, the segments that map them, and the sections; then
-//! bytes changed and images cut. An input is known by its seed and number alone.
+//! bytes changed and images cut. A seed and a number identify an input.
 
 use crate::input::Input;
 
@@ -148,7 +148,7 @@ fn kind_flags(rng: &mut Rng, kind: u8) -> [u8; 4] {
 }
 
 impl Generator {
-    /// The input of a number: half as planted, the others with bytes changed, cut, or both. A few are chains around the limit.
+    /// The input with a number: half as planted, the others with bytes changed, cut, or both. A few are chains around the limit.
     pub fn make(&mut self, seed: u64, number: u64, input: &mut Input) {
         let mut rng = Rng::new(seed, number);
         let rng = &mut rng;
@@ -283,7 +283,7 @@ impl Generator {
             put(image, shift + off + 4, &parent);
             let name = self.name_offset(rng, va(off + 8), base, true);
             put(image, shift + off + 8, &name);
-            // Access function and fields, which no row tells of.
+            // Access function and fields, which no row holds.
             put(image, shift + off + 12, &rng.next().to_le_bytes());
         }
         match rng.below(6) {
@@ -474,7 +474,7 @@ fn cut(rng: &mut Rng, input: &mut Input) {
     input.image.truncate(length);
 }
 
-/// A row whose chain has so many contexts of the given kinds in turn, each with its name, of which the last one's parent is `last`.
+/// A row whose chain has a number of contexts of the given kinds in turn, each with its name; the parent of the last one is `last`.
 pub fn chain(depth: usize, kinds: &[u8], name: &[u8], last: [u8; 4]) -> Input {
     let base = 0x4000u64;
     let mut input = Input::default();

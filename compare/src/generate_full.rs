@@ -34,7 +34,7 @@ struct Targets<'g> {
 const VECTOR: usize = 44;
 const CONTEXT: usize = 12;
 
-/// Counts of entries: mostly such that the blocks behind are in the file, now and then such that they are far away.
+/// Counts of entries: mostly such that the blocks after them are in the file, now and then such that they are far away.
 fn count(rng: &mut Rng) -> u32 {
     match rng.below(24) {
         0 => u32::MAX,
@@ -51,7 +51,7 @@ fn plan(rng: &mut Rng) -> Plan {
         6..=9 => 17,
         _ => 18,
     };
-    // Initialization, bit 3, default overrides, resilient superclass, overrides, vtable; and the bits that no block goes by.
+    // Initialization, bit 3, default overrides, resilient superclass, overrides, vtable; and the bits that no block depends on.
     let mut types = rng.of(&[0, 0, 1, 1, 2, 3]);
     for bit in [3, 6, 13, 14, 15] {
         types |= (rng.below(2) as u32) << bit;
@@ -162,7 +162,7 @@ impl FullGenerator {
         input.clear();
         let shift = if rng.one_in(4) { rng.below(24) } else { 0 };
         self.decide(rng);
-        // Lengths alone: descriptors are as long whatever their offsets are.
+        // Only lengths: a descriptor's length does not depend on its offsets.
         let descriptors = self.written(&mut |_, _| [0; 4], 0, true);
         let fields = self.written(&mut |_, _| [0; 4], 0, false);
         let texts = self.texts.len();
@@ -231,7 +231,7 @@ impl FullGenerator {
         self.targets(rng, input, base, length);
     }
 
-    /// What there is: texts, descriptors, field descriptors.
+    /// Everything in the input: texts, descriptors, field descriptors.
     fn decide(&mut self, rng: &mut Rng) {
         self.texts.clear();
         self.starts.clear();

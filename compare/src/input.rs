@@ -1,4 +1,4 @@
-//! One input of the comparison: what both sides are given.
+//! One input of the comparison, which both sides get.
 
 use std::fmt::Write;
 

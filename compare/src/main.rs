@@ -38,7 +38,7 @@ const USAGE: &str = "usage: compare run [--seed S] [--count N] [--seconds T] [--
        compare bench [rows | full]                    nanoseconds per row or entry on both sides; of rows and names, or of all else
        --unshrunk with run or exhaustive              a difference is printed without its input";
 
-/// Prints the difference with the smallest input that shows one (but for `--unshrunk`), and ends the run.
+/// Prints the difference with the smallest input that shows one (without it for `--unshrunk`), and ends the run.
 pub fn report(input: &Input, what: &str) -> ! {
     println!("difference: {what}");
     if std::env::args().any(|a| a == "--unshrunk") {
@@ -52,7 +52,7 @@ pub fn report(input: &Input, what: &str) -> ! {
     std::process::exit(1);
 }
 
-/// What the readers and flag words compared by themselves told: how many calls, or a difference, which ends the run.
+/// The result of comparing the readers and flag words by themselves: how many calls, or a difference, which ends the run.
 fn told(calls: Result<u64, String>) -> u64 {
     calls.unwrap_or_else(|what| {
         println!("difference: {what}");
@@ -89,7 +89,7 @@ fn only(args: &[String], numbers: &[&str], flags: &[&str]) {
     }
 }
 
-/// The words of a command that takes so many at most, none of them an option.
+/// The words of a command that takes at most a given number of them, none of them an option.
 fn words(args: &[String], most: usize) -> &[String] {
     if args.len() > most || args.iter().any(|a| a.starts_with('-')) {
         usage();
@@ -117,8 +117,8 @@ fn run(args: &[String]) {
         if i % 4096 == 0 && seconds.is_some_and(|s| start.elapsed().as_secs() >= s) {
             break;
         }
-        // Inputs for rows, contexts and names, of which the rows' own bodies and blocks are compared too; every fourth is one for bodies,
-        // blocks, entries and fields, of which all is.
+        // Inputs for rows, contexts and names, for which the rows' own bodies and blocks are compared too; every fourth is made for
+        // bodies, blocks, entries and fields, and all of it is compared.
         let same = if only_full || i % 4 == 3 {
             full.make(seed, i, &mut input);
             checker.input(&input)

@@ -4,7 +4,7 @@
 #[derive(Clone, Copy, Default)]
 pub struct Plan {
     pub flags: u32,
-    /// The numbers of the body from the first that is no offset on; of a class without its second word.
+    /// The numbers of the body from the first that is not an offset; for a class, without its second word.
     pub body: [u32; 4],
     /// A class's second word: the positive size or the extra class flags.
     pub extra: u32,
@@ -43,7 +43,7 @@ pub struct Planter<'i> {
     pub va: u64,
     /// Where each block starts in the image.
     pub marks: &'i mut Vec<usize>,
-    /// Where bytes lie that do not follow those before in memory: the address, and the offset in the image.
+    /// Where bytes lie that do not follow the earlier ones in memory: the address, and the offset in the image.
     pub parts: &'i mut Vec<(u64, usize)>,
 }
 
@@ -66,7 +66,7 @@ impl Planter<'_> {
         self.bytes(&bytes);
     }
 
-    /// Entries of so many slots: the first are written, and memory goes on behind the last.
+    /// Entries of a number of slots: the first are written, and memory goes on after the last.
     fn table(&mut self, count: u32, slots: &[Slot], fill: &mut impl FnMut(u64, Slot) -> [u8; 4]) {
         for _ in 0..count.min(WRITTEN) {
             for &slot in slots {
@@ -191,7 +191,7 @@ impl Planter<'_> {
         self.mark();
     }
 
-    /// A field descriptor, and its records as far apart as `size` says; of a list that is too long for the section only some bytes.
+    /// A field descriptor, and its records as far apart as `size` says; only some bytes of a list that is too long for the section.
     pub fn field_descriptor(
         &mut self,
         kind: u16,
@@ -210,7 +210,7 @@ impl Planter<'_> {
         let first = self.va;
         self.image.resize(start + length, 0x3c);
         self.va = self.va.wrapping_add(length as u64);
-        // A record that does not lie behind the one before overwrites part of it.
+        // A record that overlaps the one before overwrites part of it.
         for i in 0..count.min(WRITTEN) as usize {
             let distance = i * usize::from(size);
             for (word, slot) in [Slot::Number, Slot::TypeName, Slot::FieldName]

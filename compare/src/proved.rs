@@ -71,10 +71,10 @@ unsafe extern "C" {
     ) -> u64;
 }
 
-/// What an array holds before a call, so that a number left unwritten shows.
+/// What an array holds before a call, so that a number that was not written is noticed.
 pub const UNWRITTEN: u64 = 0x5a5a_a5a5_0ff0_1234;
 
-/// The number of a refusal; `TOUCHED` for one that has changed a number of the lent array.
+/// The number of a refusal; `TOUCHED` for one that has changed a number of the caller's array.
 #[derive(Clone, Copy, Debug, PartialEq)]
 pub struct Refused(pub u64);
 
@@ -88,7 +88,7 @@ impl From<Refused> for String {
 
 pub type Answer<T> = Result<T, Refused>;
 
-/// The refusal of a call with this status, which must have left the lent array as it was.
+/// The refusal of a call with this status, which must have left the caller's array unchanged.
 #[cold]
 pub fn refusal(status: u64, out: &[u64]) -> Refused {
     if out.iter().all(|&n| n == UNWRITTEN) {

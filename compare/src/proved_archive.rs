@@ -1,5 +1,5 @@
-//! The proved side of the archive level, the functions of crates/c_fields: field descriptors, field records alone and with their names, the
-//! names of each, field offsets, and what is certain by an image's first bytes.
+//! The proved side of the archive level, the functions of crates/c_fields and crates/c_named_records: field descriptors, field records
+//! alone and with their names, the names of each, field offsets, and what is certain by an image's first bytes.
 
 use crate::input::Input;
 use crate::proved::{Answer, UNWRITTEN, refusal};
@@ -112,7 +112,7 @@ pub fn field_offset(image: &[u8], place: usize, count: u32, number: u32) -> Answ
     Ok(out)
 }
 
-/// A record by its four numbers: where its field's name is, by the input's string section.
+/// Where the name of a record's field is, for a record from its four numbers and the input's string section.
 #[inline]
 pub fn record_field_name(image: Image<'_>, input: &Input, record: &[u64; 4]) -> Answer<[u64; 3]> {
     let mut out = [UNWRITTEN; 3];
@@ -135,7 +135,7 @@ pub fn record_field_name(image: Image<'_>, input: &Input, record: &[u64; 4]) -> 
     Ok(out)
 }
 
-/// How many records from number `next` on are in the buffer with their names, by the input's string section, and why there are no more.
+/// How many records from number `next` on are in the buffer with their names, with the input's string section, and why there are no more.
 #[inline]
 pub fn named_records(
     image: Image<'_>,

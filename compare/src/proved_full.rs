@@ -1,5 +1,5 @@
 //! The proved side of the full level, the functions of crates/c_blocks: bodies, trailing blocks, entries, singleton records. Each call
-//! gives its array of numbers.
+//! returns its array of numbers.
 
 use crate::input::Input;
 use crate::proved::{Answer, UNWRITTEN, refusal};
@@ -20,7 +20,7 @@ impl<'a> Image<'a> {
     }
 }
 
-/// Calls that take the image, the segments and some numbers, and answer in a lent array.
+/// Calls that take the image, the segments and some numbers, and answer in the caller's array.
 macro_rules! calls {
     ($library:literal: $($name:ident = $export:ident($($arg:ident: $type:ty),*) -> $n:literal;)*) => {
         #[link(name = $library, kind = "static")]

@@ -1,5 +1,5 @@
 //! The proved side of rows with body and all blocks and of the methods of all classes, the functions of crates/c_full_rows and of
-//! crates/c_class_methods, which write into a lent buffer of numbers.
+//! crates/c_class_methods, which write into the caller's buffer of numbers.
 
 use crate::input::Input;
 use crate::proved::{Answer, UNWRITTEN, refusal};
@@ -16,7 +16,7 @@ pub struct FullRow {
     pub name_place: u64,
     pub name_length: u64,
     pub body: [u64; 8],
-    /// For each kind 1 and the block's three numbers, or four times 0.
+    /// For each kind 1 and the block's three numbers, or four zeros.
     pub blocks: [[u64; 4]; 11],
 }
 
@@ -106,7 +106,7 @@ pub struct Classes {
     pub all: u64,
 }
 
-/// The methods of the classes of the input's types section from a slot on, of its class from a method on.
+/// The methods of the classes of the input's types section from a slot on, for its class from a method on.
 #[inline]
 pub fn class_methods(
     image: Image<'_>,

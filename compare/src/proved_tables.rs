@@ -1,5 +1,5 @@
-//! The proved side of whole tables, functions of crates/c_blocks, c_fields and c_tables: entries and field records into a
-//! lent buffer of numbers.
+//! The proved side of whole tables, functions of crates/c_blocks, c_fields and c_tables: entries and field records into
+//! the caller's buffer of numbers.
 
 use crate::proved::{Answer, UNWRITTEN, refusal};
 use crate::proved_full::Image;

@@ -1,4 +1,4 @@
-//! A sample of inputs that reach every case that `Cases` tells apart, with the Rust's answers, for a replay without the Rust.
+//! A sample of inputs that reach every case that `Cases` distinguishes, with the Rust's answers, for a replay without the Rust.
 
 use crate::check::{LIMIT, field_numbers, place_in, runtime};
 use crate::generate::{Generator, chain};

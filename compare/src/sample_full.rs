@@ -18,7 +18,7 @@ const HEAD: &str = "\
 /// How many entries of a table, records of a descriptor and offsets of a struct are written out.
 const SHOWN: u32 = 12;
 
-/// How many entries of each kind are read at a row's own address, where that is one of the last 32.
+/// How many entries of each kind are read at a row's own address, if that is one of the last 32.
 const AT_ROW: u32 = 5;
 
 #[derive(Clone, Default)]
@@ -75,7 +75,7 @@ fn text_line(out: &mut String, word: &str, image: &[u8], text: Option<&str>) {
     }
 }
 
-/// The first entries of a table of `count`. The Rust gives nothing for an entry that it cannot read and goes on past it.
+/// The first entries of a table of `count`. The Rust returns nothing for an entry that it cannot read and goes on past it.
 fn entry_lines(
     out: &mut String,
     count: u32,
@@ -122,7 +122,7 @@ fn default_overrides(out: &mut String, rt: &SwiftRuntime<'_>, base: u64, count: 
     });
 }
 
-/// The Rust gives no address for these: each has 4 bytes.
+/// The Rust returns no address for these: each has 4 bytes.
 fn prespecializations(out: &mut String, rt: &SwiftRuntime<'_>, base: u64, count: u32) {
     let mut walk = PrespecializationIter::new(rt, base, count);
     let mut address = base;
@@ -412,7 +412,7 @@ fn answers(input: &Full, out: &mut String) {
 
 // The inputs.
 
-/// Numbers that look like anything.
+/// Numbers that may be anything.
 struct Rng(u64);
 
 impl Rng {
@@ -506,7 +506,7 @@ fn some_body(kind: u32, extra: u32) -> Vec<u8> {
     }
 }
 
-/// Blocks of a row: the flags that tell of them, their bytes, and where each starts and how long its header is.
+/// Blocks of a row: the flags that announce them, their bytes, and where each starts and how long its header is.
 struct Blocks {
     flags: u32,
     extra: u32,
@@ -514,7 +514,7 @@ struct Blocks {
     starts: Vec<(usize, usize, usize)>,
 }
 
-/// The bytes of a block of this kind with so many entries, the numbers in it different.
+/// The bytes of a block of this kind with a number of entries, the numbers in it all different.
 fn block_bytes(kind: usize, entries: u32, number: &mut u32) -> (usize, Vec<u8>) {
     let mut more = |n: u32| {
         (0..n)
@@ -552,8 +552,8 @@ fn of_values(kind: usize) -> bool {
     [0, 2, 3, 7, 8, 9].contains(&kind)
 }
 
-/// The blocks of these kinds, which are in their order. The flags of a struct or an enum tell of a class's blocks too, and it
-/// has none of them.
+/// The blocks of these kinds, in order. The flags of a struct or an enum announce a class's blocks too, but it has none of
+/// them.
 fn some_blocks(kind: u32, set: &[usize], entries: u32) -> Blocks {
     let mut blocks = Blocks {
         flags: kind,
@@ -669,7 +669,7 @@ impl Sample {
         }
     }
 
-    /// The image cut within and behind the header of each block, and at each block without a header.
+    /// The image cut within and after the header of each block, and at each block without a header.
     fn cuts(&mut self) {
         for (kind, all) in [
             (CLASS, ALL[0]),
@@ -712,7 +712,7 @@ impl Sample {
         }
     }
 
-    /// Blocks that end at 2^64, one byte before and one behind it.
+    /// Blocks that end at 2^64, one byte before it and one byte after it.
     fn tops(&mut self) {
         for kind in [CLASS, STRUCT, ENUM] {
             for k in (0..11).filter(|&k| kind == CLASS || of_values(k)) {
@@ -778,7 +778,7 @@ impl Sample {
                 );
             }
         }
-        // A pointer behind an initialization that ends at 2^64.
+        // A pointer after an initialization that ends at 2^64.
         for below in [13, 12, 11] {
             for kind in [CLASS, STRUCT, ENUM] {
                 let address = (below + fixed_length(kind) as u64).wrapping_neg();
@@ -859,7 +859,7 @@ impl Sample {
     }
 
     fn bodies(&mut self) {
-        // The image is the name, the descriptor, the body, and texts behind it; the superclass's offset is from byte 24 on.
+        // The image is the name, the descriptor, the body, and texts after it; the superclass's offset is from byte 24 on.
         let texts = b"S\xc3\xa9\0\xc3(\0\0zz";
         let to = |offset: i32| (offset - 24) as u32;
         let behind = 4 + 44;
@@ -945,7 +945,7 @@ impl Sample {
                 );
             }
         }
-        // The same up to 2^64: the parameters end below it, and the bytes behind them pass it.
+        // The same up to 2^64: the parameters end below it, and the bytes after them pass it.
         for parameters in [0u32, 1, 3, 4] {
             for past in [-1i64, 0, 1, 2] {
                 let length = 28 + 16 + 4 * u64::from(parameters).div_ceil(4);
@@ -1041,7 +1041,7 @@ impl Sample {
         }
     }
 
-    /// Several rows, slots without one, and bytes behind the last slot.
+    /// Several rows, slots without one, and bytes after the last slot.
     fn slots(&mut self) {
         let mut input = some_blocks(CLASS, &[4, 8], 1).row_at(HERE);
         let second = input.image.len();
@@ -1055,7 +1055,7 @@ impl Sample {
         self.add("several rows".to_owned(), input);
     }
 
-    /// Inputs that look like anything.
+    /// Inputs that may be anything.
     fn random(&mut self) {
         let mut rng = Rng(0x9e37_79b9_7f4a_7c15);
         for number in 0..16 {
@@ -1186,7 +1186,7 @@ impl Sample {
         self.add("all kinds".to_owned(), fields_at(HERE, &kinds, &[]));
     }
 
-    /// Sections around 2^64, with something behind the header.
+    /// Sections around 2^64, with something after the header.
     fn field_tops(&mut self) {
         for below in [
             41, 40, 39, 32, 29, 28, 25, 24, 21, 18, 17, 16, 15, 12, 6, 5, 4, 3, 2, 1,
@@ -1205,7 +1205,7 @@ impl Sample {
                 }
             }
         }
-        // Where address + 16 overflows, the records start at address 0: here the image has something there too.
+        // If address + 16 overflows, the records start at address 0: here the image has something there too.
         for below in [17, 16, 15, 5, 4] {
             let mut fields = header([0, text(4, 0)], 1, 12, 1);
             fields.extend(words(&[1, 2, 3]));
@@ -1277,7 +1277,7 @@ impl Sample {
                 fields_at(HERE, &fields, &[]),
             );
         }
-        // The same of the descriptor's names: their offsets are at 0 and 4.
+        // The same for the descriptor's names: their offsets are at 0 and 4.
         for target in [0, 2, 3, 4, 7, 11, 12, -1i32 as usize] {
             for from in [0, 4] {
                 let mut names = [0, 0];

@@ -22,10 +22,10 @@ unsafe extern "C" {
     ) -> u64;
 }
 
-/// What an array holds before a call, so that a number left unwritten shows.
+/// What an array holds before a call, so that a number that was not written is noticed.
 const UNWRITTEN: u64 = 0x5a5a_a5a5_0ff0_1234;
 
-/// Compares the Rust's answer with the status and the numbers of a proved call; tells of them where they differ.
+/// Compares the Rust's answer with the status and the numbers of a proved call, and reports them if they differ.
 macro_rules! same {
     ($rust:expr, $status:expr, $out:expr, $($what:tt)*) => {{
         let (rust, proved) = (($rust), ($status, $out));
@@ -90,7 +90,7 @@ fn vm_address(segments: &[[u64; 4]], offset: u64) -> Result<(), String> {
     Ok(())
 }
 
-/// A count of numbers that is no multiple of four is refused, and the answer's numbers are left as they were.
+/// A count of numbers that is not a multiple of four is refused, and the answer's numbers are left unchanged.
 fn ragged(numbers: &[u64], offset: u64) -> Result<(), String> {
     let mut out = [UNWRITTEN; 2];
     let status = unsafe { hodrupec_vm_address(numbers.as_ptr(), numbers.len(), offset, &mut out) };
@@ -100,7 +100,7 @@ fn ragged(numbers: &[u64], offset: u64) -> Result<(), String> {
     Ok(())
 }
 
-/// LEB128 of up to three bytes; and of nine that go on, each of them the same, with all tenth and eleventh bytes and some twelfth.
+/// LEB128 of up to three bytes; and nine equal continuation bytes with all tenth and eleventh bytes and some twelfth ones.
 pub fn exhaustive() -> Result<u64, String> {
     let mut calls = 0;
     leb(&[])?;
