@@ -10,9 +10,9 @@ Without -o the bundle goes to standard output. The types of a framework, listed:
 
     scripts/make_bundle.py --macho Name.framework/Name --arch arm64 | target/bin/list
 
-FILE is a 64-bit little-endian Mach-O file, or a fat file, of which one architecture is taken: its bytes are the image, its segments
-are given in the file's order, and of the sections the first __swift5_types, __swift5_fieldmd and __swift5_reflstr. --arch is
-needed where the fat file has several architectures.
+FILE is a 64-bit little-endian Mach-O file, or a fat file, from which one architecture is taken: its bytes are the image, its segments
+are in the file's order, and the sections are the first __swift5_types, __swift5_fieldmd and __swift5_reflstr. --arch is needed if the
+fat file has several architectures.
 
 BYTES is the name of a file, or hex: and digits. Numbers are decimal, or hexadecimal after 0x. A struct named Clue:
 
@@ -34,7 +34,7 @@ MODULE, EXTENSION, ANONYMOUS, PROTOCOL, CLASS, STRUCT, ENUM = 0, 1, 2, 3, 16, 17
 
 
 class Trouble(argparse.ArgumentTypeError):
-    """Why there is no bundle, as a sentence. Raised for an option's value, it is told with the option's name."""
+    """Why there is no bundle, as a sentence. Raised for an option's value, it is printed with the option's name."""
 
 
 def say(sentence):
@@ -68,7 +68,7 @@ def slots(address, targets):
 
 
 def image_of(base, contexts, size=28):
-    """An image of descriptors of so many bytes each, the first at the address `base`, and their names after them.
+    """An image of descriptors of a size, the first at the address `base`, and their names after them.
 
     A context is (flags, parent, name): the parent's number or None, the name's bytes or None for an offset of 0.
     """
@@ -115,7 +115,7 @@ def garden():
 SAMPLES = {"clue": clue, "garden": garden}
 
 
-# Mach-O files, by Apple's mach-o/loader.h and mach-o/fat.h.
+# Mach-O files, as in Apple's mach-o/loader.h and mach-o/fat.h.
 
 SECTIONS = {TYPES: b"__swift5_types", FIELDS: b"__swift5_fieldmd", STRINGS: b"__swift5_reflstr"}
 MAGIC, MAGIC_FAT, MAGIC_FAT_64 = bytes.fromhex("cffaedfe"), bytes.fromhex("cafebabe"), bytes.fromhex("cafebabf")
@@ -142,7 +142,7 @@ ARCHITECTURES = {
 
 
 def architecture(cpu, subtype):
-    """The name of a processor, or its numbers; the upper byte of a subtype tells no processor."""
+    """The name of a processor, or its numbers; the upper byte of a subtype does not name a processor."""
     subtype &= 0xFFFFFF
     return ARCHITECTURES.get((cpu, subtype), f"{cpu:#x}-{subtype}")
 
@@ -184,7 +184,7 @@ def thin(data, wanted, warn):
 
 
 def load_commands(data):
-    """(command, place, size, words for it) of each load command, all of whose bytes are there."""
+    """(command, place, size, words for it) of each load command, all of whose bytes are in the file."""
     count, total = struct.unpack_from("<II", data, 16)
     at = 32
     for n in range(1, count + 1):

@@ -3,10 +3,10 @@
 
 usage: tests/bundles.py             write the files
        tests/bundles.py --check     write nothing; exit status 1 if a file on disk is not what would be written
-       tests/bundles.py --run LIST  run the listing program LIST on every bundle, and on what is no bundle; exit status 1 if it
-                                    writes anything else than it should, on standard output or on standard error, or does not end well
+       tests/bundles.py --run LIST  run the listing program LIST on every bundle, and on inputs that are not bundles; exit status 1
+                                    if it writes anything but what it should, on standard output or on standard error, or fails
 
-The listings come from the rules as written down here and in tests/vectors.py, and from nothing of the crates. The samples are
+The listings come from the rules as written down here and in tests/vectors.py, and from nothing in the crates. The samples are
 samples/*.bundle with samples/*.listing; the crate `list` runs on one of them in every check.
 """
 import fcntl
@@ -125,7 +125,7 @@ def context_name(image, numbers, address, flags):
 
 
 def contexts(image, numbers, address):
-    """The names, or None, of the contexts from an address on, one more than the limit at most."""
+    """The names, or None, of the contexts from an address on, at most one more than the limit."""
     names = []
     while address != 0 and len(names) <= LIMIT:
         header = bytes_at(image, numbers, address, 8)
@@ -256,7 +256,7 @@ def sections():
     for more in (b"", b"\x01", b"\x01\x02", b"\x01\x02\x03"):
         for count in (0, 1, 3):
             bundle(record(IMAGE, image), WIDE, section(TYPES, 0x9000, slots(0x9000, good[:count]) + more))
-    # Offset 0, a name that is no text, no bytes at the address, the image's end.
+    # Offset 0, a name that is not a text, no bytes at the address, the image's end.
     bad = [None, BASE + 56, 0, BASE - 1, BASE + len(image) - 19, BASE + 0x10000, TOP - 1]
     for one in bad:
         for order in ([one, *good], [good[0], one, good[1]], [*good, one], [one, one, good[2], one]):
@@ -309,7 +309,7 @@ def names():
         tree([(STRUCT, 1, name), (CLASS, 2, b"In"), (MODULE, None, b"Top")], range(3))
         tree([(STRUCT, 1, b"Own"), (CLASS, 2, name), (MODULE, None, b"Top")], range(3))
         tree([(STRUCT, 1, b"Own"), (CLASS, 2, name), (MODULE, None, name)], range(3))
-    # A type's name offset of 0 is a text at the descriptor + 8; a context's is no name.
+    # A type's name offset of 0 refers to a text at the descriptor + 8; a context's means no name.
     tree([(STRUCT, 1, None), (CLASS, 2, None), (MODULE, None, b"Top")], range(3))
     # A name within the header, at the image's end, past it, at address 0, and without its NUL.
     low = segments(0, 0x100, 0, 0x100)
@@ -322,7 +322,7 @@ def names():
 
 
 def tails():
-    """Descriptors and contexts that the image's end cuts, whole, and with a byte more; names and a module stand before them."""
+    """Descriptors and contexts that the image's end cuts, whole, and with a byte more; names and a module come before them."""
     front = b"Tail\0".ljust(8, b"\0") + struct.pack("<II", MODULE, 0) + relative(0x1010, 0x1000)
     types = section(TYPES, 0x9000, slots(0x9000, [0x1014]))
     for size in (0, 1, 4, 8, 12, 16, 18, 19, 20, 21):
@@ -411,7 +411,7 @@ def full_reads(image, numbers):
         return [b"refused 1"] * 11
 
     def word(size, at):
-        """Where the offset at `at` of a record of this size at 0x1000 leads."""
+        """Where the offset at `at` of a record of this size at 0x1000 leads to."""
         found = bytes_at(image, numbers, 0x1000, size)
         return None if found is None else b"%d" % pointer(image, found[0] + at, 0x1000 + at, 0)
 
@@ -482,7 +482,7 @@ def other_files():
 
 
 def in_pieces(program, data, size):
-    """The ended program and what it wrote, where a pipe hands the bundle over in pieces: each is read before the next one comes."""
+    """The ended program and what it wrote, if a pipe delivers the bundle in pieces: each is read before the next one comes."""
     ran = subprocess.Popen([program], stdin=subprocess.PIPE, stdout=subprocess.PIPE, stderr=subprocess.PIPE, bufsize=0)
     try:
         for at in range(0, len(data), size):

@@ -1,6 +1,6 @@
 /* Calls every function that the archives export, on an image in which no two numbers are the same, and prints the name of each call that
-   answers as it should. Declared and expected here by docs/SPECIFICATION.md and docs/CALLS.md, and by nothing of the crates: two parameters
-   of one type that were exchanged in a crate's signature give other answers. tests/exports.py builds and runs it. */
+   answers as it should. The declarations and the expected answers come from docs/SPECIFICATION.md and docs/CALLS.md, and from nothing in the
+   crates: if two parameters of one type are exchanged in a crate's signature, the answers differ. tests/exports.py builds and runs it. */
 #include <inttypes.h>
 #include <stddef.h>
 #include <stdio.h>
@@ -131,7 +131,7 @@ static void make_image(void) {
     put(fields + 16, 1, 2), put(fields + 18, 6, 2), put(fields + 20, 2, 4);
 }
 
-/* One call: its status, the numbers of `out` that it writes and those that it leaves alone, and the same of a lent list. */
+/* One call: its status, the numbers of `out` that it writes and those that it leaves unchanged, and the same for the caller's list. */
 
 #define UNWRITTEN 0x5a5aa5a50ff01234u
 enum { ROOM = 120 };
@@ -230,8 +230,8 @@ int main(void) {
     GUARDED(hodrupec_class_methods, (ON, TYPES_AT, 2, 1, list, ROOM, out),
         LIST(2, va(INNER), 1, 0, va(METHODS + 8), 0x13, target(1)), 1, 3, 0, 1);
 
-    /* What the first bytes tell for certain: of all bytes, row and name; of those up to the module's name, the row alone; of those up to
-       the midst of the descriptor, neither. */
+    /* What is certain by the first bytes: by all bytes, row and name; by those up to the module's name, only the row; by those up to the
+       middle of the descriptor, neither. */
     GUARDED(hodrupec_row_certain, (ON, TYPES_AT, 1, out), NONE, 1);
     GUARDED(hodrupec_name_certain, (ON, TYPES_AT, 1, out), NONE, 1);
     GUARDED(hodrupec_row_certain, (image, MODULE_NAME, SEGMENTS, TYPES_AT, 1, out), NONE, 1);

@@ -3,7 +3,7 @@
 
 usage: tests/exports.py
 
-It has to call every function that a crate exports, and each has to answer as it should.
+It must call every function that a crate exports, and each must answer as it should.
 """
 import pathlib
 import re

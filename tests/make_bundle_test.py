@@ -6,7 +6,7 @@ usage: tests/make_bundle_test.py             needs the program target/bin/list, 
        tests/make_bundle_test.py --link      link tests/orchard.dylib anew
 
 Mach-O files are packed by hand here. tests/orchard.dylib was made by a linker, and more are made by clang and lld at each run: the
-former has what a linker writes where they are missing, the latter shows that it is still what one writes.
+former has what a linker writes even if they are missing, the latter show that it is still what a linker writes.
 """
 import argparse
 import contextlib
@@ -60,7 +60,7 @@ def macho(data, *words):
 
 
 def read(data, arch=None):
-    """The same, for bytes that stand in no file: for the many that are cut or damaged."""
+    """The same, for bytes that are not in a file: for the many inputs that are cut or damaged."""
     said, kept = io.StringIO(), make_bundle.file_content
     make_bundle.file_content = lambda name: bytes(data)
     try:
@@ -152,7 +152,7 @@ def orchard(cpu=X86_64):
     total = at + 38
     first = [section_header(b"__const", BASE + HEAD, len(const), HEAD)]
     first += [section_header(name, BASE + place, len(body), place) for name, (place, body) in places.items()]
-    # Names that differ in their last bytes alone, and a later section of a name that was there.
+    # Names that differ only in their last bytes, and a later section with the same name as an earlier one.
     second = [section_header(name, 1, 4, 0, b"__DATA") for name in (b"__swift5_types2", b"__swift5_types", b"__swift5_types\0x")]
     numbers = (BASE, 0x4000, 0, total), (BASE + 0x4000, 0x1000, 0, 0), (BASE + 0x8000, 0x1000, total, 0)
     commands = [OTHER, segment_command(b"__TEXT", numbers[0], *first), segment_command(b"__DATA", numbers[1], *second)]
@@ -370,7 +370,7 @@ def parts():
 
 
 def part_of_a_file():
-    """What the README says of a file above the limit: the section with the descriptors alone, as an image of its own."""
+    """What the README says of a file above the limit: only the section with the descriptors, as an image of its own."""
     data, _ = orchard()
     at = len(data) - 10 - 20 - 8
     (FOLDER / "part").write_bytes(data[HEAD:at])
@@ -427,7 +427,7 @@ _second: .long _Leaf - _second
 
 
 def linked_listing(tree):
-    """The listing, where the first of the two types is at this address."""
+    """The listing, if the first of the two types is at this address."""
     return f"{tree:016x} struct Orchard.Tree\n{tree + 28:016x} struct Orchard.Tree.Leaf\nend 2\n"
 
 
@@ -436,7 +436,7 @@ def tool(name):
 
 
 def linked(arch, aligned, dylib):
-    """None, or what failed. Where the descriptors' section is aligned to 2^12, its address is the same for every linker."""
+    """None, or what failed. If the descriptors' section is aligned to 2^12, its address is the same for every linker."""
     source, object_file = FOLDER / f"{arch}.s", FOLDER / f"{arch}.o"
     source.write_text(ASSEMBLY.replace("ALIGNED", str(aligned)))
     clang = [tool("clang"), "-target", f"{arch}-apple-macos11", "-c", source, "-o", object_file]
@@ -483,7 +483,7 @@ def linked_anew():
 
 
 def not_run(what, why):
-    """Fails where CI=true."""
+    """Fails if CI=true."""
     global failures
     failures += subprocess.run([ROOT / "scripts" / "not-run", what, why]).returncode
 

@@ -1,11 +1,11 @@
 #!/usr/bin/env python3
-"""Hold every function of the crates to being run by something, and every public one to a stated outcome.
+"""Check that something runs every function of the crates, and that every public one has a stated outcome.
 
-usage: tests/public_calls.py        (from anywhere; the crates have to be proved, as `rt check` and `rt ci` leave them)
+usage: tests/public_calls.py        (from anywhere; the crates must be proved, as `rt check` and `rt ci` leave them)
 
 A function is run if it can be reached from a program's `main`, or from a function exported to C (`#[no_mangle]`) that the comparison
-calls (its name stands in compare/src; compare/build refuses one that is declared there and never called). Who calls whom is the
-compiler's own account, `rt mir`, whose names are whole paths: two functions of one name in different modules are two. A public
+calls (its name occurs in compare/src; compare/build refuses one that is declared there and never called). Which function calls which is
+the compiler's own account, `rt mir`, whose names are whole paths: two functions of one name in different modules are two. A public
 function has an `ensures`, and no `requires`: it asks nothing of its caller. Prints a line for each function that breaks this; exit
 status 1 if there is one.
 """
@@ -44,7 +44,7 @@ def clauses_of(text, at):
 
 
 def functions_of(crate):
-    """The functions of a crate, by its source in the formatter's layout."""
+    """The functions of a crate, from its source in the formatter's layout."""
     source = TOP / "crates" / crate / "src"
     for file in sorted(source.rglob("*.rt")):
         text = re.sub(r"//[^\n]*", "", file.read_text(encoding="utf-8"))

@@ -1,12 +1,12 @@
 #!/usr/bin/env python3
-"""Write the vectors of the crate `test_vectors`, its file stdin, and the answers expected of them, its file stdout.
+"""Write the vectors of the crate `test_vectors`, its file stdin, and the expected answers, its file stdout.
 
 usage: tests/vectors.py [--check]        (--check: write nothing; exit status 1 if a file on disk is not what would be written)
 
 A line of stdin is FUNCTION A B BYTES STRINGS SEGMENT.. : the function called, two numbers, the bytes of the slice, image or bundle,
 the bytes of the string section, and the segments' numbers. Numbers and bytes are in hexadecimal; `-` stands for no bytes; a number
 that a function does not take is 0. The answers come from the rules as written down here and from Python's own int.from_bytes and
-strict UTF-8 decoder, and from nothing of the crates.
+strict UTF-8 decoder, and from nothing in the crates.
 """
 import pathlib
 import struct
@@ -199,7 +199,7 @@ def number_reads():
             vector(function, 1, data=b"\xaa" + bytes.fromhex(value) + b"\x55")
     for value in ("0080", "ff7f", "ff00", "00ff"):
         vector("read_u16_le_at", 0, data=bytes.fromhex(value))
-    # Both halves of a u64 may fit where the whole does not.
+    # Each half of a u64 may fit where the whole does not.
     for size in range(4, 13):
         vector("read_u64_le_at", 4, data=bytes(range(1, size + 1)))
 
@@ -215,7 +215,7 @@ def segment_lists():
     offsets((), [0, 0x1000, TOP - 1])
     offsets(HALF, [0, TOP - 1] + around)
     offsets((0x1000, 64, 0x200, 32), around)
-    # Lists with a last piece that is no segment.
+    # Lists with a last piece that is not a segment.
     for piece in ((0x1000,), (0x1000, 64), (0x1000, 64, 0)):
         offsets(piece, [0x1000])
     for piece in ((0x2000,), (0x2000, 64), (0x2000, 64, 0x100), (TOP - 1,), (TOP - 1, TOP - 1), (TOP - 1, TOP - 1, 0)):
@@ -277,7 +277,7 @@ TABLE = [
 
 
 def sequence(text):
-    """A sequence alone, before a NUL, and between letters, from an offset past a byte that is no text."""
+    """A sequence alone, before a NUL, and between letters, from an offset after a byte that is not a text."""
     vector("read_cstr_at", 0, data=text)
     vector("read_cstr_at", 0, data=text + b"\0")
     vector("read_cstr_at", 1, data=b"\xffA" + text + b"B\0")
@@ -376,7 +376,7 @@ def field_names():
     image = b"x\0name\0\xff\0\xc3"
     strings = b"first\0\xc3\xa9\0\xff\0end"
     covers = (0x1000, 16, 0, 16)
-    # The image answers; its text is ill-formed, empty at its end or past it; the segment does not cover.
+    # The image answers; its text is ill-formed, empty at its end or past it; no segment has the address.
     for section in (0x1000, 0x1001, 0xFFA, 0x2000, 0):
         for address in (0, 0x1000, 0x1001, 0x1002, 0x1007, 0x1009, 0x100A, 0x100B, 0x1010):
             vector("lookup_field_name", address, section, image, strings, covers)
@@ -401,7 +401,7 @@ def field_names():
 
 
 def bundle_parts():
-    """The parts of bundles with every choice of the kinds beside the image."""
+    """The parts of bundles with every choice of the kinds besides the image."""
     records = {2: bytes(range(32)), 3: struct.pack("<Q4s", 0x2000, b"type"), 4: struct.pack("<Q6s", 0x3000, b"fields"), 5: struct.pack("<Q5s", TOP - 1, b"names")}
     for choice in range(16):
         kinds = {1: b"image"} | {kind: body for kind, body in records.items() if choice >> kind - 2 & 1}
