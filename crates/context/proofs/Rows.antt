@@ -5,7 +5,7 @@ use mathlib.Core.List.{List, [], _∷_}
 use borrow.Author.Tests.{eq-eqb, ne-eqb}
 use Rattle.context.specs.Enumeration.{valueOf}
 
--- n has row i and none before it; no row at all where there are not so many
+-- n has row i and none before it; no row at all if there are fewer rows
 abbrev pub Row {ℓ} : {A : Type ℓ} → ℕ → List (ℕ × A) → ℕ → Type 0
 Row i [] n = Unit {0}
 Row zero ((k, a) ∷ rows) n = n ≡ k

@@ -1,4 +1,4 @@
--- What has to follow a byte, from the number of the row that it starts: one law for every lead byte. Assumes nothing.
+-- What must follow a byte, from the number of the row that it starts: one law for every lead byte. Assumes nothing.
 use Prim.Native.Nat.{ℕ, zero, suc, _≤_}
 use mathlib.Core.Path.{_≡_, refl}
 use mathlib.Core.List.{List, [], _∷_}
@@ -7,7 +7,7 @@ use Rattle.utf8.specs.Table.{ByteRange}
 use Rattle.utf8.specs.Text.{following}
 use Rattle.utf8.specs.Utf8Laws.{within-true, within-false}
 
--- b starts row k and none before it; no row at all where there are not so many
+-- b starts row k and none before it; no row at all if there are fewer rows
 abbrev pub Row : ℕ → List (List ByteRange) → ℕ → Type 0
 Row k [] b = Unit {0}
 Row k ([] ∷ rows) b = Row k rows b

@@ -106,7 +106,7 @@ pub at-end : (s : List ℕ) (i : ℕ) → length s ≤ i → untilNul (drop i s)
 unfolding untilNul
 at-end s i h = rw (drop-of-length-le s h)
 
--- ranges are pending, and no byte is there for them
+-- ranges are pending, and there is no byte for them
 none-left : (n low high : ℕ) → 0 < n → goesOn [] (tailRanges n low high) ≡ false
 unfolding goesOn
 none-left zero low high h = absurd (not-suc-le-zero h)

@@ -1,4 +1,4 @@
--- `c_listing::put_record` meets its contract: the name is written behind the room for its head, and then the head.
+-- `c_listing::put_record` meets its contract: the name is written after the room for its head, and then the head.
 -- Assumes nothing.
 use native.Mathlib.Omega.{arith}
 use Prim.Native.Nat.{_+_, _-_}

@@ -1,4 +1,4 @@
--- The lent part of the buffer is as long as it says.
+-- The part of the buffer that is passed on is as long as it says.
 use native.Mathlib.Omega.{arith}
 use mathlib.Core.Path.{sym}
 use lib.Seq.{length-take-le}

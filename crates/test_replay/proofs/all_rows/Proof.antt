@@ -1,4 +1,4 @@
--- `test_replay::all_rows` is safe and ends: at most 4,096 rows are asked for.
+-- `test_replay::all_rows` is safe and ends: at most 4,096 rows are read.
 -- Assumes nothing.
 use Prim.Native.Nat.{_-_}
 use borrow.Author.Needs.{needs}

@@ -1,4 +1,4 @@
--- `test_replay::context_lines` is safe and ends: at most 257 contexts are asked for.
+-- `test_replay::context_lines` is safe and ends: at most 257 steps are made.
 -- Assumes nothing.
 use Prim.Native.Nat.{_-_}
 use borrow.Author.Needs.{needs}

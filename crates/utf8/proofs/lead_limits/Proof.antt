@@ -1,4 +1,4 @@
--- `utf8::lead_limits` meets its contract: the tests tell the row, or leave it to the functions for longer sequences. Assumes nothing.
+-- `utf8::lead_limits` meets its contract: the tests find the row, or leave it to the functions for longer sequences. Assumes nothing.
 use native.Mathlib.Omega.{arith}
 use Rattle.utf8.specs.Table.{table}
 use Rattle.utf8.proofs.Rows.{in-row}

@@ -1,5 +1,5 @@
 -- `utf8::scan_text` meets its contract. Both loops carry where the walk stands (`Walk`): the outer one with nothing pending, the inner one with
--- the ranges of the bytes that the sequence still has to have. `formed` is true in both, since each way that makes it false leaves at once. Assumes nothing.
+-- the ranges of the bytes that the sequence still needs. `formed` is true in both, since each way that makes it false leaves at once. Assumes nothing.
 use Prim.Native.Nat.{_≤_, _<_, _-_}
 use native.Mathlib.Omega.{arith}
 use borrow.Author.Needs.{needs}

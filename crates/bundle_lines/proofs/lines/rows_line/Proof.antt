@@ -1,4 +1,4 @@
--- `type_lines::printer::rows_line` meets its contract.
+-- `bundle_lines::lines::rows_line` meets its contract.
 -- Assumes nothing.
 use Rattle.util.specs.AnswersLaws.{told}
 use Rattle.type_lines.specs.Lines.{lineAnswer}

@@ -1,4 +1,4 @@
--- `type_lines::printer::start` meets its contract.
+-- `bundle_lines::lines::start` meets its contract.
 -- Assumes nothing.
 use mathlib.Core.Path.{ap}
 use Rattle.util.specs.AnswersLaws.{told}

@@ -1,4 +1,4 @@
--- `bundle::segments::fill` meets its contract. The invariant: the numbers of the segments before `k` are in the list.
+-- `bundle_parts::segments::fill` meets its contract. The invariant: the numbers of the segments before `k` are in the list.
 -- Assumes nothing.
 use borrow.Author.Needs.{needs}
 use native.Mathlib.Omega.{arith}

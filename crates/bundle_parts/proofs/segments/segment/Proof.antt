@@ -1,4 +1,4 @@
--- `bundle::segments::segment` meets its contract.
+-- `bundle_parts::segments::segment` meets its contract.
 -- Assumes nothing.
 use native.Mathlib.Omega.{arith}
 use mathlib.Core.Path.{_∙_, ap}

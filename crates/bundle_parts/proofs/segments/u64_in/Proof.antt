@@ -1,4 +1,4 @@
--- `bundle::segments::u64_in` meets its contract: the bytes are there to be read.
+-- `bundle_parts::segments::u64_in` meets its contract: the bytes can be read.
 -- Assumes nothing.
 use native.Mathlib.Omega.{arith}
 use Rattle.util.specs.AnswersLaws.{told}

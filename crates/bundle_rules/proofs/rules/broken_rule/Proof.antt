@@ -1,4 +1,4 @@
--- `bundle::rules::broken_rule` meets its contract. The invariant: the walk from here on tells what the whole one does.
+-- `bundle_rules::rules::broken_rule` meets its contract. The invariant: the walk from here on finds what the whole walk finds.
 -- Assumes nothing.
 use Prim.Native.Nat.{_-_}
 use native.Mathlib.Omega.{arith}

@@ -1,4 +1,4 @@
--- `bundle::rules::check_record` meets its contract: the tests are those of `checkAt`, in its order.
+-- `bundle_rules::rules::check_record` meets its contract: the tests are those of `checkAt`, in its order.
 -- Assumes nothing.
 use native.Mathlib.Omega.{arith}
 use mathlib.Core.Path.{sym, _∙_}

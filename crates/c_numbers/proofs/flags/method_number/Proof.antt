@@ -1,4 +1,4 @@
--- `c_rows::flags::method_number` meets its contract.
+-- `c_numbers::flags::method_number` meets its contract.
 -- Assumes nothing.
 use mathlib.Core.Path.{refl}
 use Rattle.util.specs.AnswersLaws.{told}

@@ -1,4 +1,4 @@
--- `c_rows::flags::reference_number` meets its contract.
+-- `c_numbers::flags::reference_number` meets its contract.
 -- Assumes nothing.
 use mathlib.Core.Path.{refl}
 use Rattle.util.specs.AnswersLaws.{told}

@@ -1,4 +1,4 @@
--- `c_rows::readers::bits` meets its contract.
+-- `c_numbers::readers::bits` meets its contract.
 -- Assumes nothing.
 use Prim.Native.Nat.{ℕ, suc, _-_, _^_, _≤_}
 use native.Mathlib.Omega.{arith}
@@ -15,7 +15,7 @@ use Rattle.util.specs.Pointer.{modulo}
 use Rattle.c_numbers.proofs.readers.bits.Statement.{statement}
 use Rattle.c_numbers.proofs.readers.bits.Tie as tie
 
--- the cases of a number that the test tells apart
+-- the cases of a number that the test separates
 forward-is : (y : ℤ) → SFits w64 y → leZ (pos 0) y ≡ true → (T (nonNeg y) × Fits w64 (natAbs y)) × (natAbs y ≡ modulo y (2 ^ 64))
 forward-is (pos n) f t = ((tt, record { fits = omega (arith, f .sfits) }), omega (arith, f .sfits))
 forward-is (negsuc n) f t = absurd (false≢true t)

@@ -1,4 +1,4 @@
--- `c_rows::readers::hodrupec_fixed_text` meets its contract.
+-- `c_numbers::readers::hodrupec_fixed_text` meets its contract.
 -- Assumes nothing.
 use mathlib.Core.Path.{refl}
 use Rattle.c_numbers.specs.ReadersLaws.{length-given}

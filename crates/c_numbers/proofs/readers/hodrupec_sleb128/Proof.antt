@@ -1,4 +1,4 @@
--- `c_rows::readers::hodrupec_sleb128` meets its contract.
+-- `c_numbers::readers::hodrupec_sleb128` meets its contract.
 -- Assumes nothing.
 use Prim.Native.Nat.{_^_}
 use native.Mathlib.Omega.{arith}

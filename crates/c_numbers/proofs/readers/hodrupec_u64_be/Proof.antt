@@ -1,4 +1,4 @@
--- `c_rows::readers::hodrupec_u64_be` meets its contract.
+-- `c_numbers::readers::hodrupec_u64_be` meets its contract.
 -- Assumes nothing.
 use mathlib.Core.Path.{refl}
 use Rattle.util.specs.AnswersLaws.{told}

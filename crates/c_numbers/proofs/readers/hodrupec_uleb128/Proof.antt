@@ -1,4 +1,4 @@
--- `c_rows::readers::hodrupec_uleb128` meets its contract.
+-- `c_numbers::readers::hodrupec_uleb128` meets its contract.
 -- Assumes nothing.
 use mathlib.Core.Path.{refl}
 use Rattle.util.specs.AnswersLaws.{told}

@@ -1,4 +1,4 @@
--- `c_rows::readers::hodrupec_vm_address` meets its contract.
+-- `c_numbers::readers::hodrupec_vm_address` meets its contract.
 -- Assumes nothing.
 use mathlib.Core.Path.{ap}
 use Rattle.util.specs.AnswersLaws.{told}

@@ -1,4 +1,4 @@
--- `typedescriptor::offsets::field_offset` meets its contract.
+-- `field_offsets::offsets::field_offset` meets its contract.
 -- Assumes nothing.
 use Rattle.field_offsets.specs.OffsetsLaws.{offset-of}
 use borrow.Author.Needs.{needs}

@@ -1,4 +1,4 @@
--- `typedescriptor::offsets::field_offsets` meets its contract: of all bodies a struct has a vector.
+-- `field_offsets::offsets::field_offsets` meets its contract: of all bodies a struct has a vector.
 -- Assumes nothing.
 use mathlib.Core.Path.{refl}
 use Rattle.field_offsets.specs.Offsets.{vector}

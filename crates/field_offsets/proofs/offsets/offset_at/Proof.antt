@@ -1,4 +1,4 @@
--- `typedescriptor::offsets::offset_at` meets its contract: each `return` is a case of `offsetIn`.
+-- `field_offsets::offsets::offset_at` meets its contract: each `return` is a case of `offsetIn`.
 -- Assumes nothing.
 use native.Mathlib.Omega.{arith}
 use Rattle.util.specs.AnswersLaws.{told}

@@ -1,4 +1,4 @@
--- `typedescriptor::offsets::static_field_offsets` meets its contract.
+-- `field_offsets::offsets::static_field_offsets` meets its contract.
 -- Assumes nothing.
 use mathlib.Core.Path.{refl}
 use Rattle.util.specs.AnswersLaws.{told}

@@ -1,4 +1,4 @@
--- `typedescriptor::offsets::struct_offsets` meets its contract: each `return` is a case of `offsetsPlace`.
+-- `field_offsets::offsets::struct_offsets` meets its contract: each `return` is a case of `offsetsPlace`.
 -- Assumes nothing.
 use native.Mathlib.Omega.{arith}
 use Rattle.util.specs.AnswersLaws.{told}

@@ -1,4 +1,4 @@
--- `util::leb128::read_chunks` meets its contract. The invariant: the bytes passed all go on, and have these bits.
+-- `leb128::leb128::read_chunks` meets its contract. The invariant: the bytes passed all go on, and have these bits.
 -- Assumes nothing.
 use Prim.Native.Nat.{_^_, _≤_, _-_}
 use mathlib.Core.Path.{_≡_, refl}

@@ -1,4 +1,4 @@
--- `util::leb128::read_uleb128` meets its contract.
+-- `leb128::leb128::read_uleb128` meets its contract.
 -- Assumes nothing.
 use Rattle.util.specs.AnswersLaws.{case}
 use Rattle.leb128.specs.Leb128Walk.{Chunked}

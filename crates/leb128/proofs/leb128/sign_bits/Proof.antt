@@ -1,4 +1,4 @@
--- `util::leb128::sign_bits` meets its contract.
+-- `leb128::leb128::sign_bits` meets its contract.
 -- Assumes nothing.
 use Prim.Native.Nat.{_^_}
 use borrow.Author.Tests.{lt-ltb, le-ltb}

@@ -1,4 +1,4 @@
--- `util::leb128::tenth` meets its contract.
+-- `leb128::leb128::tenth` meets its contract.
 -- Assumes nothing.
 use native.Mathlib.Omega.{arith}
 use Rattle.leb128.specs.Leb128Laws.{running-small, running-ends, ten-last, ten-ends, eleven-last, eleven-on}

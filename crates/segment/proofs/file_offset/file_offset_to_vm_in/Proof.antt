@@ -1,4 +1,4 @@
--- `util::file_offset::file_offset_to_vm_in` meets its contract. The invariant: what the numbers from `i` on say is what the whole list says.
+-- `segment::file_offset::file_offset_to_vm_in` meets its contract. The invariant: what the numbers from `i` on say is what the whole list says.
 -- Assumes nothing.
 use borrow.Author.Needs.{needs}
 use native.Mathlib.Omega.{arith}

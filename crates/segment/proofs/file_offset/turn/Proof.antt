@@ -1,4 +1,4 @@
--- `util::file_offset::turn` meets its contract: each `return` is a case of `decides`.
+-- `segment::file_offset::turn` meets its contract: each `return` is a case of `decides`.
 -- Assumes nothing.
 use borrow.Author.Needs.{needs}
 use native.Mathlib.Omega.{arith}

@@ -1,4 +1,4 @@
--- `util::segment::clip` meets its contract.
+-- `segment::segment::clip` meets its contract.
 -- Assumes nothing.
 use native.Mathlib.Omega.{arith}
 use Rattle.segment.specs.MappingLaws.{clipped}

@@ -1,4 +1,4 @@
--- `util::segment::locate` meets its contract. The invariant: of the addresses from `low` up to `high`, and of the one looked for, the
+-- `segment::segment::locate` meets its contract. The invariant: of the addresses from `low` up to `high`, and of the given address, the
 -- numbers from `i` on say what the whole list says.
 -- Assumes nothing.
 use borrow.Author.Needs.{needs}

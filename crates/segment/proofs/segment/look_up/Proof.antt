@@ -1,4 +1,4 @@
--- `util::segment::look_up` meets its contract: each `return` is a case of `decides`.
+-- `segment::segment::look_up` meets its contract: each `return` is a case of `decides`.
 -- Assumes nothing.
 use borrow.Author.Needs.{needs}
 use native.Mathlib.Omega.{arith}

@@ -1,4 +1,4 @@
--- `util::segment::vm_to_file_offset_in` meets its contract. The invariant: what the numbers from `i` on say is what the whole list says.
+-- `segment::segment::vm_to_file_offset_in` meets its contract. The invariant: what the numbers from `i` on say is what the whole list says.
 -- Assumes nothing.
 use borrow.Author.Needs.{needs}
 use native.Mathlib.Omega.{arith}

@@ -1,4 +1,4 @@
--- `util::segment::vm_to_file_offset_near` meets its contract.
+-- `segment::segment::vm_to_file_offset_near` meets its contract.
 -- Assumes nothing.
 use Rattle.segment.specs.MappingLaws.{near-answer, near-next}
 use borrow.Author.Needs.{needs}

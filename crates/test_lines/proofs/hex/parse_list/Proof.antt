@@ -1,4 +1,4 @@
--- `test_lines::hex::parse_list` meets its contract: each `return` is a case of the count's field and of the numbers behind it.
+-- `test_lines::hex::parse_list` meets its contract: each `return` is a case of the count's field and of the numbers after it.
 -- Assumes nothing.
 use native.Mathlib.Omega.{arith}
 use mathlib.Core.Path.{refl, sym, _∙_, ap}

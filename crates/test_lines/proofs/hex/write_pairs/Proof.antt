@@ -1,4 +1,4 @@
--- `test_lines::hex::write_pairs` meets its contract. The invariant: the first `n` bytes are written, and the rest is as it was.
+-- `test_lines::hex::write_pairs` meets its contract. The invariant: the first `n` bytes are written, and the rest is unchanged.
 -- Assumes nothing.
 use Prim.Native.Nat.{_≤_, _-_}
 use native.Mathlib.Omega.{arith}

@@ -1,4 +1,4 @@
--- `test_lines::line::field` meets its contract. The invariant: the field that is `left` fields after the place `at` is the one asked for.
+-- `test_lines::line::field` meets its contract. The invariant: the field that is `left` fields after the place `at` is the answer.
 -- Assumes nothing.
 use Prim.Native.Nat.{_≤_}
 use native.Mathlib.Omega.{arith}

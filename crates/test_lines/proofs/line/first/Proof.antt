@@ -1,4 +1,4 @@
--- `test_lines::line::first` meets its contract. At each `return` the test says whether there are so many numbers.
+-- `test_lines::line::first` meets its contract. At each `return` the test says whether there are that many numbers.
 -- Assumes nothing.
 use native.Mathlib.Omega.{arith}
 use mathlib.Core.Path.{sym}

@@ -1,4 +1,4 @@
--- `test_replay_full::fields::records` is safe and ends: at most 12 records are asked for.
+-- `test_replay_full::fields::records` is safe and ends: at most 12 records are read.
 use Prim.Native.Nat.{_-_}
 use borrow.Author.Needs.{needs}
 use Rattle.test_replay_full.proofs.fields.records.Statement.{statement}

@@ -1,4 +1,4 @@
--- `test_replay_full::rows::all_rows` meets its contract, and ends: at most 4,096 rows are asked for.
+-- `test_replay_full::rows::all_rows` meets its contract, and ends: at most 4,096 rows are read.
 -- Assumes nothing.
 use Prim.Native.Nat.{_-_, _≤_, _<_}
 use native.Mathlib.Omega.{arith}

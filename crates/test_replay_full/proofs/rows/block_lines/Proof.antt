@@ -1,4 +1,4 @@
--- `test_replay_full::rows::block_lines` is safe and ends: at most 12 blocks are asked for.
+-- `test_replay_full::rows::block_lines` is safe and ends: at most 12 steps are made.
 use Prim.Native.Nat.{_-_}
 use borrow.Author.Needs.{needs}
 use Rattle.test_replay_full.proofs.rows.block_lines.Statement.{statement}

@@ -1,4 +1,4 @@
--- `test_replay_full::rows::offset_fields` is safe and ends: at most 12 numbers are asked for.
+-- `test_replay_full::rows::offset_fields` is safe and ends: at most 12 numbers are read.
 use Prim.Native.Nat.{_-_}
 use borrow.Author.Needs.{needs}
 use Rattle.test_replay_full.proofs.rows.offset_fields.Statement.{statement}

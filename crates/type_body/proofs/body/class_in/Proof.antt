@@ -1,4 +1,4 @@
--- `typedescriptor::body::class_in` meets its contract.
+-- `type_body::body::class_in` meets its contract.
 -- Assumes nothing.
 use Rattle.type_body.specs.BodyLaws.{class-at}
 use borrow.Author.Needs.{needs}

@@ -1,4 +1,4 @@
--- `typedescriptor::body::class_sizes` meets its contract.
+-- `type_body::body::class_sizes` meets its contract.
 -- Assumes nothing.
 use Rattle.type_body.specs.BodyLaws.{resilient-at, fixed-at}
 use borrow.Author.Needs.{needs}

@@ -1,4 +1,4 @@
--- `typedescriptor::body::decode_body_near` meets its contract: each kind is a case of `bodyOfKind`.
+-- `type_body::body::decode_body_near` meets its contract: each kind is a case of `bodyOfKind`.
 -- Assumes nothing.
 use mathlib.Core.Path.{refl}
 use Rattle.type_body.specs.BodyLaws.{body-kind, bodiless-kind}

@@ -1,4 +1,4 @@
--- `typedescriptor::body::decode_struct_body` meets its contract: each `return` is a case of `bodyBytes`.
+-- `type_body::body::decode_struct_body` meets its contract: each `return` is a case of `bodyBytes`.
 -- Assumes nothing.
 use native.Mathlib.Omega.{arith}
 use Rattle.type_body.specs.BodyLaws.{body-wraps, no-body, body-at}

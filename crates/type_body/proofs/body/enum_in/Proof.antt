@@ -1,4 +1,4 @@
--- `typedescriptor::body::enum_in` meets its contract.
+-- `type_body::body::enum_in` meets its contract.
 -- Assumes nothing.
 use mathlib.Core.Path.{refl}
 use Rattle.type_body.specs.BodyLaws.{enum-at}

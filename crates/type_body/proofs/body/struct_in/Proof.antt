@@ -1,4 +1,4 @@
--- `typedescriptor::body::struct_in` meets its contract.
+-- `type_body::body::struct_in` meets its contract.
 -- Assumes nothing.
 use Rattle.type_body.specs.BodyLaws.{struct-at}
 use borrow.Author.Needs.{needs}

@@ -1,4 +1,4 @@
--- `typedescriptor::body::superclass_name` meets its contract.
+-- `type_body::body::superclass_name` meets its contract.
 -- Assumes nothing.
 use mathlib.Core.Path.{refl}
 use Rattle.type_body.specs.BodyLaws.{superclass-of}

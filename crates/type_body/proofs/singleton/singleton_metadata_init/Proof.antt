@@ -1,4 +1,4 @@
--- `typedescriptor::singleton::singleton_metadata_init` meets its contract: each `return` is a case of `singletonInit`.
+-- `type_body::singleton::singleton_metadata_init` meets its contract: each `return` is a case of `singletonInit`.
 -- Assumes nothing.
 use native.Mathlib.Omega.{arith}
 use Rattle.util.specs.AnswersLaws.{told}

@@ -1,4 +1,4 @@
--- `typedescriptor::singleton::singleton_metadata_pointer` meets its contract.
+-- `type_body::singleton::singleton_metadata_pointer` meets its contract.
 -- Assumes nothing.
 use native.Mathlib.Omega.{arith}
 use Rattle.type_body.specs.SingletonLaws.{no-pointer, pointer-at}

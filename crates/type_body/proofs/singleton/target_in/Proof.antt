@@ -1,4 +1,4 @@
--- `typedescriptor::singleton::target_in` meets its contract: each `return` is a case of `slotTarget`.
+-- `type_body::singleton::target_in` meets its contract: each `return` is a case of `slotTarget`.
 -- Assumes nothing.
 use native.Mathlib.Omega.{arith}
 use Rattle.type_body.specs.SingletonLaws.{zero-target, target-wraps, target-at}

@@ -1,4 +1,4 @@
--- `typedescriptor::trailers::trailing` meets its contract: each body is a case of `trailers`.
+-- `type_body::trailers::trailing` meets its contract: each body is a case of `trailers`.
 -- Assumes nothing.
 use Rattle.type_body.specs.ItemsLaws.{extra-is, trailers-of}
 use borrow.Author.Needs.{needs}

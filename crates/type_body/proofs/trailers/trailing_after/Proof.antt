@@ -1,4 +1,4 @@
--- `typedescriptor::trailers::trailing_after` meets its contract.
+-- `type_body::trailers::trailing_after` meets its contract.
 -- Assumes nothing.
 use native.Mathlib.Omega.{arith}
 use Rattle.type_body.specs.ItemsLaws.{start-wraps, start-below}

@@ -1,4 +1,4 @@
--- `type_lines::printer::BundleLineIter::next_line` meets its contract.
+-- `bundle_lines::lines::BundleLineIter::next_line` meets its contract.
 -- Assumes nothing.
 use mathlib.Core.Path.{sym, ap}
 use Rattle.bundle_lines.specs.Printed.{pendingOf}

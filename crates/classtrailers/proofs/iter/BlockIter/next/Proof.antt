@@ -1,4 +1,4 @@
--- `classtrailers::iter::BlockIter::next` meets its contract. The invariant: the next block from `row` on is the one asked for.
+-- `classtrailers::iter::BlockIter::next` meets its contract. The invariant: the next block from `row` on is the answer.
 -- Assumes nothing.
 use native.Mathlib.Omega.{arith}
 use Prim.Native.Nat.{_-_}

@@ -1,4 +1,4 @@
--- `typedescriptor::iter::TypeIter::next` meets its contract. The invariant: the next row from `slot` on is the one asked for.
+-- `typedescriptor::iter::TypeIter::next` meets its contract. The invariant: the next row from `slot` on is the answer.
 -- Assumes nothing.
 use borrow.Author.Needs.{needs}
 use native.Mathlib.Omega.{arith}
