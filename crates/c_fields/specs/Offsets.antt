@@ -1,5 +1,4 @@
--- docs/SPECIFICATION.md, "Calls for C".
--- Where field offsets lie, as numbers.
+-- docs/SPECIFICATION.md, "Calls for C". Where field offsets lie, as numbers.
 use Prim.Native.Nat.{ℕ}
 use mathlib.Core.List.{List, [], _∷_}
 use mathlib.Core.Option.{Option, some, none}

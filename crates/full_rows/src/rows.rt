@@ -65,13 +65,14 @@ fn put_zeros(count: usize, buffer: &mut [u64], at: usize)
     }
 }
 
-// A row's own numbers, and those of its body. The first number of a body: its kind.
+// The first number of a body: its kind.
 const CLASS: u64 = 1;
 
 const STRUCT: u64 = 2;
 
 const ENUM: u64 = 3;
 
+// A row's own numbers at a place of the list.
 fn put_row(slot: usize, row: Row, buffer: &mut [u64], at: usize)
     requires { ⌜ at + 6 ≤ length (now buffer) ⌝ }
     ensures { λ _. ⌜ now (buffer .exit) ≡ pasted (now (buffer .entry)) at (slot ∷ (row .address ∷ (row .flags ∷ (row .parent ∷ (row .«name_place» ∷ (row .«name_length» ∷ [])))))) ⌝ }
