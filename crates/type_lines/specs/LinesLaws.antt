@@ -55,10 +55,10 @@ module _ (flags : ℕ) where
 pub put-as : (b p q b′ : List ℕ) (at r : ℕ) → q ≡ p → r ≡ putEnd b at p → b′ ≡ putInto b at p → at + length p ≤ length b → Put b at q r b′
 put-as b p q b′ at r e er eb h = rw e (put-fits b p b′ at r er eb h)
 
--- ---- the name, in a window of the line
+-- ---- the name, in a part of the line
 
 module _ (b : List ℕ) (at k : ℕ) (fits : at + k ≤ length b) where
-  -- a text written at the window's start
+  -- a text written at the part's start
   window-filled : (t w : List ℕ) → w ≡ t ++ drop (length t) (take k (drop at b)) → length t ≤ k → Put b at t (at + length t) (putMid at k b w)
   window-filled t w e h =
       let long : length (take k (drop at b)) ≡ k = length-take-le k (drop at b) (simp length-drop (omega arith)) in
@@ -66,7 +66,7 @@ module _ (b : List ℕ) (at k : ℕ) (fits : at + k ≤ length b) where
       sym (drop-append-le (length t) (take k (drop at b)) (drop k (drop at b)) (omega arith)) ∙ ap (drop (length t)) (take-append-drop k (drop at b)) ∙ drop-drop (length t) at b in
       record { ends = refl; holds = ap (λ (l : List ℕ). take at b ++ l) (rw (e, append-assoc, back)) }
 
-  -- a window that is unchanged
+  -- a part that is unchanged
   window-kept : (w : List ℕ) → w ≡ take k (drop at b) → putMid at k b w ≡ b
   window-kept w e = rw e (put-same at k b)
 

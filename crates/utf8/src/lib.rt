@@ -117,7 +117,7 @@ fn plain(s: &[u8], at: usize) -> bool
     all
 }
 
-// How many bytes, in blocks of 8, are ASCII with no NUL among them.
+// How many bytes, eight at a time, are ASCII with no NUL among them.
 fn plain_prefix(s: &[u8]) -> usize
     ensures { λ r. ⌜ (r ≤ length (now (s .entry))) × Plain (now (s .entry)) 0 r ⌝ }
 {

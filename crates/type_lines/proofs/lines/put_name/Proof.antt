@@ -1,4 +1,4 @@
--- `type_lines::lines::put_name` meets its contract: the window of the line is the name's buffer.
+-- `type_lines::lines::put_name` meets its contract: a part of the line is the name's buffer.
 -- Assumes nothing.
 use native.Mathlib.Omega.{arith}
 use mathlib.Core.Path.{_≡_}
