@@ -1,3 +1,4 @@
 pub mod FullRows
 pub mod FullRowsLaws
 pub mod BlocksLaws
+pub mod ItemsLaws
