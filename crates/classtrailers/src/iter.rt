@@ -125,7 +125,7 @@ fn pass(
 }
 
 // The block of a kind, of a descriptor whose blocks start at an address: of those before it only the headers are read.
-pub fn block_of_kind_near(
+fn block_of_kind_near(
     image: &[u8],
     segments: &[u64],
     mapping: Mapping,

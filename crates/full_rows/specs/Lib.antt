@@ -2,3 +2,4 @@ pub mod FullRows
 pub mod FullRowsLaws
 pub mod BlocksLaws
 pub mod ItemsLaws
+pub mod OakRows
