@@ -34,7 +34,6 @@ u64 hodrupec_static_field_offsets(IMAGE, u64 address, u32 flags, u64 out[3]);
 u64 hodrupec_field_offset(BYTES(image), size_t place, u32 count, u32 number, u64 out[2]);
 u64 hodrupec_row_certain(IMAGE, BYTES(types), u64 vmaddr, size_t slot, u64 out[1]);
 u64 hodrupec_name_certain(IMAGE, BYTES(types), u64 vmaddr, size_t slot, u64 out[1]);
-u64 hodrupec_class_methods(IMAGE, BYTES(types), u64 vmaddr, size_t start, u32 first, u64 *buffer, size_t room, u64 out[4]);
 u64 hodrupec_first_block(IMAGE, u64 address, u32 flags, u64 out[4]);
 u64 hodrupec_next_block(IMAGE, u32 flags, u32 is_class, u32 extra, u32 row, u64 address, u64 out[7]);
 u64 hodrupec_block_of_kind(IMAGE, u64 address, u32 flags, u32 kind, u64 out[5]);
@@ -227,8 +226,6 @@ int main(void) {
             0, 0, 0, 0, 0, 0, 0, 0, 0, 0, 0, 0, 0, 0, 0, 0, 1, 106, 2, va(METHODS), 1, 2, va(OVERRIDES), 0,
             0, 0, 0, 0, 1, 2, va(METADATAS), 0, 1, 0x15, 3, 0, 0, 0, 0, 0, 1, 2, va(DEFAULTS), 0),
         2, 3, 1);
-    GUARDED(hodrupec_class_methods, (ON, TYPES_AT, 2, 1, list, ROOM, out),
-        LIST(2, va(INNER), 1, 0, va(METHODS + 8), 0x13, target(1)), 1, 3, 0, 1);
 
     /* What is certain by the first bytes: by all bytes, row and name; by those up to the module's name, only the row; by those up to the
        middle of the descriptor, neither. */

@@ -505,16 +505,17 @@ fn classes(count: usize, segments: usize) -> Input {
     input
 }
 
-/// How many numbers the caller's buffer for methods of classes holds: 32 kB.
-const NUMBERS: usize = 4096;
+/// Where the block of a vtable lies in a record of full rows: 1 if there is one, an offset, how many methods it has and the address of the first.
+const VTABLE: usize = 14 + 4 * 4;
 
-/// The methods of all classes of a section: rows, bodies, the blocks up to the vtable, and its entries; the proved side in as many calls as
-/// a buffer of `NUMBERS` needs.
+/// The methods of all classes of a section: rows, bodies and all blocks, and each vtable's entries; the proved side in as many calls for full rows as a
+/// buffer of `RECORDS` asks for, and a call for each class's table.
 fn class_methods(input: &Input, count: usize) -> Times {
     let rt = runtime(input);
     let image = Image::of(input);
     let items = input.types.len() / 4 * count;
-    let mut buffer = vec![0; NUMBERS];
+    let mut rows = vec![0; proved_fullrows::NUMBERS * RECORDS];
+    let mut buffer = vec![[0; 3]; count];
     both(
         items,
         || {
@@ -526,22 +527,26 @@ fn class_methods(input: &Input, count: usize) -> Times {
             })
         },
         || {
-            let (mut slot, mut method, mut s) = (0, 0, 0usize);
+            let (mut slot, mut s) = (0, 0usize);
             loop {
-                let given = proved_fullrows::class_methods(image, input, slot, method, &mut buffer);
+                let given = proved_fullrows::full_rows(image, input, slot, &mut rows);
                 let given = given.expect("whole segments");
-                let mut left = &buffer[..];
-                for _ in 0..given.classes {
-                    let (head, rest) = left.split_at(4);
-                    let (methods, rest) = rest.split_at(3 * head[2] as usize);
-                    let (methods, _) = methods.as_chunks::<3>();
-                    s = methods.iter().fold(s, |s, &e| s.wrapping_add(sum(e)));
-                    left = rest;
+                let (records, _) = rows.as_chunks::<{ proved_fullrows::NUMBERS }>();
+                for record in &records[..given.records as usize] {
+                    if record[VTABLE] == 0 {
+                        continue;
+                    }
+                    let (n, va) = (record[VTABLE + 2] as u32, record[VTABLE + 3]);
+                    let lent = buffer.as_flattened_mut();
+                    let listed = proved_tables::methods(image, va, n, 0, lent);
+                    let [methods, _] = listed.expect("whole segments");
+                    let methods = buffer[..methods as usize].iter();
+                    s = methods.fold(s, |s, &e| s.wrapping_add(sum(e)));
                 }
+                slot = given.next as usize;
                 if given.all == 1 {
                     return s;
                 }
-                (slot, method) = (given.next as usize, given.method as u32);
             }
         },
     )
@@ -748,7 +753,7 @@ fn full() {
     }
     println!();
     println!(
-        "Methods of all classes of a section, names of 8 bytes, nanoseconds per method: `classes` in calls for {NUMBERS} numbers at a time, rows, bodies and blocks up to the vtable included on both sides."
+        "Methods of all classes of a section, names of 8 bytes, nanoseconds per method: `classes` in calls for {RECORDS} full rows at a time and one for each class's table, rows, bodies and all blocks included on both sides."
     );
     println!("methods             | count | segments |      Rust |    proved | ratio");
     for segments in [2, 40] {

@@ -35,7 +35,6 @@ pub struct Counts {
     pub too_deep: u64,
     pub listings: u64,
     pub full_rows: u64,
-    pub class_methods: u64,
     pub leaves: u64,
     pub refusals: u64,
     pub bodies: u64,
@@ -52,7 +51,7 @@ pub struct Counts {
 impl Counts {
     pub fn line(&self) -> String {
         format!(
-            "{} inputs, {} rows, {} contexts, {} names ({} chains above {LIMIT}), {} listings, {} of full rows, {} of methods of classes, {} leaf calls, {} ragged lists, \
+            "{} inputs, {} rows, {} contexts, {} names ({} chains above {LIMIT}), {} listings, {} of full rows, {} leaf calls, {} ragged lists, \
             {} descriptors, {} blocks, {} made-up walks, {} entries, {} singleton records, {} lists, {} field steps, {} records, {} offset calls",
             self.inputs,
             self.rows,
@@ -61,7 +60,6 @@ impl Counts {
             self.too_deep,
             self.listings,
             self.full_rows,
-            self.class_methods,
             self.leaves,
             self.refusals,
             self.bodies,
@@ -211,7 +209,6 @@ impl Checker {
         same!(0, end.there, "row {number} is there");
         self.starts(input)?;
         self.full_rows(input, rt)?;
-        self.class_methods(input, rt)?;
         self.listings(input)
     }
 
@@ -400,12 +397,6 @@ impl Checker {
                 Some(Refused(1)),
                 of(proved_fullrows::full_rows(image, input, 0, lent)),
                 "{more} segment numbers too many for full rows"
-            );
-            let lent = &mut self.numbers[NUMBER_GUARD..NUMBER_GUARD + 60];
-            same!(
-                Some(Refused(1)),
-                of(proved_fullrows::class_methods(image, input, 0, 0, lent)),
-                "{more} segment numbers too many for the methods of classes"
             );
             same!(
                 [Some(Refused(1)); 2],

@@ -3,7 +3,6 @@
 mod archive;
 mod bench;
 mod check;
-mod class_methods;
 mod cuts;
 mod exhaustive;
 mod flags;

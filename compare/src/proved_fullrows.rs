@@ -1,5 +1,4 @@
-//! The proved side of rows with body and all blocks and of the methods of all classes, the functions of crates/c_full_rows and of
-//! crates/c_class_methods, which write into the caller's buffer of numbers.
+//! The proved side of rows with body and all blocks, the function of crates/c_full_rows, which writes into a lent buffer of numbers.
 
 use crate::input::Input;
 use crate::proved::{Answer, UNWRITTEN, refusal};
@@ -48,24 +47,6 @@ unsafe extern "C" {
     ) -> u64;
 }
 
-#[link(name = "c_class_methods", kind = "static")]
-unsafe extern "C" {
-    fn hodrupec_class_methods(
-        image: *const u8,
-        image_len: usize,
-        segments: *const u64,
-        segment_numbers: usize,
-        types: *const u8,
-        types_len: usize,
-        vmaddr: u64,
-        start: usize,
-        first: u32,
-        buffer: *mut u64,
-        buffer_len: usize,
-        out: &mut [u64; 4],
-    ) -> u64;
-}
-
 /// The records of the rows of the input's types section from a slot on.
 #[inline]
 pub fn full_rows(
@@ -95,53 +76,6 @@ pub fn full_rows(
     }
     let [records, next, all] = out;
     Ok(Given { records, next, all })
-}
-
-/// How many classes were written, the slot and the method to go on from, and 1 if all are given.
-#[derive(Debug, PartialEq)]
-pub struct Classes {
-    pub classes: u64,
-    pub next: u64,
-    pub method: u64,
-    pub all: u64,
-}
-
-/// The methods of the classes of the input's types section from a slot on, for its class from a method on.
-#[inline]
-pub fn class_methods(
-    image: Image<'_>,
-    input: &Input,
-    start: usize,
-    first: u32,
-    buffer: &mut [u64],
-) -> Answer<Classes> {
-    let mut out = [UNWRITTEN; 4];
-    let status = unsafe {
-        hodrupec_class_methods(
-            image.bytes.as_ptr(),
-            image.bytes.len(),
-            image.segments.as_ptr(),
-            image.segments.len(),
-            input.types.as_ptr(),
-            input.types.len(),
-            input.types_va,
-            start,
-            first,
-            buffer.as_mut_ptr(),
-            buffer.len(),
-            &mut out,
-        )
-    };
-    if status != 0 {
-        return Err(refusal(status, &out));
-    }
-    let [classes, next, method, all] = out;
-    Ok(Classes {
-        classes,
-        next,
-        method,
-        all,
-    })
 }
 
 /// The numbers of a record, one after the other.

@@ -1,39 +1,25 @@
--- What the writing of a record and the turns of the loop say about the listing.
-use Prim.Native.Nat.{ℕ, zero, suc, _+_, _-_, _*_, _/_, _%_, _^_, _≤_, _<_, max}
+-- What the writing of a record and the end of the loop say of the listing; what the loop needs, and going on, is in `GivenLaws` of `typedescriptor`.
+use Prim.Native.Nat.{ℕ, _+_, _-_, _*_, _/_, _%_, _^_, _≤_, _<_}
 use native.Mathlib.Nat.{div-add-mod, div-div-eq-div-mul}
 use native.Mathlib.Decide.{decLt}
 use native.Mathlib.Omega.{arith}
 use mathlib.Core.Path.{_≡_, refl, sym, _∙_, ap}
-use mathlib.Core.List.{List, [], _∷_, _++_, append-assoc, append-nil}
+use mathlib.Core.List.{List, [], _∷_, _++_, append-assoc}
 use mathlib.Core.Bool.{Bool, true, false, cond}
-use mathlib.Core.Option.{Option, some, none}
-use lib.ListN.{length, take, drop, length-append, length-drop, take-append-drop}
-use lib.Seq.{take-all, take-length, take-take, drop-drop, take-at, drop-at, take-append-le, length-take-le}
+use lib.ListN.{length, take, drop, length-append, length-drop}
+use lib.Seq.{take-all, take-length, take-take, drop-at, take-append-le, length-take-le}
 use lib.Dec.{ltb}
-use borrow.Author.Tests.{le-leb, lt-leb, lt-ltb, le-ltb}
+use borrow.Author.Tests.{lt-ltb, le-ltb}
 use borrow.Rule.Slice.PartMut.{putMid, midOf, put-same}
 use Rattle.refusal.specs.Refusal.{Guarded, answered, refused, mapped, answerOf}
 use Rattle.util.specs.Buffer.{pasted, atStart, overwritten, putEnd, putInto, Put}
-use Rattle.util.specs.BufferLaws.{put-in, put-fits, put-more, put-length, fits-end, fits-into, past-end, past-into}
+use Rattle.util.specs.BufferLaws.{put-in, put-fits, put-more, fits-end, fits-into, past-end, past-into}
 use Rattle.util.specs.LittleEndian.{littleEndian}
-use Rattle.runtime.specs.Reads.{run}
 use Rattle.typedescriptor.specs.Row.{TypeRow}
-use Rattle.typedescriptor.specs.Slots.{slots, slotRow, Found, found, rowsFrom}
-use Rattle.typedescriptor.specs.SlotsLaws.{rows-out}
+use Rattle.typedescriptor.specs.GivenLaws.{Done}
 use Rattle.qualified_name.specs.Name.{tooDeep, qualifiedName, nameAnswer}
 use Rattle.qualified_name.specs.NameLaws.{name-length}
-use Rattle.c_listing.specs.Listing.{eightBytes, twoNumbers, headBytes, rowBytes, RowListing, recordThen, recordsIn, listingFrom, listingNumbers, listingBytes}
-
--- the records of all these rows
-unfoldable pub records : List ℕ → List ℕ → List Found → List ℕ
-records image segments [] = []
-records image segments (f ∷ fs) = rowBytes image segments (f .slot) (f .row) ++ records image segments fs
-
--- a listing `l` of these rows, with the rows from each slot on: the slot to go on from has the other records after it, and none if the
--- listing says that all are given
-pub record Resumes (image segments : List ℕ) (all : List Found) (l : RowListing) (from : ℕ → List Found) : Type 0 where
-  pub together : records image segments all ≡ l .bytes ++ records image segments (from (l .next))
-  pub done : l .all ≡ 1 → from (l .next) ≡ []
+use Rattle.c_listing.specs.Listing.{eightBytes, twoNumbers, headBytes, rowBytes, listingFrom, listingNumbers, listingBytes}
 
 -- ---- a record
 
@@ -139,72 +125,26 @@ part-long a b = ap length (take-all (length b - a) (drop a b) (simp length-drop 
 
 -- ---- the listing
 
--- some rows are listed, and these are left
-pub record Going (image segments : List ℕ) (past : ℕ) (all : List Found) (b₀ : List ℕ) (left : List Found) (b : List ℕ) (at : ℕ) : Type 0 where
-  pub within : at ≤ length b₀
-  pub long : length b ≡ length b₀
-  pub rest : drop at b ≡ drop at b₀
-  pub goes : recordsIn image segments past all (length b₀) ≡ recordThen (take at b) (recordsIn image segments past left (length b₀ - at))
+-- where a piece ends tells whether it was put
+module _ (b p b′ : List ℕ) (at n : ℕ) (en : n ≡ putEnd b at p) (eb : b′ ≡ putInto b at p) (there : 0 < length p) where
+  pub not-put : n ≡ at → (length b < at + length p) × (b′ ≡ b)
+  not-put z =
+      elim (decLt (length b) (at + length p)) [
+        | yes h ↦ (h, eb ∙ sym (past-into b p at h))
+        | no h ↦ absurd (omega (arith, put-fits b p b′ at n en eb (omega arith) .ends))
+      ]
 
-pub start-going : (image segments : List ℕ) (past : ℕ) (all : List Found) (b : List ℕ) → Going image segments past all b all b 0
-start-going image segments past all b =
-    record { within = omega arith; long = refl; rest = refl; goes = ap (λ (k : ℕ). recordsIn image segments past all k) (omega arith) }
+  pub was-put : (n ≡ at → ⊥) → (at + length p ≤ length b) × Put b at p n b′
+  was-put z =
+      elim (decLt (length b) (at + length p)) [
+        | yes h ↦ absurd (z (en ∙ sym (past-end b p at h)))
+        | no h ↦ (omega arith, put-fits b p b′ at n en eb (omega arith))
+      ]
 
-finish : (l : RowListing) (b₀ b : List ℕ) (at next end : ℕ) → at ≤ length b₀ → length b ≡ length b₀ → drop at b ≡ drop at b₀
-    → l ≡ recordThen (take at b) (record { bytes = []; next = next; all = end }) → (at ∷ (next ∷ (end ∷ [])) ≡ listingNumbers l) × (b ≡ atStart (listingBytes l) b₀)
-finish l b₀ b at next end h long rest e =
-    let len : length (take at b) ≡ at = length-take-le at b (omega arith) in
-    rw (e, append-nil, len) (refl, sym (take-append-drop at b) ∙ ap (λ (x : List ℕ). take at b ++ x) rest)
-
-module _ (image segments : List ℕ) (past : ℕ) (all : List Found) (b₀ b : List ℕ) (at : ℕ) where
-  pub left-as : (left left′ : List Found) → Going image segments past all b₀ left b at → left ≡ left′ → Going image segments past all b₀ left′ b at
-  left-as left left′ g e = rw e at g
-
-  pub ended : (left : List Found) (slot : ℕ) → Going image segments past all b₀ left b at → left ≡ [] → slot ≡ past
-      → (at ∷ (slot ∷ (1 ∷ [])) ≡ listingNumbers (recordsIn image segments past all (length b₀))) × (b ≡ atStart (listingBytes (recordsIn image segments past all (length b₀))) b₀)
-  unfolding recordsIn
-  ended left slot g e es =
-      let w = left-as left [] g e in
-      rw es (finish _ b₀ b at past 1 (w .within) (w .long) (w .rest) (w .goes))
-
-  module _ (f : Found) (fs : List Found) (g : Going image segments past all b₀ (f ∷ fs) b at) (e : ℕ) (b′ : List ℕ)
-      (ee : e ≡ putEnd b at (rowBytes image segments (f .slot) (f .row))) (eb : b′ ≡ putInto b at (rowBytes image segments (f .slot) (f .row))) where
-    pub stops : e ≡ at
-        → (at ∷ (f .slot ∷ (0 ∷ [])) ≡ listingNumbers (recordsIn image segments past all (length b₀))) × (b′ ≡ atStart (listingBytes (recordsIn image segments past all (length b₀))) b₀)
-    unfolding recordsIn
-    stops z =
-        elim (decLt (length b) (at + length (rowBytes image segments (f .slot) (f .row)))) [
-          | yes h ↦
-              let none-fits : recordsIn image segments past (f ∷ fs) (length b₀ - at) ≡ record { bytes = []; next = f .slot; all = 0 } =
-              simp (lt-leb (length (rowBytes image segments (f .slot) (f .row))) (length b₀ - at) (omega (arith, g .long, g .within))) in
-              let same : b′ ≡ b = eb ∙ sym (past-into b _ at h) in
-              rw same (finish _ b₀ b at (f .slot) 0 (g .within) (g .long) (g .rest) (g .goes ∙ ap (recordThen (take at b)) none-fits))
-          | no h ↦ let w = put-fits b _ b′ at e ee eb (omega arith) in absurd (omega (arith, w .ends, z, row-long image segments (f .slot) (f .row)))
-        ]
-
-    pub goes-on : (e ≡ at → ⊥) → Going image segments past all b₀ fs b′ e
-    unfolding recordsIn
-    goes-on z =
-        elim (decLt (length b) (at + length (rowBytes image segments (f .slot) (f .row)))) [
-          | yes h ↦ absurd (z (ee ∙ sym (past-end b _ at h)))
-          | no h ↦
-              let t : List ℕ = rowBytes image segments (f .slot) (f .row) in
-              let w = put-fits b t b′ at e ee eb (omega arith) in
-              let len : length (take at b) ≡ at = length-take-le at b (omega (arith, g .long, g .within)) in
-              let both : length (take at b ++ t) ≡ e = simp length-append (omega (arith, len, w .ends)) in
-              let split : b′ ≡ (take at b ++ t) ++ drop (at + length t) b = w .holds ∙ sym (append-assoc (take at b) t _) in
-              let back : drop e b′ ≡ drop (at + length t) b = ap (drop e) split ∙ drop-at (take at b ++ t) _ e both in
-              let front : take e b′ ≡ take at b ++ t = ap (take e) split ∙ take-at (take at b ++ t) _ e both in
-              let room : length b₀ - at - length t ≡ length b₀ - e = omega (arith, w .ends) in
-              let fits : recordsIn image segments past (f ∷ fs) (length b₀ - at) ≡ recordThen t (recordsIn image segments past fs (length b₀ - e)) =
-              simp (le-leb (length t) (length b₀ - at) (omega (arith, g .long, g .within))) (ap (λ (k : ℕ). recordThen t (recordsIn image segments past fs k)) room) in
-              record {
-                within = omega (arith, w .ends, g .long);
-                long = put-length b t b′ at e w (omega arith) ∙ g .long;
-                rest = back ∙ sym (drop-drop (length t) at b) ∙ ap (drop (length t)) (g .rest) ∙ drop-drop (length t) at b₀ ∙ ap (λ (k : ℕ). drop k b₀) (sym (w .ends));
-                goes = g .goes ∙ ap (recordThen (take at b)) fits ∙ rw (front, append-assoc);
-              }
-        ]
+-- what the end of the loop says
+pub listing-told : (image segments types : List ℕ) (start i₀ at i : ℕ) (e : Bool) (b₀ b : List ℕ) → Done (rowBytes image segments) image segments types start i₀ b₀ at i e b
+    → (at ∷ (i ∷ (cond e 1 0 ∷ [])) ≡ listingNumbers (listingFrom image segments types start i₀ (length b₀))) × (b ≡ atStart (listingBytes (listingFrom image segments types start i₀ (length b₀))) b₀)
+listing-told image segments types start i₀ at i e b₀ b d = (cc (d .wrote, d .next, d .whole), d .holds)
 
 -- ---- the layout
 
@@ -218,37 +158,3 @@ eight-read n h =
     let top : n / 0x100000000000000 % 256 + 256 * 0 ≡ n / 0x100000000000000 = omega arith in
     let rest = digit n 256 _ (digit n 65536 _ (digit n 0x1000000 _ (digit n 0x100000000 _ (digit n 0x10000000000 _ (digit n 0x1000000000000 _ top))))) in
     ap (λ (x : ℕ). n % 256 + 256 * x) rest ∙ omega arith
-
--- ---- going on
-
-resumed-row : (image segments : List ℕ) (past : ℕ) (f : Found) (fs : List Found) (from : ℕ → List Found) (room : ℕ) → from (f .slot) ≡ f ∷ fs
-    → ((k : ℕ) → Resumes image segments fs (recordsIn image segments past fs k) from) → Resumes image segments (f ∷ fs) (recordsIn image segments past (f ∷ fs) room) from
-unfolding recordsIn records
-resumed-row image segments past f fs from room e further =
-    let t : List ℕ = rowBytes image segments (f .slot) (f .row) in
-    elim (decLt room (length t)) [
-      | yes h ↦ rw (lt-leb (length t) room h) (record { together = rw e; done = λ z. absurd (omega arith) })
-      | no h ↦
-          let w = further (room - length t) in
-          rw (le-leb (length t) room (omega arith)) (record { together = rw append-assoc (ap (λ (x : List ℕ). t ++ x) (w .together)); done = w .done })
-    ]
-
-module _ (image segments types : List ℕ) (start past : ℕ) where
-  resumed : (n i m room : ℕ) → m - i ≡ n → m ≤ past
-      → Resumes image segments (rowsFrom image segments types start n i) (recordsIn image segments past (rowsFrom image segments types start n i) room) (λ j. rowsFrom image segments types start (m - j) j)
-  unfolding rowsFrom recordsIn records
-  resumed zero i m room e h = record { together = rw (rows-out image segments types start m past h); done = λ z. rows-out image segments types start m past h }
-  resumed (suc n) i m room e h = go (λ k. resumed n (suc i) m k (omega arith) h) (run image segments (slotRow types start i)) refl
-    where
-      go : ((k : ℕ)
-          → Resumes image segments (rowsFrom image segments types start n (suc i)) (recordsIn image segments past (rowsFrom image segments types start n (suc i)) k) (λ j. rowsFrom image segments types start (m - j) j))
-          → (x : Option TypeRow) → run image segments (slotRow types start i) ≡ x
-          → Resumes image segments (rowsFrom image segments types start (suc n) i) (recordsIn image segments past (rowsFrom image segments types start (suc n) i) room) (λ j. rowsFrom image segments types start (m - j) j)
-      go further none t = rw (rowsFrom, t) (further room)
-      go further (some r) t =
-          rw (rowsFrom, t) (resumed-row image segments past (found i r) (rowsFrom image segments types start n (suc i)) _ room (rw (e, rowsFrom, t)) further)
-
--- going on gives the same records as one call
-pub listing-going-on : (image segments types : List ℕ) (start i room : ℕ)
-    → Resumes image segments (rowsFrom image segments types start (slots types - i) i) (listingFrom image segments types start i room) (λ j. rowsFrom image segments types start (slots types - j) j)
-listing-going-on image segments types start i room = resumed image segments types start (max (slots types) i) (slots types - i) i (slots types) room refl (omega arith)

@@ -13,7 +13,6 @@ pub use iter::BlockIter;
 pub use iter::BlockRead;
 pub use iter::BlockStep;
 pub use iter::block_of_kind;
-pub use iter::block_of_kind_near;
 pub use trailing::KindRead;
 pub use trailing::Trailing;
 pub use trailing::kind_numbered;

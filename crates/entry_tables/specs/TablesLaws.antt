@@ -24,7 +24,7 @@ use Rattle.segment.specs.declared.segment.Around.{Around}
 use Rattle.refusal.specs.Refusal.{Guarded, answered, refused, mapped, answerOf}
 use Rattle.refusal.specs.Guarded.{guarded}
 use Rattle.refusal.specs.GuardedLaws.{ragged, whole}
-use Rattle.runtime.specs.Reads.{bytesPlace, run, andThen}
+use Rattle.runtime.specs.Reads.{bytesPlace, run}
 use Rattle.runtime.specs.CallsLaws.{bytes-at, bytes-past, bytes-nowhere, bytes-within}
 use Rattle.vtable.specs.Entries.{Word, Layout, Entry, entrySize, entryOf, entryAddress, entryAt, Step, entryStep, wordAt, wordsFrom}
 use Rattle.vtable.specs.EntriesLaws.{step-end, step-gives}
@@ -170,27 +170,7 @@ words-long : (ws : List Word) (a o : ℕ) (h : List ℕ) → length (wordsFrom w
 words-long [] a o h = refl
 words-long (w ∷ ws) a o h = ap suc (words-long ws a (o + 4) h)
 
--- how many numbers an entry has
-module _ (image segments : List ℕ) (l : Layout) (base k : ℕ) (x : Entry) where
-  wide-at : (p : Option ℕ) → some x ≡ andThen p (λ o. some (entryOf l (entryAddress l base k) (take (entrySize l) (drop o image)))) → length (entryNumbers x) ≡ width l
-  wide-at none e = let z : _≡_ {A = ℕ} 0 1 = cc in absurd (omega arith)
-  wide-at (some o) e =
-      let f : x ≡ entryOf l (entryAddress l base k) (take (entrySize l) (drop o image)) = cc in
-      rw f (ap suc (words-long (l .words) (entryAddress l base k) 0 (take (entrySize l) (drop o image))))
-
-  pub entry-wide : some x ≡ run image segments (entryAt l base k) → length (entryNumbers x) ≡ width l
-  unfolding entryAt run
-  entry-wide e = go (decLe (2 ^ 64) (entryAddress l base k + (entrySize l - 4)))
-    where
-      go : Dec (2 ^ 64 ≤ entryAddress l base k + (entrySize l - 4)) → length (entryNumbers x) ≡ width l
-      go (yes w) =
-          let f : _≡_ {A = Option Entry} (some x) none = simp (le-leb (2 ^ 64) (entryAddress l base k + (entrySize l - 4)) w) at e in
-          let z : _≡_ {A = ℕ} 0 1 = cc in
-          absurd (omega arith)
-      go (no w) =
-          wide-at (bytesPlace image segments (entryAddress l base k) (entrySize l)) (simp (lt-leb (2 ^ 64) (entryAddress l base k + (entrySize l - 4)) (omega arith)) at e)
-
--- the last word of an entry lies below 2^64, and so does that of an entry further on
+-- the last word of an entry lies below 2^64, also of one that starts so much further on
 pub below-word : (a x more last : ℕ) → a ≡ x % 2 ^ 64 → x + last + (4 + 4 * more - 4) < 2 ^ 64 → a + last + 4 * more < 2 ^ 64
 below-word a x more last e h =
     let f : a ≡ x = e ∙ mod-eq-of-lt (omega arith) in
@@ -444,45 +424,7 @@ module _ (say : Entry → List ℕ) (image segments : List ℕ) (l : Layout) (ba
       go (yes h) = enough n count k f h
       go (no h) = sym (enough count n k (λ z. omega (arith, full-all count k z .1)) (omega arith))
 
-  -- how many numbers the entries have
-  module _ (each : ℕ) (wide : (k : ℕ) (x : Entry) → some x ≡ run image segments (entryAt l base k) → length (say x) ≡ each) where
-    pub record Sized (n k : ℕ) : Type 0 where
-      pub long : length (left n k .numbers) ≡ each * left n k .entries
-      pub few : left n k .entries ≤ n
-
-    none-sized : (n k s : ℕ) → left n k ≡ emptyTable s → Sized n k
-    none-sized n k s e =
-        record {
-          long = ap (λ (r : WholeTable). length (r .numbers)) e ∙ sym (mul-zero each) ∙ ap (λ (r : WholeTable). each * r .entries) (sym e);
-          few = omega (arith, ap (λ (r : WholeTable). r .entries) e);
-        }
-
-    pub sized : (n k : ℕ) → Sized n k
-    sized zero k = go (decLt k count)
-      where
-        go : Dec (k < count) → Sized 0 k
-        go (yes h) = none-sized 0 k 1 (from-full k h)
-        go (no h) = none-sized 0 k 0 (from-end 0 k (omega arith))
-    sized (suc n) k = go (sized n (k + 1)) (decLt k count)
-      where
-        found : Sized n (k + 1) → k < count → (y : Option Entry) → y ≡ run image segments (entryAt l base k) → Sized (suc n) k
-        found ih h none f = none-sized (suc n) k 2 (from-none n k h f)
-        found ih h (some x) f =
-            let e = from-some n k x h f in
-            let rest : ℕ = left n (k + 1) .entries in
-            let more : left (suc n) k .entries ≡ suc rest = ap (λ (r : WholeTable). r .entries) e in
-            record {
-              long =
-                  ap (λ (r : WholeTable). length (r .numbers)) e ∙ length-append (say x) (left n (k + 1) .numbers)
-                  ∙ omega (arith, wide k x f, ih .long, mul-suc each rest) ∙ ap (λ (j : ℕ). each * j) (sym more);
-              few = omega (arith, ih .few, more);
-            }
-
-        go : Sized n (k + 1) → Dec (k < count) → Sized (suc n) k
-        go ih (yes h) = found ih h (run image segments (entryAt l base k)) refl
-        go ih (no h) = none-sized (suc n) k 0 (from-end (suc n) k (omega arith))
-
-  -- how many numbers each entry has
+  -- so many of each
   module _ (each : ℕ) (b₀ : List ℕ) (k₀ : ℕ) where
     abbrev most : ℕ
     most = length b₀ / each

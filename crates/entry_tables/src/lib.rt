@@ -12,8 +12,6 @@ pub use calls::methods;
 pub use calls::overrides;
 pub use calls::prespecializations;
 pub use list::ENDED;
-pub use list::FULL;
 pub use list::Listed;
 pub use list::UNREADABLE;
-pub use list::list_entries;
 pub use list::stopped;

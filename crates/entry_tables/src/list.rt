@@ -13,7 +13,7 @@ use vtable::EntryIter;
 // Why there are no more entries.
 pub const ENDED: u64 = 0;
 
-pub const FULL: u64 = 1;
+const FULL: u64 = 1;
 
 pub const UNREADABLE: u64 = 2;
 

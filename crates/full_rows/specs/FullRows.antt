@@ -1,10 +1,9 @@
--- The rows of a types section with body and all trailing blocks, as records of a fixed number of numbers in the caller's list:
--- docs/SPECIFICATION.md, "Full rows".
-use Prim.Native.Nat.{ℕ, _-_, _/_, max}
+-- The rows of a types section with body and all trailing blocks, as records of a fixed count of numbers in the caller's list: docs/SPECIFICATION.md, "Full rows".
+use Prim.Native.Nat.{ℕ, _/_}
 use mathlib.Core.List.{List, [], _∷_, _++_, map}
-use mathlib.Core.Bool.{Bool, true, false, cond}
+use mathlib.Core.Bool.{cond}
 use mathlib.Core.Option.{Option, some, none}
-use lib.ListN.{length, take, drop}
+use lib.ListN.{length}
 use lib.Dec.{eqb}
 use Rattle.refusal.specs.Refusal.{Guarded, answered, refused, refusalNumber}
 use Rattle.runtime.specs.Reads.{run}
@@ -13,7 +12,7 @@ use Rattle.classtrailers.specs.declared.block.Block.{Block}
 use Rattle.classtrailers.specs.declared.block.BlockBody.{BlockBody}
 use Rattle.classtrailers.specs.declared.block.BlockKind.{BlockKind}
 use Rattle.typedescriptor.specs.Row.{TypeRow}
-use Rattle.typedescriptor.specs.Slots.{slots, Found, rowsFrom}
+use Rattle.typedescriptor.specs.Given.{RowsGiven, rowsGiven}
 use Rattle.type_body.specs.Body.{Body, ofClass, ofStruct, ofEnum, fixed, resilient, body}
 use Rattle.type_body.specs.Items.{Start, trailers}
 use Rattle.steps.specs.Blocks.{kindFrom}
@@ -72,49 +71,17 @@ fullRow image segments slot r =
 
 -- ---- the records
 
--- the records of these rows, one after the other
-abbrev pub fullRows : List ℕ → List ℕ → List Found → List ℕ
-fullRows image segments [] = []
-fullRows image segments (f ∷ fs) = fullRow image segments (f .slot) (f .row) ++ fullRows image segments fs
+-- the rows of a section from slot `i` on, as a caller's list of `n` numbers holds them
+abbrev pub fullRowsIn : List ℕ → List ℕ → List ℕ → ℕ → ℕ → ℕ → RowsGiven
+fullRowsIn image segments types start i n = rowsGiven (fullRow image segments) image segments types start i n
 
--- the numbers of the records, how many records there are, the slot to go on from, and whether all rows are given
-pub record RecordsListed : Type 0 where
-  pub numbers : List ℕ
-  pub records : ℕ
-  pub next : ℕ
-  pub all : Bool
+-- ---- the call's answer: the counts, a record having 58 numbers; the other numbers are in the caller's list
 
--- the slot of the first row that is left; `past` if none is
-abbrev pub nextSlot : ℕ → List Found → ℕ
-nextSlot past [] = past
-nextSlot past (f ∷ fs) = f .slot
+abbrev pub givenOf : RowsGiven → Given
+givenOf l = record { records = length (l .written) / 58; next = l .next; all = l .all }
 
-abbrev pub noneLeft : List Found → Bool
-noneLeft [] = true
-noneLeft (f ∷ fs) = false
-
--- at most a given number of these rows
-unfoldable pub recordsListed : List ℕ → List ℕ → ℕ → ℕ → List Found → RecordsListed
-recordsListed image segments past room fs =
-    record {
-      numbers = fullRows image segments (take room fs);
-      records = length (take room fs);
-      next = nextSlot past (drop room fs);
-      all = noneLeft (drop room fs);
-    }
-
--- the rows of a section from slot `i` on, as a caller's list of `n` numbers holds them: a record has 58
-abbrev pub fullRowsIn : List ℕ → List ℕ → List ℕ → ℕ → ℕ → ℕ → RecordsListed
-fullRowsIn image segments types start i n =
-    recordsListed image segments (max (slots types) i) (n / 58) (rowsFrom image segments types start (slots types - i) i)
-
--- ---- the call's answer: the counts; the other numbers are in the caller's list
-
-abbrev pub givenOf : RecordsListed → Given
-givenOf l = record { records = l .records; next = l .next; all = l .all }
-
-abbrev pub numbersOf : RecordsListed → List ℕ
-numbersOf l = l .numbers
+abbrev pub numbersOf : RowsGiven → List ℕ
+numbersOf l = l .written
 
 abbrev pub fullRowsAnswer : FullRows → Guarded Given
 fullRowsAnswer (FullRows.Given g) = answered g

@@ -1,3 +1,5 @@
 pub mod FullRows
 pub mod FullRowsLaws
 pub mod BlocksLaws
+pub mod ItemsLaws
+pub mod OakRows

@@ -1,40 +1,37 @@
--- `c_listing::put_rows` meets its contract. The invariant: what is listed so far, and then the rows that are left, is the listing; the mapping is
--- true.
+-- `c_listing::put_rows` meets its contract. The invariant: the records of the rows before `slot` are written, and the mapping is true.
 -- Assumes nothing.
 use native.Mathlib.Omega.{arith}
-use Prim.Native.Nat.{_-_, _≤_, max}
-use mathlib.Core.Path.{_≡_, refl, _∙_}
-use Rattle.util.specs.AnswersLaws.{told}
-use Rattle.segment.specs.Mapping.{TrueMapping}
+use Prim.Native.Nat.{_-_}
+use mathlib.Core.Path.{refl, _∙_}
 use Rattle.segment.specs.MappingLaws.{empty-mapped}
-use Rattle.typedescriptor.specs.Row.{descriptorOf}
-use Rattle.typedescriptor.specs.Slots.{slots, rowsFrom}
-use Rattle.typedescriptor.specs.SlotsLaws.{slot-left, slot-without, rows-out}
-use Rattle.c_listing.specs.ListingLaws.{Going, start-going, left-as, ended, stops, goes-on}
+use Rattle.typedescriptor.specs.Row.{rowOf}
+use Rattle.typedescriptor.specs.GivenLaws.{Going, start-going, ended, passes, full, goes-on}
+use Rattle.c_listing.specs.Listing.{rowBytes}
+use Rattle.c_listing.specs.ListingLaws.{row-long, not-put, was-put, listing-told}
 use borrow.Author.Needs.{needs}
 use Rattle.c_listing.proofs.put_rows.Statement.{statement}
 use Rattle.c_listing.proofs.put_rows.Tie as tie
 
 abbrev Inv-loop : tie.InvT-loop
 Inv-loop image segments types vmaddr start buffer₀ count mapping₀ slot₀ at₀ buffer mapping slot at =
-    TrueMapping segments mapping
-    × ((count ≡ slots types)
-    × ((start ≤ slot)
-    × ((slot ≤ max (slots types) start)
-    × Going image segments (max (slots types) start) (rowsFrom image segments types vmaddr (slots types - start) start) buffer₀ (rowsFrom image segments types vmaddr (slots types - slot) slot) buffer at)))
+    Going (rowBytes image segments) image segments types vmaddr start buffer₀ slot at mapping buffer
 
 abbrev μ-loop : tie.MeasureT-loop
 μ-loop image segments types vmaddr start buffer₀ count mapping₀ slot₀ at₀ buffer mapping slot at = count - slot
 
 loop-holds : tie.Need-loop-holds Inv-loop μ-loop
-loop-holds c = (empty-mapped _ _ (c .empty .ensures), (refl, (omega arith, (omega arith, start-going _ _ _ _ _))))
+loop-holds c = start-going _ _ _ _ _ _ _ _ (empty-mapped _ _ (c .empty .ensures))
 
 returns : tie.Need-returns Inv-loop μ-loop
 returns c =
-    let p = c .before .before .before .before .before .before .before .before .before .before .before .loop .inv in
-    let row = told (descriptorOf _) (c .before .before .before .before .before .before .before .before .before .slot-row-moving .ensures .row (p .0)) (c .before .before .before .before .before .before .found .given .1) in
-    let left = left-as _ _ _ _ _ _ _ _ _ (p .1 .1 .1 .1) (slot-left _ _ _ _ _ _ row (omega (arith, p .1 .0, c .before .before .before .before .before .before .before .before .before .before .loop-test .taken))) in
-    stops _ _ _ _ _ _ _ _ _ left _ _ (c .before .before .before .put-record .ensures .0) (c .before .before .before .put-record .ensures .1) (c .if1 .taken)
+    let a = c .before .before .before .before .before .before .before .before .before .before .before .before .before .before .before .before .before .args in
+    let l = c .before .before .before .before .before .before .before .before .before .before .before .loop in
+    let found = c .before .before .before .before .before .before .found .given in
+    let long = row-long (a .image .now) (a .segments .now) (l .slot) (rowOf (a .image .now) (found .0 .0)) in
+    let put = c .before .before .before .put-record .ensures in
+    let kept = not-put _ _ _ _ _ (put .0) (put .1) (omega (arith, long)) (c .if1 .taken) in
+    let told = listing-told _ _ _ _ _ _ _ _ _ _ (full _ _ _ _ _ _ _ _ _ _ _ (l .inv) (c .before .before .before .before .before .before .before .before .before .before .loop-test .taken) _ _ (c .before .before .before .before .before .before .before .before .before .slot-row-moving .ensures) _ (found .1) (kept .0)) in
+    (told .0, kept .1 ∙ told .1)
 
 add-slot : tie.Need-add-slot Inv-loop μ-loop
 add-slot c =
@@ -43,21 +40,19 @@ add-slot c =
 
 loop-again : tie.Need-loop-again Inv-loop μ-loop
 loop-again c =
-    let p = c .before .before .before .before .before .before .before .before .before .before .before .loop .inv in
-    let row = told (descriptorOf _) (c .before .before .before .before .before .before .before .before .before .slot-row-moving .ensures .row (p .0)) (c .before .before .before .before .before .before .found .given .1) in
-    let left = left-as _ _ _ _ _ _ _ _ _ (p .1 .1 .1 .1) (slot-left _ _ _ _ _ _ row (omega (arith, p .1 .0, c .before .before .before .before .before .before .before .before .before .before .loop-test .taken))) in
-    (c .before .before .before .before .before .before .before .before .before .slot-row-moving .ensures .mapped (p .0), (p .1 .0, (omega (arith, p .1 .1 .0), (omega (arith, p .1 .0, c .before .before .before .before .before .before .before .before .before .before .loop-test .taken), goes-on _ _ _ _ _ _ _ _ _ left _ _ (c .before .before .before .put-record .ensures .0) (c .before .before .before .put-record .ensures .1) (c .if1 .left)))))
+    let a = c .before .before .before .before .before .before .before .before .before .before .before .before .before .before .before .before .before .args in
+    let l = c .before .before .before .before .before .before .before .before .before .before .before .loop in
+    let found = c .before .before .before .before .before .before .found .given in
+    let long = row-long (a .image .now) (a .segments .now) (l .slot) (rowOf (a .image .now) (found .0 .0)) in
+    let put = c .before .before .before .put-record .ensures in
+    let was = was-put _ _ _ _ _ (put .0) (put .1) (omega (arith, long)) (c .if1 .left) in
+    goes-on _ _ _ _ _ _ _ _ _ _ _ (l .inv) (c .before .before .before .before .before .before .before .before .before .before .loop-test .taken) _ _ (c .before .before .before .before .before .before .before .before .before .slot-row-moving .ensures) _ (found .1) _ _ _ refl (was .1 .ends) (omega (arith, was .0, was .1 .ends)) (was .1 .holds)
 
 loop-again-2 : tie.Need-loop-again-2 Inv-loop μ-loop
-loop-again-2 c =
-    let p = c .before .before .before .before .before .loop .inv in
-    let none-here = told (descriptorOf _) (c .before .before .before .slot-row-moving .ensures .row (p .0)) (c .enum-told .given .1) in
-    (c .before .before .before .slot-row-moving .ensures .mapped (p .0), (p .1 .0, (omega (arith, p .1 .1 .0), (omega (arith, p .1 .0, c .before .before .before .before .loop-test .taken), left-as _ _ _ _ _ _ _ _ _ (p .1 .1 .1 .1) (slot-without _ _ _ _ _ none-here (omega (arith, p .1 .0, c .before .before .before .before .loop-test .taken)))))))
+loop-again-2 c = passes _ _ _ _ _ _ _ _ _ _ _ (c .before .before .before .before .before .loop .inv) (c .before .before .before .before .loop-test .taken) _ _ (c .before .before .before .slot-row-moving .ensures) (c .enum-told .given .1)
 
 returns-2 : tie.Need-returns-2 Inv-loop μ-loop
-returns-2 c =
-    let p = c .before .loop .inv in
-    ended _ _ _ _ _ _ _ _ _ (p .1 .1 .1 .1) (rows-out _ _ _ _ _ _ (omega (arith, p .1 .0, c .loop-test .left))) (omega (arith, p .1 .0, p .1 .1 .0, p .1 .1 .1 .0, c .loop-test .left))
+returns-2 c = listing-told _ _ _ _ _ _ _ _ _ _ (ended _ _ _ _ _ _ _ _ _ _ _ (c .before .loop .inv) (omega (arith, c .loop-test .left)))
 
 pub put-rows-spec : {M : Type 1} → statement M
 put-rows-spec =

@@ -2,40 +2,39 @@
 -- Assumes nothing.
 use native.Mathlib.Omega.{arith}
 use Prim.Native.Nat.{_-_, _*_}
-use Rattle.util.specs.AnswersLaws.{told}
-use Rattle.segment.specs.Mapping.{TrueMapping}
 use Rattle.segment.specs.MappingLaws.{empty-mapped}
-use Rattle.typedescriptor.specs.Row.{rowOf, descriptorOf}
-use Rattle.entry_tables.specs.PastedLaws.{pasted-as}
-use Rattle.full_rows.specs.FullRowsLaws.{Going, start-going, fits, ended, passes, full, goes-on, row-mapped}
+use Rattle.typedescriptor.specs.Row.{rowOf}
+use Rattle.typedescriptor.specs.GivenLaws.{Going, start-going, ended, passes, full, goes-on}
+use Rattle.full_rows.specs.FullRows.{fullRow}
+use Rattle.full_rows.specs.FullRowsLaws.{full-row-long, row-mapped, records-told}
 use borrow.Author.Needs.{needs}
 use Rattle.full_rows.proofs.rows.put_rows.Statement.{statement}
 use Rattle.full_rows.proofs.rows.put_rows.Tie as tie
 
 abbrev Inv-loop : tie.InvT-loop
 Inv-loop image segments types vmaddr start buffer₀ count room mapping₀ slot₀ n₀ buffer mapping slot n =
-    TrueMapping segments mapping × Going image segments types vmaddr start buffer₀ slot n buffer
+    Going (fullRow image segments) image segments types vmaddr start buffer₀ slot (58 * n) mapping buffer
 
 abbrev μ-loop : tie.MeasureT-loop
 μ-loop image segments types vmaddr start buffer₀ count room mapping₀ slot₀ n₀ buffer mapping slot n = count - slot
 
 loop-holds : tie.Need-loop-holds Inv-loop μ-loop
-loop-holds c = (empty-mapped _ _ (c .empty .ensures), start-going _ _ _ _ _ _)
+loop-holds c = start-going _ _ _ _ _ _ _ _ (empty-mapped _ _ (c .empty .ensures))
 
 returns : tie.Need-returns Inv-loop μ-loop
 returns c =
-    let p = c .before .before .before .before .before .before .before .loop .inv in
-    full _ _ _ _ _ _ _ _ _ (p .1) (c .before .before .before .before .before .before .loop-test .taken) _ (told (descriptorOf _) (c .before .before .before .before .before .slot-row-moving .ensures .row (p .0)) (c .before .before .found .given .1)) (c .if1 .taken)
+    let a = c .before .before .before .before .before .before .before .before .before .before .before .before .before .args in
+    let l = c .before .before .before .before .before .before .before .loop in
+    let long = full-row-long (a .image .now) (a .segments .now) (l .slot) (rowOf (a .image .now) (c .before .before .found .given .0 .0)) in
+    records-told _ _ _ _ _ _ _ _ _ _ (full _ _ _ _ _ _ _ _ _ _ _ (l .inv) (c .before .before .before .before .before .before .loop-test .taken) _ _ (c .before .before .before .before .before .slot-row-moving .ensures) _ (c .before .before .found .given .1) (omega (arith, long, l .inv .long, c .if1 .taken)))
 
 mul-put-record : tie.Need-mul-put-record Inv-loop μ-loop
 mul-put-record c =
     let s = c .before .before .before .before .before .before .before .before .before .before .before .before .before .before in
-    record { fits = omega (arith, s .good .1 .1 .1 .1 .1 .0 .0, fits (s .args .image .now) (s .args .segments .now) (s .args .types .now) (s .args .vmaddr) (s .args .start) (s .args .buffer .now) (c .before .before .before .before .before .before .before .before .loop .n) (omega (arith, c .before .if1 .left))) }
+    record { fits = omega (arith, s .good .1 .1 .1 .1 .1 .0 .0, c .before .if1 .left) }
 
 put-record-requires : tie.Need-put-record-requires Inv-loop μ-loop
-put-record-requires c κs =
-    let s = c .before .before .before .before .before .before .before .before .before .before .before .before .before .before in
-    omega (arith, c .before .before .before .before .before .before .before .before .loop .inv .1 .long, fits (s .args .image .now) (s .args .segments .now) (s .args .types .now) (s .args .vmaddr) (s .args .start) (s .args .buffer .now) (c .before .before .before .before .before .before .before .before .loop .n) (omega (arith, c .before .if1 .left)))
+put-record-requires c κs = omega (arith, c .before .before .before .before .before .before .before .before .loop .inv .long, c .before .if1 .left)
 
 add-n : tie.Need-add-n Inv-loop μ-loop
 add-n c =
@@ -51,19 +50,16 @@ loop-again : tie.Need-loop-again Inv-loop μ-loop
 loop-again c =
     let a = c .before .before .before .before .before .before .before .before .before .before .before .before .before .before .before .before .before .args in
     let l = c .before .before .before .before .before .before .before .before .before .before .before .loop in
-    let step = c .before .before .before .before .before .before .before .before .before .slot-row-moving in
-    let mapped = step .ensures .mapped (l .inv .0) in
-    let written = pasted-as (l .buffer) _ _ _ (58 * l .n) (c .before .before .put-record .ensures) (row-mapped (a .image .now) (a .segments .now) _ mapped (l .slot) (rowOf (a .image .now) (c .before .before .before .before .before .before .found .given .0 .0))) in
-    (mapped, goes-on _ _ _ _ _ _ _ _ _ (l .inv .1) (c .before .before .before .before .before .before .before .before .before .before .loop-test .taken) _ (told (descriptorOf _) (step .ensures .row (l .inv .0)) (c .before .before .before .before .before .before .found .given .1)) _ (omega (arith, c .before .before .before .before .if1 .left)) written)
+    let step = c .before .before .before .before .before .before .before .before .before .slot-row-moving .ensures in
+    let row = rowOf (a .image .now) (c .before .before .before .before .before .before .found .given .0 .0) in
+    let long = full-row-long (a .image .now) (a .segments .now) (l .slot) row in
+    goes-on _ _ _ _ _ _ _ _ _ _ _ (l .inv) (c .before .before .before .before .before .before .before .before .before .before .loop-test .taken) _ _ step _ (c .before .before .before .before .before .before .found .given .1) _ _ _ (row-mapped (a .image .now) (a .segments .now) _ (step .mapped (l .inv .mapped)) (l .slot) row) (omega (arith, long)) (omega (arith, l .inv .long, c .before .before .before .before .if1 .left)) (c .before .before .put-record .ensures)
 
 loop-again-2 : tie.Need-loop-again-2 Inv-loop μ-loop
-loop-again-2 c =
-    let p = c .before .before .before .before .before .loop .inv in
-    let step = c .before .before .before .slot-row-moving in
-    (step .ensures .mapped (p .0), passes _ _ _ _ _ _ _ _ _ (p .1) (c .before .before .before .before .loop-test .taken) (told (descriptorOf _) (step .ensures .row (p .0)) (c .enum-told .given .1)))
+loop-again-2 c = passes _ _ _ _ _ _ _ _ _ _ _ (c .before .before .before .before .before .loop .inv) (c .before .before .before .before .loop-test .taken) _ _ (c .before .before .before .slot-row-moving .ensures) (c .enum-told .given .1)
 
 returns-2 : tie.Need-returns-2 Inv-loop μ-loop
-returns-2 c = ended _ _ _ _ _ _ _ _ _ (c .before .loop .inv .1) (omega (arith, c .loop-test .left))
+returns-2 c = records-told _ _ _ _ _ _ _ _ _ _ (ended _ _ _ _ _ _ _ _ _ _ _ (c .before .loop .inv) (omega (arith, c .loop-test .left)))
 
 pub put-rows-spec : {M : Type 1} → statement M
 put-rows-spec =

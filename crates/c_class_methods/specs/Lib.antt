@@ -1,2 +1,0 @@
-pub mod ClassMethods
-pub mod ClassMethodsLaws
