@@ -33,9 +33,7 @@ use Rattle.items.specs.ClearLaws.{nowhere, there, asked}
 use Rattle.items.specs.PremiseLaws.{no-slot-name}
 use Rattle.items.specs.TextsLaws.{no-item}
 use Rattle.items.specs.ListedLaws.{no-slot, no-row, no-record}
-
-abbrev word : ℕ → List ℕ
-word n = n ∷ 0 ∷ 0 ∷ 0 ∷ []
+use Rattle.items.specs.Worked.{word, laid, oneSlot, toldBy}
 
 -- each line from the offset that it names
 abbrev pub elderImage : List ℕ
@@ -49,16 +47,14 @@ elderImage =
     -- 48: `Su` and a NUL
     ++ (letters "Su" ++ 0 ∷ []))))))))))))
 
--- laid at 0x1000
 abbrev pub elderSegments : List ℕ
-elderSegments = 0x1000 ∷ 51 ∷ 0 ∷ 51 ∷ []
+elderSegments = laid 51
 
--- types at 0x2000: one slot, whose offset is 0x1004 - 0x2000; no fields
 abbrev pub elderSections : Sections
-elderSections = record { types = 0x04 ∷ 0xf0 ∷ 0xff ∷ 0xff ∷ []; typesStart = 0x2000; fields = []; fieldsStart = 0 }
+elderSections = oneSlot 4
 
 abbrev told : List ℕ → Option Answer
-told i = run i elderSegments (item elderSections (Key.body 0))
+told i = toldBy i elderSegments elderSections (Key.body 0)
 
 -- the superclass's name, with no string section
 abbrev superclass : List ℕ → Option Beside
