@@ -25,7 +25,7 @@ use Rattle.field_offsets.specs.Offsets.{vector, fieldOffsets, slotOffsets}
 use Rattle.vtable.specs.Entries.{entryAt, upTo, entry}
 use Rattle.items.specs.Keys.{Sections, EntryKind, Key, Answer}
 use Rattle.items.specs.Items.{mapReads, entryOfSlot, item}
-use Rattle.items.specs.Worked.{Table, word, laid, oneSlot, bytesTo, textTo, readBy, toldBy, cutTo}
+use Rattle.items.specs.Worked.{Table, word, laid, oneSlot, bytesTo, rowReads, readBy, toldBy, cutTo}
 
 -- 124 bytes, each line from the offset that it names
 abbrev image : List ℕ
@@ -54,9 +54,9 @@ sections = oneSlot 4
 abbrev told : Key → Option Answer
 told = toldBy image segments sections
 
--- the descriptor's 20 bytes, the name with its NUL, the body's 24, and the generic header's 16, which every other block here reads first; then those of the prespecializations'
+-- the row's, the body's 24 bytes, and the generic header's 16, which every other block here reads first; then those of the prespecializations'
 abbrev genericReads : List Range
-genericReads = bytesTo 4 24 ∷ textTo 0 4 ∷ bytesTo 24 48 ∷ bytesTo 48 64 ∷ []
+genericReads = rowReads ++ (bytesTo 24 48 ∷ bytesTo 48 64 ∷ [])
 
 abbrev prespecializedReads : List Range
 prespecializedReads = genericReads ++ (bytesTo 80 84 ∷ [])

@@ -53,9 +53,6 @@ elderSegments = laid 51
 abbrev pub elderSections : Sections
 elderSections = oneSlot 4
 
-abbrev told : List ℕ → Option Answer
-told i = toldBy i elderSegments elderSections (Key.body 0)
-
 -- the superclass's name, with no string section
 abbrev superclass : List ℕ → Option Beside
 superclass i = besideOf i elderSegments [] 0 elderSections (NameKey.superclass 0)
@@ -65,14 +62,14 @@ abbrev named : List ℕ → ℕ → Option Beside
 named t n = some (record { place = inImage (place 48 n); bytes = t })
 
 pub record ElderWorked : Type 0 where
-  pub whole-body : told elderImage ≡ some (Answer.body (ofClass 0x1030 (fixed 0 0) 0 0 0))
+  pub whole-body : toldBy elderImage elderSegments elderSections (Key.body 0) ≡ some (Answer.body (ofClass 0x1030 (fixed 0 0) 0 0 0))
   pub whole-name : superclass elderImage ≡ named (letters "Su") 2
   -- the cut to 49 falls into no name of a descriptor, a context or a field record
   pub descriptors : (i : ℕ) → ClearOf elderImage elderSegments elderSections 49 (NameKey.descriptor i)
   pub contexts : (i k : ℕ) → ClearOf elderImage elderSegments elderSections 49 (NameKey.context i k)
   pub fields : (j k : ℕ) → ClearOf elderImage elderSegments elderSections 49 (NameKey.field j k)
   -- the body is there, and a piece of the superclass's name, which the whole image does not tell
-  pub cut-body : told (take 49 elderImage) ≡ told elderImage
+  pub cut-body : toldBy (take 49 elderImage) elderSegments elderSections (Key.body 0) ≡ toldBy elderImage elderSegments elderSections (Key.body 0)
   pub cut-name : superclass (take 49 elderImage) ≡ named (83 ∷ []) 1
   -- the premise for the name itself leaves out the cuts from 48 to 50, and no other
   pub below : (c : ℕ) → c < 48 → ClearOf elderImage elderSegments elderSections c (NameKey.superclass 0)

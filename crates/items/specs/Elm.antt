@@ -32,7 +32,7 @@ use Rattle.parent.specs.Context.{headerIn, header}
 use Rattle.parent.specs.Chain.{headerAt}
 use Rattle.items.specs.Keys.{Sections, Key, Answer}
 use Rattle.items.specs.Items.{mapReads, contextOfSlot, item}
-use Rattle.items.specs.Worked.{Table, word, laid, oneSlot, bytesTo, textTo, readBy, toldBy, cutTo}
+use Rattle.items.specs.Worked.{Table, word, laid, oneSlot, bytesTo, rowReads, readBy, toldBy, cutTo}
 
 -- the fields section is a part of the image: 48 bytes from 72 on
 abbrev fieldBytes : List ℕ
@@ -78,10 +78,7 @@ elmSections = record { types = oneSlot 4 .types; typesStart = 0x2000; fields = f
 abbrev told : Key → Option Answer
 told = toldBy elmImage elmSegments elmSections
 
--- the descriptor's 20 bytes, and the name with its NUL; then the body's 8
-abbrev rowReads : List Range
-rowReads = bytesTo 4 24 ∷ textTo 0 4 ∷ []
-
+-- the row's, and the body's 8 bytes
 abbrev bodyReads : List Range
 bodyReads = rowReads ++ (bytesTo 24 32 ∷ [])
 

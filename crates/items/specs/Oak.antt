@@ -27,7 +27,7 @@ use Rattle.parent.specs.Chain.{headerAt}
 use Rattle.items.specs.Keys.{Sections, EntryKind, Key, Answer}
 use Rattle.items.specs.Items.{mapReads, entryOfSlot, contextOfSlot, item}
 use Rattle.items.specs.CutLaws.{Claim}
-use Rattle.items.specs.Worked.{Table, word, laid, oneSlot, bytesTo, textTo, readBy, toldBy, cutTo}
+use Rattle.items.specs.Worked.{Table, word, laid, oneSlot, bytesTo, rowReads, readBy, toldBy, cutTo}
 
 -- 113 bytes, each line from the offset that it names
 abbrev pub oakImage : List ℕ
@@ -58,10 +58,7 @@ oakSections = oneSlot 4
 abbrev told : Key → Option Answer
 told = toldBy oakImage oakSegments oakSections
 
--- the descriptor's 20 bytes, and the name with its NUL; then the body's 24
-abbrev rowReads : List Range
-rowReads = bytesTo 4 24 ∷ textTo 0 4 ∷ []
-
+-- the row's, and the body's 24 bytes
 abbrev bodyReads : List Range
 bodyReads = rowReads ++ (bytesTo 24 48 ∷ [])
 

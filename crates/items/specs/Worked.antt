@@ -32,6 +32,10 @@ bytesTo o e = record { from = o; to = e; isText = false }
 abbrev pub textTo : ℕ → ℕ → Range
 textTo o e = record { from = o; to = e; isText = true }
 
+-- of a row at offset 4: its descriptor's 20 bytes, and a name of three letters with its NUL at offset 0
+abbrev pub rowReads : List Range
+rowReads = bytesTo 4 24 ∷ textTo 0 4 ∷ []
+
 -- what an item reads, and what it says, also in the first c bytes
 abbrev pub readBy : List ℕ → List ℕ → Sections → Key → List Range
 readBy image segments s k = path image segments (item s k)
