@@ -9,7 +9,7 @@ use Rattle.runtime.specs.Reads.{Range, run, path}
 use Rattle.items.specs.Keys.{Sections, Key, Answer}
 use Rattle.items.specs.Items.{item}
 
--- each row of the table is something and what f makes of it
+-- in each row the second is what f gives for the first: one computation over the whole table
 abbrev pub Table : {A B : Type 0} → (A → B) → List (A × B) → Type 0
 Table f rows = map (λ r. f (r .0)) rows ≡ map (λ r. r .1) rows
 
@@ -17,7 +17,7 @@ Table f rows = map (λ r. f (r .0)) rows ≡ map (λ r. r .1) rows
 abbrev pub word : ℕ → List ℕ
 word n = n ∷ 0 ∷ 0 ∷ 0 ∷ []
 
--- n bytes of the file at 0x1000
+-- a file of n bytes, laid at 0x1000
 abbrev pub laid : ℕ → List ℕ
 laid n = 0x1000 ∷ n ∷ 0 ∷ n ∷ []
 
