@@ -11,7 +11,6 @@ use crate::bodies::ANSWERED;
 use crate::bodies::THERE;
 use refusal::Refusal;
 use steps::NextEntry;
-use vtable::EntryIter;
 use vtable::EntryKind;
 use vtable::EntryStep;
 
@@ -70,11 +69,7 @@ pub extern "C" fn hodrupec_next_method(
 ) -> u64
     ensures { λ r. ⌜ Tells (mapped (entryStepNumbers 2) (guarded (now (segments .entry)) (answered (stepAnswer (entryStep (now (image .entry)) (now (segments .entry)) method (cursorAt «base_va» count next)))))) (now (out .entry)) r (now (out .exit)) ⌝ }
 {
-    let cursor = EntryIter {
-        base_va,
-        count,
-        next,
-    };
+    let cursor = c_tables::cursor_at(base_va, count, next);
     match steps::next_method(image, segments, cursor) {
         NextEntry::Step(step) => {
             let n = step_numbers(step);
@@ -97,11 +92,7 @@ pub extern "C" fn hodrupec_next_override(
 ) -> u64
     ensures { λ r. ⌜ Tells (mapped (entryStepNumbers 3) (guarded (now (segments .entry)) (answered (stepAnswer (entryStep (now (image .entry)) (now (segments .entry)) override (cursorAt «base_va» count next)))))) (now (out .entry)) r (now (out .exit)) ⌝ }
 {
-    let cursor = EntryIter {
-        base_va,
-        count,
-        next,
-    };
+    let cursor = c_tables::cursor_at(base_va, count, next);
     if segments.len() % 4 != 0 {
         return refusal::number(Refusal::RaggedSegments);
     }
@@ -122,11 +113,7 @@ pub extern "C" fn hodrupec_next_default_override(
 ) -> u64
     ensures { λ r. ⌜ Tells (mapped (entryStepNumbers 2) (guarded (now (segments .entry)) (answered (stepAnswer (entryStep (now (image .entry)) (now (segments .entry)) defaultOverride (cursorAt «base_va» count next)))))) (now (out .entry)) r (now (out .exit)) ⌝ }
 {
-    let cursor = EntryIter {
-        base_va,
-        count,
-        next,
-    };
+    let cursor = c_tables::cursor_at(base_va, count, next);
     if segments.len() % 4 != 0 {
         return refusal::number(Refusal::RaggedSegments);
     }
@@ -147,11 +134,7 @@ pub extern "C" fn hodrupec_next_prespecialization(
 ) -> u64
     ensures { λ r. ⌜ Tells (mapped (entryStepNumbers 1) (guarded (now (segments .entry)) (answered (stepAnswer (entryStep (now (image .entry)) (now (segments .entry)) prespecialization (cursorAt «base_va» count next)))))) (now (out .entry)) r (now (out .exit)) ⌝ }
 {
-    let cursor = EntryIter {
-        base_va,
-        count,
-        next,
-    };
+    let cursor = c_tables::cursor_at(base_va, count, next);
     if segments.len() % 4 != 0 {
         return refusal::number(Refusal::RaggedSegments);
     }

@@ -2,7 +2,6 @@
 ghost use Rattle.vtable.specs.Entries.{method};
 ghost use Rattle.entry_tables.specs.Tables.{guardedTable};
 ghost use Rattle.c_tables.specs.Tables.{cursorAt, TellsTable};
-use vtable::EntryIter;
 
 // Writes three numbers for each method: its address, its flags, the implementation. `out` says how many entries were
 // written, and why no more: 0 the table's end, 1 the buffer is full, 2 an entry that cannot be read.
@@ -18,10 +17,6 @@ pub extern "C" fn hodrupec_methods(
 ) -> u64
     ensures { λ r. ⌜ TellsTable (guardedTable (now (image .entry)) (now (segments .entry)) method (cursorAt «base_va» count next) (now (buffer .entry))) (now (out .entry)) (now (buffer .entry)) r (now (out .exit)) (now (buffer .exit)) ⌝ }
 {
-    let walk = EntryIter {
-        base_va,
-        count,
-        next,
-    };
+    let walk = c_tables::cursor_at(base_va, count, next);
     c_tables::tell_counts(entry_tables::methods(image, segments, walk, buffer), out)
 }

@@ -3,8 +3,9 @@ ghost use mathlib.Core.Path.{_≡_};
 ghost use Rattle.refusal.specs.Refusal.{answered, mapped};
 ghost use Rattle.runtime.specs.Reads.{run};
 ghost use Rattle.type_body.specs.Body.{body};
-ghost use Rattle.field_offsets.specs.Offsets.{offsets, offsetsPlace, staticPlace, offsetIn, offsetsOf};
+ghost use Rattle.field_offsets.specs.Offsets.{offsets, offsetsPlace, staticPlace, offsetIn};
 ghost use Rattle.refusal.specs.Guarded.{guarded};
+ghost use Rattle.steps.specs.Offsets.{offsetsAnswer};
 ghost use Rattle.c_rows.specs.Numbers.{Tells, valueNumbers};
 ghost use Rattle.c_fields.specs.Offsets.{offsetsNumbers};
 use crate::fields::ANSWERED;
@@ -13,12 +14,19 @@ use field_offsets::FieldOffset;
 use field_offsets::FieldOffsets;
 use steps::OffsetsAnswer;
 
-fn offsets_numbers(offsets: FieldOffsets) -> [u64; 3]
-    ensures { λ r. ⌜ r ≡ offsetsNumbers (offsetsOf offsets) ⌝ }
+// What a call over a struct's offsets returns, and writes of its answer.
+fn tell_offsets(answer: OffsetsAnswer, out: &mut [u64; 3]) -> u64
+    ensures { λ r. ⌜ Tells (mapped offsetsNumbers (offsetsAnswer answer)) (now (out .entry)) r (now (out .exit)) ⌝ }
 {
-    match offsets {
-        FieldOffsets::At { place, count } => [THERE, place as u64, count as u64],
-        FieldOffsets::Nothing => [0; 3],
+    match answer {
+        OffsetsAnswer::Offsets(offsets) => {
+            *out = match offsets {
+                FieldOffsets::At { place, count } => [THERE, place as u64, count as u64],
+                FieldOffsets::Nothing => [0; 3],
+            };
+            ANSWERED
+        }
+        OffsetsAnswer::Refused(refusal) => refusal::number(refusal),
     }
 }
 
@@ -36,13 +44,8 @@ pub extern "C" fn hodrupec_field_offsets(
     ensures { λ r. ⌜ Tells (mapped offsetsNumbers (guarded (now (segments .entry)) (answered (offsetsPlace (now (image .entry)) (now (segments .entry)) (run (now (image .entry)) (now (segments .entry)) (body address flags)) «metadata_va»)))) (now (out .entry)) r (now (out .exit)) ⌝ }
 {
     let body = type_body::decode_body(image, segments, address, flags);
-    match steps::field_offsets(image, segments, body, metadata_va) {
-        OffsetsAnswer::Offsets(offsets) => {
-            *out = offsets_numbers(offsets);
-            ANSWERED
-        }
-        OffsetsAnswer::Refused(refusal) => refusal::number(refusal),
-    }
+    let found = steps::field_offsets(image, segments, body, metadata_va);
+    tell_offsets(found, out)
 }
 
 // The same for the metadata that the descriptor's singleton pointer refers to.
@@ -56,13 +59,8 @@ pub extern "C" fn hodrupec_static_field_offsets(
 ) -> u64
     ensures { λ r. ⌜ Tells (mapped offsetsNumbers (guarded (now (segments .entry)) (answered (staticPlace (now (image .entry)) (now (segments .entry)) address flags)))) (now (out .entry)) r (now (out .exit)) ⌝ }
 {
-    match steps::static_field_offsets(image, segments, address, flags) {
-        OffsetsAnswer::Offsets(offsets) => {
-            *out = offsets_numbers(offsets);
-            ANSWERED
-        }
-        OffsetsAnswer::Refused(refusal) => refusal::number(refusal),
-    }
+    let found = steps::static_field_offsets(image, segments, address, flags);
+    tell_offsets(found, out)
 }
 
 // 1 and the offset of the field with this number, out of `count` offsets that start at a place of the image. It takes no segments, and

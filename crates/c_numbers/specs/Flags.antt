@@ -2,12 +2,12 @@
 -- place in its enumeration, or 256 plus its number if no kind has it.
 use Prim.Native.Nat.{ℕ, _+_}
 use mathlib.Core.Bool.{Bool, true, false}
-use mathlib.Core.List.{List, [], _∷_}
-use Rattle.context.specs.Context as Context
-use Rattle.context.specs.TypeContext as Types
-use Rattle.context.specs.Conformance as Conformance
-use Rattle.context.specs.Field as Field
-use Rattle.context.specs.Method as Method
+use mathlib.Core.List.{List, [], _∷_, _++_, map}
+use Rattle.context.specs.Bits.{bit, bits, low}
+use Rattle.context.specs.Context.{contextKind, isType, kindSpecificFlags}
+use Rattle.context.specs.TypeContext.{initializationOf, referenceOf, hasCanonicalMetadataPrespecializations, hasSingletonMetadataPointer}
+use Rattle.context.specs.Field.{fieldKind}
+use Rattle.context.specs.Method.{methodOf}
 use Rattle.context.specs.declared.descriptor.ContextDescriptorKind.{ContextDescriptorKind}
 use Rattle.context.specs.declared.types.MetadataInitializationKind.{MetadataInitializationKind}
 use Rattle.context.specs.declared.types.TypeReferenceKind.{TypeReferenceKind}
@@ -62,77 +62,38 @@ methodNumber SwiftMethodKind.ModifyCoroutine = 4
 methodNumber SwiftMethodKind.ReadCoroutine = 5
 methodNumber (SwiftMethodKind.Other n) = 256 + n
 
+-- the flags at these bits
+abbrev pub flagsAt : ℕ → List ℕ → List ℕ
+flagsAt w = map (λ k. flagNumber (bit k w))
+
+-- invertible protocols, unique, generic at 5 to 7
 unfoldable pub contextFlagNumbers : ℕ → List ℕ
 contextFlagNumbers w =
-    1 ∷
-    kindNumber (Context.contextKind w) ∷
-    flagNumber (Context.isType (Context.contextKind w)) ∷
-    flagNumber (Context.hasInvertibleProtocols w) ∷
-    flagNumber (Context.isUnique w) ∷
-    flagNumber (Context.isGeneric w) ∷
-    Context.kindSpecificFlags w ∷
-    Context.kindSpecificFlags w ∷
-    []
+    1 ∷ kindNumber (contextKind w) ∷ flagNumber (isType (contextKind w)) ∷ flagsAt w (5 ∷ 6 ∷ 7 ∷ []) ++ kindSpecificFlags w ∷ kindSpecificFlags w ∷ []
 
+-- import info at 2; bit 3 and its two meanings; layout string at 4
 unfoldable pub typeFlagNumbers : ℕ → List ℕ
 typeFlagNumbers w =
-    1 ∷
-    initializationNumber (Types.metadataInitialization w) ∷
-    flagNumber (Types.hasImportInfo w) ∷
-    flagNumber (Types.hasPrespecializationsOrSingletonPointer w) ∷
-    flagNumber (Types.hasCanonicalMetadataPrespecializations w) ∷
-    flagNumber (Types.hasSingletonMetadataPointer w) ∷
-    flagNumber (Types.hasLayoutString w) ∷
-    []
+    1 ∷ initializationNumber (initializationOf (low 2 w)) ∷ flagsAt w (2 ∷ 3 ∷ [])
+    ++ flagNumber (hasCanonicalMetadataPrespecializations w) ∷ flagNumber (hasSingletonMetadataPointer w) ∷ flagsAt w (4 ∷ [])
 
+-- default overrides, actor, default actor at 6 to 8; the reference's kind in the three bits from 9 on; negative members, resilient superclass, overrides, vtable at 12 to 15
 unfoldable pub classFlagNumbers : ℕ → List ℕ
-classFlagNumbers w =
-    1 ∷
-    flagNumber (Types.classHasDefaultOverrideTable w) ∷
-    flagNumber (Types.classIsActor w) ∷
-    flagNumber (Types.classIsDefaultActor w) ∷
-    referenceNumber (Types.classResilientSuperclassReferenceKind w) ∷
-    flagNumber (Types.classAreImmediateMembersNegative w) ∷
-    flagNumber (Types.classHasResilientSuperclass w) ∷
-    flagNumber (Types.classHasOverrideTable w) ∷
-    flagNumber (Types.classHasVTable w) ∷
-    []
+classFlagNumbers w = 1 ∷ flagsAt w (6 ∷ 7 ∷ 8 ∷ []) ++ referenceNumber (referenceOf (bits 9 3 w)) ∷ flagsAt w (12 ∷ 13 ∷ 14 ∷ 15 ∷ [])
 
+-- the reference's kind in the three bits from 3 on; retroactive, synthesized at 6 and 7; eight bits of conditional requirements; resilient witnesses, generic witness table, of a
+-- protocol, global actor isolation at 16 to 19; eight bits of conditional pack descriptors
 unfoldable pub conformanceFlagNumbers : ℕ → List ℕ
 conformanceFlagNumbers w =
-    1 ∷
-    referenceNumber (Conformance.typeReferenceKind w) ∷
-    flagNumber (Conformance.isRetroactive w) ∷
-    flagNumber (Conformance.isSynthesizedNonUnique w) ∷
-    Conformance.numConditionalRequirements w ∷
-    flagNumber (Conformance.hasResilientWitnesses w) ∷
-    flagNumber (Conformance.hasGenericWitnessTable w) ∷
-    flagNumber (Conformance.isConformanceOfProtocol w) ∷
-    flagNumber (Conformance.hasGlobalActorIsolation w) ∷
-    Conformance.numConditionalPackDescriptors w ∷
-    []
+    1 ∷ referenceNumber (referenceOf (bits 3 3 w)) ∷ flagsAt w (6 ∷ 7 ∷ []) ++ bits 8 8 w ∷ flagsAt w (16 ∷ 17 ∷ 18 ∷ 19 ∷ []) ++ bits 24 8 w ∷ []
 
 unfoldable pub fieldKindNumbers : ℕ → List ℕ
-fieldKindNumbers w =
-    1 ∷
-    fieldKindNumber (Field.fieldKind w) ∷
-    []
+fieldKindNumbers w = 1 ∷ fieldKindNumber (fieldKind w) ∷ []
 
+-- indirect case, var, artificial
 unfoldable pub fieldFlagNumbers : ℕ → List ℕ
-fieldFlagNumbers w =
-    1 ∷
-    flagNumber (Field.isIndirectCase w) ∷
-    flagNumber (Field.isVar w) ∷
-    flagNumber (Field.isArtificial w) ∷
-    []
+fieldFlagNumbers w = 1 ∷ flagsAt w (0 ∷ 1 ∷ 2 ∷ [])
 
+-- instance, dynamic, async, extended context at 4 to 7; 16 bits of extra discriminator
 unfoldable pub methodFlagNumbers : ℕ → List ℕ
-methodFlagNumbers w =
-    1 ∷
-    methodNumber (Method.methodKind w) ∷
-    flagNumber (Method.isInstance w) ∷
-    flagNumber (Method.isDynamic w) ∷
-    flagNumber (Method.isAsync w) ∷
-    flagNumber (Method.hasExtendedContext w) ∷
-    Method.extraDiscriminator w ∷
-    []
+methodFlagNumbers w = 1 ∷ methodNumber (methodOf (low 4 w)) ∷ flagsAt w (4 ∷ 5 ∷ 6 ∷ 7 ∷ []) ++ bits 16 16 w ∷ []

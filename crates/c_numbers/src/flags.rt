@@ -19,12 +19,6 @@ pub fn flag(b: bool) -> u64
     if b { 1 } else { 0 }
 }
 
-fn byte(n: u8) -> u64
-    ensures { λ r. ⌜ r ≡ n ⌝ }
-{
-    n as u64
-}
-
 fn half(n: u16) -> u64
     ensures { λ r. ⌜ r ≡ n ⌝ }
 {
@@ -172,12 +166,12 @@ pub extern "C" fn hodrupec_conformance_flags(word: u32, out: &mut [u64; 10]) -> 
         reference_number(flags.type_reference_kind()),
         flag(flags.is_retroactive()),
         flag(flags.is_synthesized_non_unique()),
-        byte(flags.num_conditional_requirements()),
+        half(flags.num_conditional_requirements() as u16),
         flag(flags.has_resilient_witnesses()),
         flag(flags.has_generic_witness_table()),
         flag(flags.is_conformance_of_protocol()),
         flag(flags.has_global_actor_isolation()),
-        byte(flags.num_conditional_pack_descriptors()),
+        half(flags.num_conditional_pack_descriptors() as u16),
     ];
     0
 }

@@ -1,7 +1,8 @@
 // Whole tables for programs in C or Rust, by the rules of the crate `c_rows`: the entries from one on up to the first that cannot be read,
-// as many as the caller's buffer holds. The call for methods is in `c_blocks` and that for field records in `c_fields`: with one kind of
-// table in an archive, the compiler makes the loop for that kind. `out` says how many entries were written, and why no more: 0 the table's
-// end, 1 the buffer is full, 2 an entry that cannot be read.
+// as many as the caller's buffer holds. Methods stand in `c_blocks` and field records in `c_fields`: with one kind of table to an
+// archive its loop is made for that kind. Told are: how many were written, and why no more: 0 the table's end, 1 the buffer is full, 2 an entry that
+// cannot be read.
+ghost use mathlib.Core.Path.{_≡_};
 ghost use Rattle.refusal.specs.Refusal.{mapped};
 ghost use Rattle.vtable.specs.Entries.{override, defaultOverride, prespecialization};
 ghost use Rattle.entry_tables.specs.Tables.{tableAnswer, guardedTable};
@@ -26,7 +27,18 @@ pub fn tell_counts(answer: TableAnswer, out: &mut [u64; 2]) -> u64
     }
 }
 
-// Writes four numbers for each override: its address, the class, the method, the implementation.
+// The walk over a table of `count` entries that stands at entry `next`.
+pub fn cursor_at(base_va: u64, count: u32, next: u32) -> EntryIter
+    ensures { λ r. ⌜ r ≡ cursorAt «base_va» count next ⌝ }
+{
+    EntryIter {
+        base_va,
+        count,
+        next,
+    }
+}
+
+// Four for each override: its address, the class, the method, the implementation.
 #[no_mangle]
 pub extern "C" fn hodrupec_overrides(
     image: &[u8],
@@ -39,11 +51,7 @@ pub extern "C" fn hodrupec_overrides(
 ) -> u64
     ensures { λ r. ⌜ TellsTable (guardedTable (now (image .entry)) (now (segments .entry)) override (cursorAt «base_va» count next) (now (buffer .entry))) (now (out .entry)) (now (buffer .entry)) r (now (out .exit)) (now (buffer .exit)) ⌝ }
 {
-    let walk = EntryIter {
-        base_va,
-        count,
-        next,
-    };
+    let walk = cursor_at(base_va, count, next);
     tell_counts(entry_tables::overrides(image, segments, walk, buffer), out)
 }
 
@@ -60,11 +68,7 @@ pub extern "C" fn hodrupec_default_overrides(
 ) -> u64
     ensures { λ r. ⌜ TellsTable (guardedTable (now (image .entry)) (now (segments .entry)) defaultOverride (cursorAt «base_va» count next) (now (buffer .entry))) (now (out .entry)) (now (buffer .entry)) r (now (out .exit)) (now (buffer .exit)) ⌝ }
 {
-    let walk = EntryIter {
-        base_va,
-        count,
-        next,
-    };
+    let walk = cursor_at(base_va, count, next);
     tell_counts(
         entry_tables::default_overrides(image, segments, walk, buffer),
         out,
@@ -84,11 +88,7 @@ pub extern "C" fn hodrupec_prespecializations(
 ) -> u64
     ensures { λ r. ⌜ TellsTable (guardedTable (now (image .entry)) (now (segments .entry)) prespecialization (cursorAt «base_va» count next) (now (buffer .entry))) (now (out .entry)) (now (buffer .entry)) r (now (out .exit)) (now (buffer .exit)) ⌝ }
 {
-    let walk = EntryIter {
-        base_va,
-        count,
-        next,
-    };
+    let walk = cursor_at(base_va, count, next);
     tell_counts(
         entry_tables::prespecializations(image, segments, walk, buffer),
         out,

@@ -21,19 +21,36 @@ use Rattle.parent.specs.Context.{headerIn, header, slotName, nameAt, name, cont
 use Rattle.parent.specs.Chain.{headerAt, chain}
 use Rattle.qualified_name.specs.Name.{hops, qualifiedName, tooDeep, nameAnswer}
 use Rattle.items.specs.Keys.{Sections}
+use Rattle.items.specs.Worked.{Table, laid}
 use Rattle.items.specs.Clue as Clue
 use Rattle.items.specs.Oak as Oak
 use Rattle.certainty.specs.Certain.{hasNul, certain}
 use Rattle.certainty.specs.JoinedName.{headerCertain, chainCertain, nameCertain, joinedName}
 
-abbrev row : List ℕ → List ℕ → Sections → Bool
-row arrived segments s = certain arrived segments (slotRow (s .types) (s .typesStart) 0)
+-- an image as far as it arrived, its segments and sections
+pub record Arrived : Type 0 where
+  pub bytes : List ℕ
+  pub segments : List ℕ
+  pub sections : Sections
 
-abbrev named : List ℕ → List ℕ → Sections → Bool
-named arrived segments s = nameCertain arrived segments (s .types) (s .typesStart) 0
+abbrev row : Arrived → Bool
+row a = certain (a .bytes) (a .segments) (slotRow (a .sections .types) (a .sections .typesStart) 0)
 
-abbrev joined : List ℕ → List ℕ → Sections → Option (Guarded (List ℕ))
-joined arrived segments s = joinedName arrived segments (s .types) (s .typesStart) 0 16
+abbrev named : Arrived → Bool
+named a = nameCertain (a .bytes) (a .segments) (a .sections .types) (a .sections .typesStart) 0
+
+abbrev joined : Arrived → Option (Guarded (List ℕ))
+joined a = joinedName (a .bytes) (a .segments) (a .sections .types) (a .sections .typesStart) 0 16
+
+-- as `Clue` and as `Oak` are laid out
+abbrev asClue : List ℕ → Arrived
+asClue bytes = record { bytes = bytes; segments = Clue.clueSegments; sections = Clue.clueSections }
+
+abbrev clue : ℕ → Arrived
+clue c = asClue (take c Clue.clueImage)
+
+abbrev oak : ℕ → Arrived
+oak c = record { bytes = take c Oak.oakImage; segments = Oak.oakSegments; sections = Oak.oakSections }
 
 -- `Clue` with a parent's offset of 0x4000: its parent is at 0x5004, which is not in the file
 abbrev outside : List ℕ
@@ -41,71 +58,47 @@ outside =
     17 ∷ 0 ∷ 0 ∷ 0 ∷ 0 ∷ 0x40 ∷ 0 ∷ 0 ∷ 20 ∷ 0 ∷ 0 ∷ 0 ∷ 0 ∷ 0 ∷ 0 ∷ 0 ∷ 0 ∷ 0 ∷ 0 ∷ 0 ∷ 0 ∷ 0 ∷ 0 ∷ 0 ∷ 0 ∷ 0 ∷ 0 ∷ 0 ∷ letters "Clue" ++ 0 ∷ []
 
 -- the same file in a segment of 8 bytes more, and its parent there, at 0x1024: the offset 0x20
-abbrev further : List ℕ
+abbrev further : Arrived
 further =
-    17 ∷ 0 ∷ 0 ∷ 0 ∷ 0x20 ∷ 0 ∷ 0 ∷ 0 ∷ 20 ∷ 0 ∷ 0 ∷ 0 ∷ 0 ∷ 0 ∷ 0 ∷ 0 ∷ 0 ∷ 0 ∷ 0 ∷ 0 ∷ 0 ∷ 0 ∷ 0 ∷ 0 ∷ 0 ∷ 0 ∷ 0 ∷ 0 ∷ letters "Clue" ++ 0 ∷ []
-
-abbrev longer : List ℕ
-longer = 0x1000 ∷ 41 ∷ 0 ∷ 41 ∷ []
+    record { bytes = 17 ∷ 0 ∷ 0 ∷ 0 ∷ 0x20 ∷ 0 ∷ 0 ∷ 0 ∷ 20 ∷ 0 ∷ 0 ∷ 0 ∷ 0 ∷ 0 ∷ 0 ∷ 0 ∷ 0 ∷ 0 ∷ 0 ∷ 0 ∷ 0 ∷ 0 ∷ 0 ∷ 0 ∷ 0 ∷ 0 ∷ 0 ∷ 0 ∷ letters "Clue" ++ 0 ∷ []; segments = laid 41; sections = Clue.clueSections }
 
 pub record CertaintyWorked : Type 0 where
-  -- the name without its NUL is not certain, though there is a row
-  pub clue-28 : row (take 28 Clue.clueImage) Clue.clueSegments Clue.clueSections ≡ false
-  pub clue-29 : row (take 29 Clue.clueImage) Clue.clueSegments Clue.clueSections ≡ false
-  pub clue-30 : row (take 30 Clue.clueImage) Clue.clueSegments Clue.clueSections ≡ false
-  pub clue-31 : row (take 31 Clue.clueImage) Clue.clueSegments Clue.clueSections ≡ false
-  pub clue-32 : row (take 32 Clue.clueImage) Clue.clueSegments Clue.clueSections ≡ false
-  pub clue : row Clue.clueImage Clue.clueSegments Clue.clueSections ≡ true
-  -- it has no parent: the chain ends at address 0
-  pub clue-name : named Clue.clueImage Clue.clueSegments Clue.clueSections ≡ true
-  -- a slot without a row: its 20 bytes did not arrive; its name is ill-formed, and its NUL arrived, or did not
-  pub clue-19 : row (take 19 Clue.clueImage) Clue.clueSegments Clue.clueSections ≡ false
-  pub ill-formed : row Clue.broken Clue.clueSegments Clue.clueSections ≡ true
-  pub ill-formed-31 : row (take 31 Clue.broken) Clue.clueSegments Clue.clueSections ≡ false
-  -- `Oak`'s own name stands first
-  pub oak-23 : row (take 23 Oak.oakImage) Oak.oakSegments Oak.oakSections ≡ false
-  pub oak-24 : row (take 24 Oak.oakImage) Oak.oakSegments Oak.oakSections ≡ true
-  -- the chain met the end: at its first context, at the module, at the offset of its name, in the name
-  pub oak-name-24 : named (take 24 Oak.oakImage) Oak.oakSegments Oak.oakSections ≡ false
-  pub oak-name-95 : named (take 95 Oak.oakImage) Oak.oakSegments Oak.oakSections ≡ false
-  pub oak-name-103 : named (take 103 Oak.oakImage) Oak.oakSegments Oak.oakSections ≡ false
-  pub oak-name-107 : named (take 107 Oak.oakImage) Oak.oakSegments Oak.oakSections ≡ false
-  pub oak-name-110 : named (take 110 Oak.oakImage) Oak.oakSegments Oak.oakSections ≡ false
-  -- here the joined name is `Wo.Oak`
-  pub oak-joined-110 : joined (take 110 Oak.oakImage) Oak.oakSegments Oak.oakSections ≡ some (answered (letters "Wo.Oak"))
-  -- the name without its NUL, and with it
-  pub oak-name-112 : named (take 112 Oak.oakImage) Oak.oakSegments Oak.oakSections ≡ false
-  pub oak-name : named Oak.oakImage Oak.oakSegments Oak.oakSections ≡ true
-  -- a chain that ends at an address outside every segment, and one whose next context has not arrived
-  pub outside-name : named outside Clue.clueSegments Clue.clueSections ≡ true
-  pub further-row : row further longer Clue.clueSections ≡ true
-  pub further-name : named further longer Clue.clueSections ≡ false
+  pub rows : Table row
+      -- the name without its NUL is not certain, though the row is there
+      ((clue 28, false)
+      ∷ (clue 29, false)
+      ∷ (clue 30, false)
+      ∷ (clue 31, false)
+      ∷ (clue 32, false)
+      ∷ (clue 33, true)
+      -- a slot without a row: its 20 bytes did not arrive; its name is ill-formed, and the NUL is there, or not yet
+      ∷ (clue 19, false)
+      ∷ (asClue Clue.broken, true)
+      ∷ (asClue (take 31 Clue.broken), false)
+      -- `Oak`'s own name stands first
+      ∷ (oak 23, false)
+      ∷ (oak 24, true)
+      ∷ (further, true)
+      ∷ [])
+  pub names : Table named
+      -- it has no parent: the chain ends at address 0
+      ((clue 33, true)
+      -- the chain met the end: at its first context, at the module, at the offset of its name, in the name
+      ∷ (oak 24, false)
+      ∷ (oak 95, false)
+      ∷ (oak 103, false)
+      ∷ (oak 107, false)
+      ∷ (oak 110, false)
+      -- the name without its NUL, and with it
+      ∷ (oak 112, false)
+      ∷ (oak 113, true)
+      -- a chain that ends at an address outside every segment, and one whose next context has not arrived
+      ∷ (asClue outside, true)
+      ∷ (further, false)
+      ∷ [])
+  -- in the name, where the joined name reads `Wo.Oak`
+  pub joined-110 : joined (oak 110) ≡ some (answered (letters "Wo.Oak"))
 
 pub certainty-worked : CertaintyWorked
 unfolding certain hasNul headerCertain chainCertain nameCertain joinedName run bind bytesPlace within textOffset segmentsOf fileOffset decides inFile table following goesOn textAt textLength untilNul unsignedIn signedIn littleAt signedAt bytesAt littleEndian twosComplement relativeAddress relativePointer descriptor rowName slotRow kindOf headerIn header headerAt slotName nameAt name contextName withName contextRead chain hops qualifiedName tooDeep nameAnswer
-certainty-worked =
-    record {
-      clue-28 = refl;
-      clue-29 = refl;
-      clue-30 = refl;
-      clue-31 = refl;
-      clue-32 = refl;
-      clue = refl;
-      clue-name = refl;
-      clue-19 = refl;
-      ill-formed = refl;
-      ill-formed-31 = refl;
-      oak-23 = refl;
-      oak-24 = refl;
-      oak-name-24 = refl;
-      oak-name-95 = refl;
-      oak-name-103 = refl;
-      oak-name-107 = refl;
-      oak-name-110 = refl;
-      oak-joined-110 = refl;
-      oak-name-112 = refl;
-      oak-name = refl;
-      outside-name = refl;
-      further-row = refl;
-      further-name = refl;
-    }
+certainty-worked = record { rows = refl; names = refl; joined-110 = refl }

@@ -1,24 +1,15 @@
 -- Context descriptors (docs/SPECIFICATION.md, "Kinds and flags"): MetadataValues.h, `ContextDescriptorKind` and `ContextDescriptorFlags`.
 use Prim.Native.Nat.{ℕ}
 use mathlib.Core.Bool.{Bool, true, false}
-use mathlib.Core.List.{List, [], _∷_}
+use mathlib.Core.List.{List, [], _∷_, _++_}
 use Rattle.context.specs.Bits.{bit, bits, low}
-use Rattle.context.specs.Enumeration.{valueOf}
+use Rattle.context.specs.Enumeration.{numbered, valueOf}
 use Rattle.context.specs.declared.descriptor.ContextDescriptorKind.{ContextDescriptorKind}
 use Rattle.context.specs.declared.descriptor.ContextDescriptorKind.the-variants.{Module, Extension, Anonymous, Protocol, OpaqueType, Class, Struct, Enum, Other}
 
 -- `ContextDescriptorKind`
 abbrev pub contextKinds : List (ℕ × ContextDescriptorKind)
-contextKinds =
-    (0, Module) ∷
-    (1, Extension) ∷
-    (2, Anonymous) ∷
-    (3, Protocol) ∷
-    (4, OpaqueType) ∷
-    (16, Class) ∷
-    (17, Struct) ∷
-    (18, Enum) ∷
-    []
+contextKinds = numbered 0 (Module ∷ Extension ∷ Anonymous ∷ Protocol ∷ OpaqueType ∷ []) ++ numbered 16 (Class ∷ Struct ∷ Enum ∷ [])
 
 unfoldable pub kindOf : ℕ → ContextDescriptorKind
 kindOf n = valueOf contextKinds (Other n) n
@@ -29,9 +20,6 @@ contextKind w = kindOf (low 5 w)
 
 abbrev pub hasInvertibleProtocols : ℕ → Bool
 hasInvertibleProtocols = bit 5
-
-abbrev pub isUnique : ℕ → Bool
-isUnique = bit 6
 
 abbrev pub isGeneric : ℕ → Bool
 isGeneric = bit 7

@@ -1,5 +1,4 @@
 pub mod Bits
-pub mod Conformance
 pub mod Context
 pub mod Enumeration
 pub mod Field

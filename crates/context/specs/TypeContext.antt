@@ -3,8 +3,8 @@ use Prim.Native.Nat.{ℕ}
 use mathlib.Core.Bool.{Bool, not, _&&_}
 use mathlib.Core.List.{List, [], _∷_}
 use lib.Dec.{eqb}
-use Rattle.context.specs.Bits.{bit, bits, low}
-use Rattle.context.specs.Enumeration.{valueOf}
+use Rattle.context.specs.Bits.{bit, low}
+use Rattle.context.specs.Enumeration.{numbered, valueOf}
 use Rattle.context.specs.declared.types.MetadataInitializationKind.{MetadataInitializationKind}
 use Rattle.context.specs.declared.types.MetadataInitializationKind.the-variants.{None, Singleton, Foreign}
 use Rattle.context.specs.declared.types.TypeReferenceKind.{TypeReferenceKind}
@@ -12,58 +12,28 @@ use Rattle.context.specs.declared.types.TypeReferenceKind.the-variants.{
 
 -- `TypeContextDescriptorFlags::MetadataInitializationKind`
 abbrev pub initializations : List (ℕ × MetadataInitializationKind)
-initializations = (0, None) ∷ (1, Singleton) ∷ (2, Foreign) ∷ []
+initializations = numbered 0 (None ∷ Singleton ∷ Foreign ∷ [])
 
 unfoldable pub initializationOf : ℕ → MetadataInitializationKind
 initializationOf n = valueOf initializations MetadataInitializationKind.Other n
 
 -- `TypeReferenceKind`
 abbrev pub references : List (ℕ × TypeReferenceKind)
-references =
-    (0, DirectTypeDescriptor) ∷
-    (1, IndirectTypeDescriptor) ∷
-    (2, DirectObjCClassName) ∷
-    (3, IndirectObjCClass) ∷
-    []
+references = numbered 0 (DirectTypeDescriptor ∷ IndirectTypeDescriptor ∷ DirectObjCClassName ∷ IndirectObjCClass ∷ [])
 
 unfoldable pub referenceOf : ℕ → TypeReferenceKind
 referenceOf n = valueOf references (TypeReferenceKind.Other n) n
 
--- `TypeContextDescriptorFlags`
-abbrev pub metadataInitialization : ℕ → MetadataInitializationKind
-metadataInitialization w = initializationOf (low 2 w)
-
-abbrev pub hasImportInfo : ℕ → Bool
-hasImportInfo = bit 2
-
-abbrev pub hasPrespecializationsOrSingletonPointer : ℕ → Bool
-hasPrespecializationsOrSingletonPointer = bit 3
-
--- The two meanings of bit 3, as darwinscope separates them: by the initialization, where 1 is
--- `Singleton`. The header separates them by whether the type is generic.
+-- The meanings of bit 3 as darwinscope tells them apart: by the initialization, 1 being `Singleton`.
+-- The header does it by whether the type is generic.
 abbrev pub hasSingletonMetadataPointer : ℕ → Bool
 hasSingletonMetadataPointer w = bit 3 w && eqb (low 2 w) 1
 
 abbrev pub hasCanonicalMetadataPrespecializations : ℕ → Bool
 hasCanonicalMetadataPrespecializations w = bit 3 w && not (eqb (low 2 w) 1)
 
-abbrev pub hasLayoutString : ℕ → Bool
-hasLayoutString = bit 4
-
 abbrev pub classHasDefaultOverrideTable : ℕ → Bool
 classHasDefaultOverrideTable = bit 6
-
-abbrev pub classIsActor : ℕ → Bool
-classIsActor = bit 7
-
-abbrev pub classIsDefaultActor : ℕ → Bool
-classIsDefaultActor = bit 8
-
-abbrev pub classResilientSuperclassReferenceKind : ℕ → TypeReferenceKind
-classResilientSuperclassReferenceKind w = referenceOf (bits 9 3 w)
-
-abbrev pub classAreImmediateMembersNegative : ℕ → Bool
-classAreImmediateMembersNegative = bit 12
 
 abbrev pub classHasResilientSuperclass : ℕ → Bool
 classHasResilientSuperclass = bit 13

@@ -1,6 +1,7 @@
 // The word that every context descriptor starts with.
 ghost use mathlib.Core.Path.{_≡_};
-ghost use Rattle.context.specs.Context.{kindOf, contextKind, hasInvertibleProtocols, isUnique, isGeneric, kindSpecificFlags, isType, hasName};
+ghost use Rattle.context.specs.Bits.{bit};
+ghost use Rattle.context.specs.Context.{kindOf, contextKind, hasInvertibleProtocols, isGeneric, kindSpecificFlags, isType, hasName};
 use crate::types::TypeContextDescriptorFlags;
 
 pub enum ContextDescriptorKind {
@@ -84,7 +85,7 @@ impl ContextDescriptorFlags {
     }
 
     pub fn is_unique(self) -> bool
-        ensures { λ r. ⌜ r ≡ isUnique (self .0) ⌝ }
+        ensures { λ r. ⌜ r ≡ bit 6 (self .0) ⌝ }
     {
         (self.0 / 64) % 2 == 1
     }

@@ -1,6 +1,7 @@
 // What a field descriptor and its records say in numbers.
 ghost use mathlib.Core.Path.{_≡_};
-ghost use Rattle.context.specs.Field.{fieldKind, isIndirectCase, isVar, isArtificial};
+ghost use Rattle.context.specs.Bits.{bit};
+ghost use Rattle.context.specs.Field.{fieldKind};
 
 pub enum FieldDescriptorKind {
     Struct,
@@ -37,19 +38,19 @@ pub struct FieldRecordFlags(pub u32);
 
 impl FieldRecordFlags {
     pub fn is_indirect_case(self) -> bool
-        ensures { λ r. ⌜ r ≡ isIndirectCase (self .0) ⌝ }
+        ensures { λ r. ⌜ r ≡ bit 0 (self .0) ⌝ }
     {
         (self.0 / 1) % 2 == 1
     }
 
     pub fn is_var(self) -> bool
-        ensures { λ r. ⌜ r ≡ isVar (self .0) ⌝ }
+        ensures { λ r. ⌜ r ≡ bit 1 (self .0) ⌝ }
     {
         (self.0 / 2) % 2 == 1
     }
 
     pub fn is_artificial(self) -> bool
-        ensures { λ r. ⌜ r ≡ isArtificial (self .0) ⌝ }
+        ensures { λ r. ⌜ r ≡ bit 2 (self .0) ⌝ }
     {
         (self.0 / 4) % 2 == 1
     }

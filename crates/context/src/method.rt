@@ -1,6 +1,7 @@
 // The flags word of a method descriptor.
 ghost use mathlib.Core.Path.{_≡_};
-ghost use Rattle.context.specs.Method.{methodOf, methodKind, isInstance, isDynamic, isAsync, hasExtendedContext, extraDiscriminator};
+ghost use Rattle.context.specs.Bits.{bit, bits, low};
+ghost use Rattle.context.specs.Method.{methodOf};
 
 pub enum SwiftMethodKind {
     Method,
@@ -34,37 +35,37 @@ pub struct MethodDescriptorFlags(pub u32);
 
 impl MethodDescriptorFlags {
     pub fn kind(self) -> SwiftMethodKind
-        ensures { λ r. ⌜ r ≡ methodKind (self .0) ⌝ }
+        ensures { λ r. ⌜ r ≡ methodOf (low 4 (self .0)) ⌝ }
     {
         SwiftMethodKind::of((self.0 % 16) as u8)
     }
 
     pub fn is_instance(self) -> bool
-        ensures { λ r. ⌜ r ≡ isInstance (self .0) ⌝ }
+        ensures { λ r. ⌜ r ≡ bit 4 (self .0) ⌝ }
     {
         (self.0 / 16) % 2 == 1
     }
 
     pub fn is_dynamic(self) -> bool
-        ensures { λ r. ⌜ r ≡ isDynamic (self .0) ⌝ }
+        ensures { λ r. ⌜ r ≡ bit 5 (self .0) ⌝ }
     {
         (self.0 / 32) % 2 == 1
     }
 
     pub fn is_async(self) -> bool
-        ensures { λ r. ⌜ r ≡ isAsync (self .0) ⌝ }
+        ensures { λ r. ⌜ r ≡ bit 6 (self .0) ⌝ }
     {
         (self.0 / 64) % 2 == 1
     }
 
     pub fn has_extended_context(self) -> bool
-        ensures { λ r. ⌜ r ≡ hasExtendedContext (self .0) ⌝ }
+        ensures { λ r. ⌜ r ≡ bit 7 (self .0) ⌝ }
     {
         (self.0 / 128) % 2 == 1
     }
 
     pub fn extra_discriminator(self) -> u16
-        ensures { λ r. ⌜ r ≡ extraDiscriminator (self .0) ⌝ }
+        ensures { λ r. ⌜ r ≡ bits 16 16 (self .0) ⌝ }
     {
         (self.0 / 65536) as u16
     }

@@ -1,6 +1,7 @@
 // The kind-specific half of the flags word of a class, a struct or an enum.
 ghost use mathlib.Core.Path.{_≡_};
-ghost use Rattle.context.specs.TypeContext.{initializationOf, referenceOf, metadataInitialization, hasImportInfo, hasPrespecializationsOrSingletonPointer, hasCanonicalMetadataPrespecializations, hasSingletonMetadataPointer, hasLayoutString, classHasDefaultOverrideTable, classIsActor, classIsDefaultActor, classResilientSuperclassReferenceKind, classAreImmediateMembersNegative, classHasResilientSuperclass, classHasOverrideTable, classHasVTable};
+ghost use Rattle.context.specs.Bits.{bit, bits, low};
+ghost use Rattle.context.specs.TypeContext.{initializationOf, referenceOf, hasCanonicalMetadataPrespecializations, hasSingletonMetadataPointer, classHasDefaultOverrideTable, classHasResilientSuperclass, classHasOverrideTable, classHasVTable};
 
 pub enum MetadataInitializationKind {
     None,
@@ -51,20 +52,20 @@ pub struct TypeContextDescriptorFlags(pub u16);
 
 impl TypeContextDescriptorFlags {
     pub fn metadata_initialization(self) -> MetadataInitializationKind
-        ensures { λ r. ⌜ r ≡ metadataInitialization (self .0) ⌝ }
+        ensures { λ r. ⌜ r ≡ initializationOf (low 2 (self .0)) ⌝ }
     {
         MetadataInitializationKind::of((self.0 % 4) as u8)
     }
 
     pub fn has_import_info(self) -> bool
-        ensures { λ r. ⌜ r ≡ hasImportInfo (self .0) ⌝ }
+        ensures { λ r. ⌜ r ≡ bit 2 (self .0) ⌝ }
     {
         (self.0 / 4) % 2 == 1
     }
 
     // One bit with two meanings: the two functions below separate them.
     pub fn has_canonical_metadata_prespecializations_or_singleton(self) -> bool
-        ensures { λ r. ⌜ r ≡ hasPrespecializationsOrSingletonPointer (self .0) ⌝ }
+        ensures { λ r. ⌜ r ≡ bit 3 (self .0) ⌝ }
     {
         (self.0 / 8) % 2 == 1
     }
@@ -82,7 +83,7 @@ impl TypeContextDescriptorFlags {
     }
 
     pub fn has_layout_string(self) -> bool
-        ensures { λ r. ⌜ r ≡ hasLayoutString (self .0) ⌝ }
+        ensures { λ r. ⌜ r ≡ bit 4 (self .0) ⌝ }
     {
         (self.0 / 16) % 2 == 1
     }
@@ -94,25 +95,25 @@ impl TypeContextDescriptorFlags {
     }
 
     pub fn class_is_actor(self) -> bool
-        ensures { λ r. ⌜ r ≡ classIsActor (self .0) ⌝ }
+        ensures { λ r. ⌜ r ≡ bit 7 (self .0) ⌝ }
     {
         (self.0 / 128) % 2 == 1
     }
 
     pub fn class_is_default_actor(self) -> bool
-        ensures { λ r. ⌜ r ≡ classIsDefaultActor (self .0) ⌝ }
+        ensures { λ r. ⌜ r ≡ bit 8 (self .0) ⌝ }
     {
         (self.0 / 256) % 2 == 1
     }
 
     pub fn class_resilient_superclass_reference_kind(self) -> TypeReferenceKind
-        ensures { λ r. ⌜ r ≡ classResilientSuperclassReferenceKind (self .0) ⌝ }
+        ensures { λ r. ⌜ r ≡ referenceOf (bits 9 3 (self .0)) ⌝ }
     {
         TypeReferenceKind::of(((self.0 / 512) % 8) as u8)
     }
 
     pub fn class_immediate_members_negative(self) -> bool
-        ensures { λ r. ⌜ r ≡ classAreImmediateMembersNegative (self .0) ⌝ }
+        ensures { λ r. ⌜ r ≡ bit 12 (self .0) ⌝ }
     {
         (self.0 / 4096) % 2 == 1
     }

@@ -1,11 +1,9 @@
 -- A fourth image worked through: the items of a generic class with prespecializations, an invertible set and default overrides, the blocks
 -- that `Oak` and `Elm` do not have. The numbers are worked out by hand from docs/SPECIFICATION.md, as for `Elm`.
 use Prim.Native.Nat.{ℕ}
-use mathlib.Core.Path.{_≡_, refl}
+use mathlib.Core.Path.{refl}
 use mathlib.Core.List.{List, [], _∷_, _++_}
-use mathlib.Core.Bool.{true, false}
 use mathlib.Core.Option.{Option, some, none}
-use lib.ListN.{take}
 use Rattle.utf8.specs.Table.{table}
 use Rattle.utf8.specs.Text.{following, goesOn, untilNul, textLength}
 use Rattle.util.specs.Letters.{letters}
@@ -27,10 +25,7 @@ use Rattle.field_offsets.specs.Offsets.{vector, fieldOffsets, slotOffsets}
 use Rattle.vtable.specs.Entries.{entryAt, upTo, entry}
 use Rattle.items.specs.Keys.{Sections, EntryKind, Key, Answer}
 use Rattle.items.specs.Items.{mapReads, entryOfSlot, item}
-
--- a u32 of one byte
-abbrev word : ℕ → List ℕ
-word n = n ∷ 0 ∷ 0 ∷ 0 ∷ []
+use Rattle.items.specs.Worked.{Table, word, laid, oneSlot, bytesTo, rowReads, readBy, toldBy, cutTo}
 
 -- 124 bytes, each line from the offset that it names
 abbrev image : List ℕ
@@ -50,27 +45,18 @@ image =
     -- 104: two default overrides: 108, and 116 to 116 + 140 and 120 + 152
     word 2 ++ word 0 ++ word 0 ++ word 140 ++ word 152
 
--- laid at 0x1000
 abbrev segments : List ℕ
-segments = 0x1000 ∷ 124 ∷ 0 ∷ 124 ∷ []
+segments = laid 124
 
--- types at 0x2000: one slot, whose offset is 0x1004 - 0x2000; no fields
 abbrev sections : Sections
-sections = record { types = 0x04 ∷ 0xf0 ∷ 0xff ∷ 0xff ∷ []; typesStart = 0x2000; fields = []; fieldsStart = 0 }
+sections = oneSlot 4
 
-abbrev reads : Key → List Range
-reads k = path image segments (item sections k)
+abbrev told : Key → Option Answer
+told = toldBy image segments sections
 
-abbrev told : List ℕ → Key → Option Answer
-told i k = run i segments (item sections k)
-
--- bytes from an offset up to another
-abbrev bytesTo : ℕ → ℕ → Range
-bytesTo o e = record { from = o; to = e; isText = false }
-
--- the descriptor's 20 bytes, the name with its NUL, the body's 24, and the generic header's 16, which every other block here reads first; then those of the prespecializations'
+-- the row's, the body's 24 bytes, and the generic header's 16, which every other block here reads first; then those of the prespecializations'
 abbrev genericReads : List Range
-genericReads = bytesTo 4 24 ∷ record { from = 0; to = 4; isText = true } ∷ bytesTo 24 48 ∷ bytesTo 48 64 ∷ []
+genericReads = rowReads ++ (bytesTo 24 48 ∷ bytesTo 48 64 ∷ [])
 
 abbrev prespecializedReads : List Range
 prespecializedReads = genericReads ++ (bytesTo 80 84 ∷ [])
@@ -93,55 +79,38 @@ abbrev defaultOverridesFrom : ℕ → ℕ → Block
 defaultOverridesFrom n a = record { kind = BlockKind.DefaultOverrideTable; body = BlockBody.Table 0 n a }
 
 pub record AshWorked : Type 0 where
-  pub generic : reads (Key.block 0 BlockKind.Generic) ≡ genericReads
-  pub prespecializations : reads (Key.block 0 BlockKind.Prespecializations) ≡ prespecializedReads
-  pub invertible : reads (Key.block 0 BlockKind.InvertibleProtocolSet) ≡ prespecializedReads ++ (bytesTo 100 102 ∷ [])
-  pub default-overrides : reads (Key.block 0 BlockKind.DefaultOverrideTable) ≡ overridesReads
   -- the entries 0 and 1: four bytes each, and eight
-  pub prespecialization-1 : reads (Key.entry 0 EntryKind.prespecializations 1) ≡ prespecializedReads ++ (bytesTo 84 88 ∷ bytesTo 88 92 ∷ [])
-  pub default-override-1 : reads (Key.entry 0 EntryKind.defaultOverrides 1) ≡ overridesReads ++ (bytesTo 108 116 ∷ bytesTo 116 124 ∷ [])
-  -- what they say; nothing past the last
-  pub says-body : told image (Key.body 0) ≡ some (Answer.body (ofClass 0 (fixed 2 13) 3 0 10))
-  pub says-generic : told image (Key.block 0 BlockKind.Generic) ≡ some (Answer.block (genericAt 0x1030))
-  pub says-prespecializations : told image (Key.block 0 BlockKind.Prespecializations) ≡ some (Answer.block (prespecializationsFrom 2 0x1054))
-  pub says-invertible : told image (Key.block 0 BlockKind.InvertibleProtocolSet) ≡ some (Answer.block (invertibleSet 5 2))
-  pub says-default-overrides : told image (Key.block 0 BlockKind.DefaultOverrideTable) ≡ some (Answer.block (defaultOverridesFrom 2 0x106c))
-  pub says-prespecialization-1 : told image (Key.entry 0 EntryKind.prespecializations 1) ≡ some (Answer.entry (record { address = 0x1058; words = 0x1110 ∷ [] }))
-  pub no-prespecialization-2 : told image (Key.entry 0 EntryKind.prespecializations 2) ≡ none
-  pub says-default-override-1 : told image (Key.entry 0 EntryKind.defaultOverrides 1) ≡ some (Answer.entry (record { address = 0x1074; words = 0x1100 ∷ 0x1110 ∷ [] }))
-  -- what it does not have: a vtable, singleton records (bit 3 of its type flags is the prespecializations'), offsets, which are a struct's
-  pub no-vtable : told image (Key.block 0 BlockKind.VTable) ≡ none
-  pub no-initialization : told image (Key.initialization 0) ≡ none
-  pub no-pointer : told image (Key.pointer 0) ≡ none
-  pub no-offsets : told image (Key.offsets 0 0x1000) ≡ none
-  -- a cut where an entry's last range ends keeps the entry, and a cut one byte before does not
-  pub cut-92 : told (take 92 image) (Key.entry 0 EntryKind.prespecializations 1) ≡ told image (Key.entry 0 EntryKind.prespecializations 1)
-  pub cut-91 : told (take 91 image) (Key.entry 0 EntryKind.prespecializations 1) ≡ none
-  pub cut-123 : told (take 123 image) (Key.entry 0 EntryKind.defaultOverrides 1) ≡ none
+  pub reads : Table (readBy image segments sections)
+      ((Key.block 0 BlockKind.Generic, genericReads)
+      ∷ (Key.block 0 BlockKind.Prespecializations, prespecializedReads)
+      ∷ (Key.block 0 BlockKind.InvertibleProtocolSet, prespecializedReads ++ (bytesTo 100 102 ∷ []))
+      ∷ (Key.block 0 BlockKind.DefaultOverrideTable, overridesReads)
+      ∷ (Key.entry 0 EntryKind.prespecializations 1, prespecializedReads ++ (bytesTo 84 88 ∷ bytesTo 88 92 ∷ []))
+      ∷ (Key.entry 0 EntryKind.defaultOverrides 1, overridesReads ++ (bytesTo 108 116 ∷ bytesTo 116 124 ∷ []))
+      ∷ [])
+  -- what they say
+  pub says : Table told
+      ((Key.body 0, some (Answer.body (ofClass 0 (fixed 2 13) 3 0 10)))
+      ∷ (Key.block 0 BlockKind.Generic, some (Answer.block (genericAt 0x1030)))
+      ∷ (Key.block 0 BlockKind.Prespecializations, some (Answer.block (prespecializationsFrom 2 0x1054)))
+      ∷ (Key.block 0 BlockKind.InvertibleProtocolSet, some (Answer.block (invertibleSet 5 2)))
+      ∷ (Key.block 0 BlockKind.DefaultOverrideTable, some (Answer.block (defaultOverridesFrom 2 0x106c)))
+      ∷ (Key.entry 0 EntryKind.prespecializations 1, some (Answer.entry (record { address = 0x1058; words = 0x1110 ∷ [] })))
+      ∷ (Key.entry 0 EntryKind.defaultOverrides 1, some (Answer.entry (record { address = 0x1074; words = 0x1100 ∷ 0x1110 ∷ [] })))
+      -- what it does not have: a third entry, a vtable, singleton records (bit 3 of its type flags is the prespecializations'), offsets, which are a struct's
+      ∷ (Key.entry 0 EntryKind.prespecializations 2, none)
+      ∷ (Key.block 0 BlockKind.VTable, none)
+      ∷ (Key.initialization 0, none)
+      ∷ (Key.pointer 0, none)
+      ∷ (Key.offsets 0 0x1000, none)
+      ∷ [])
+  -- a cut where an entry's last range ends keeps it, and one a byte before does not
+  pub cuts : Table (cutTo image segments sections)
+      (((92, Key.entry 0 EntryKind.prespecializations 1), told (Key.entry 0 EntryKind.prespecializations 1))
+      ∷ ((91, Key.entry 0 EntryKind.prespecializations 1), none)
+      ∷ ((123, Key.entry 0 EntryKind.defaultOverrides 1), none)
+      ∷ [])
 
 pub ash-worked : AshWorked
 unfolding run path bind bytesPlace within textOffset extent segmentsOf fileOffset decides inFile table following goesOn textAt textLength untilNul unsignedIn signedIn littleAt signedAt bytesAt littleEndian twosComplement relativeAddress relativePointer descriptor rowName slotRow mapReads item classBody bodyBytes body slotBody genericSize setBits rowAt below blockAt recordAt endAt passed reached blockIn block slotBlock slotInit slotPointer vector fieldOffsets slotOffsets entryAt upTo entry entryOfSlot kindOf
-ash-worked =
-    record {
-      generic = refl;
-      prespecializations = refl;
-      invertible = refl;
-      default-overrides = refl;
-      prespecialization-1 = refl;
-      default-override-1 = refl;
-      says-body = refl;
-      says-generic = refl;
-      says-prespecializations = refl;
-      says-invertible = refl;
-      says-default-overrides = refl;
-      says-prespecialization-1 = refl;
-      no-prespecialization-2 = refl;
-      says-default-override-1 = refl;
-      no-vtable = refl;
-      no-initialization = refl;
-      no-pointer = refl;
-      no-offsets = refl;
-      cut-92 = refl;
-      cut-91 = refl;
-      cut-123 = refl;
-    }
+ash-worked = record { reads = refl; says = refl; cuts = refl }

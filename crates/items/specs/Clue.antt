@@ -4,7 +4,6 @@ use native.Mathlib.Omega.{arith}
 use mathlib.Core.Path.{_≡_, refl}
 use mathlib.Core.Logic.{inl, inr, ⊎-elim}
 use mathlib.Core.List.{List, [], _∷_, _++_}
-use mathlib.Core.Bool.{true, false}
 use mathlib.Core.Option.{Option, some, none}
 use lib.ListN.{take}
 use Rattle.utf8.specs.Table.{table}
@@ -14,12 +13,13 @@ use Rattle.util.specs.LittleEndian.{littleEndian, bytesAt, littleAt, twosComple
 use Rattle.util.specs.Pointer.{relativePointer, relativeAddress}
 use Rattle.segment.specs.Segments.{segmentsOf, fileOffset, decides, inFile}
 use Rattle.util.specs.Cstr.{place, textAt}
-use Rattle.runtime.specs.Reads.{within, bytesPlace, textOffset, run, extent, path, bind, All, Clear}
+use Rattle.runtime.specs.Reads.{within, bytesPlace, textOffset, run, extent, Range, path, bind, All, Clear}
 use Rattle.typedescriptor.specs.Row.{rowName, descriptor}
 use Rattle.typedescriptor.specs.Slots.{slotRow}
 use Rattle.items.specs.Keys.{Sections, Key, Answer}
 use Rattle.items.specs.Items.{mapReads, item}
 use Rattle.items.specs.Texts.{NameKey, descriptorName, slotNameAddress, nameOf, ClearOf}
+use Rattle.items.specs.Worked.{Table, laid, oneSlot, bytesTo, textTo, readBy, toldBy}
 
 -- the u32 17, 0, 20, 0, 0, 0, 0
 abbrev head : List ℕ
@@ -34,53 +34,50 @@ abbrev pub broken : List ℕ
 broken = head ++ (67 ∷ 0xc0 ∷ 0x80 ∷ 0 ∷ [])
 
 abbrev pub clueSegments : List ℕ
-clueSegments = 0x1000 ∷ 33 ∷ 0 ∷ 33 ∷ []
+clueSegments = laid 33
 
--- types at 0x2000: one slot, whose offset is -0x1000; no fields
 abbrev pub clueSections : Sections
-clueSections = record { types = 0 ∷ 0xf0 ∷ 0xff ∷ 0xff ∷ []; typesStart = 0x2000; fields = []; fieldsStart = 0 }
+clueSections = oneSlot 0
 
 abbrev told : List ℕ → Option Answer
-told i = run i clueSegments (item clueSections (Key.row 0))
+told i = toldBy i clueSegments clueSections (Key.row 0)
+
+-- what is read of it, whole
+abbrev rowReads : List Range
+rowReads = readBy clueImage clueSegments clueSections (Key.row 0)
 
 -- a struct at 0x1000 whose name has these bytes, at offset 28
 abbrev named : List ℕ → ℕ → Option Answer
 named t n = some (Answer.row (record { address = 0x1000; flags = 17; parent = 0; name = place 28 n; nameBytes = t }))
 
 pub record ClueWorked : Type 0 where
-  pub whole : told clueImage ≡ named (letters "Clue") 4
   -- 20 bytes, and five of the name with its NUL
-  pub reads : path clueImage clueSegments (item clueSections (Key.row 0))
-      ≡ record { from = 0; to = 20; isText = false } ∷ (record { from = 28; to = 33; isText = true } ∷ [])
-  -- cut before the name starts, the row is gone
-  pub cut-27 : told (take 27 clueImage) ≡ none
-  -- cut where the name starts, there is a row with an empty name; then one with a piece of the name; the whole name without its NUL is a
-  -- text too
-  pub cut-28 : told (take 28 clueImage) ≡ named [] 0
-  pub cut-30 : told (take 30 clueImage) ≡ named (letters "Cl") 2
-  pub cut-32 : told (take 32 clueImage) ≡ named (letters "Clue") 4
-  -- a name that is not well-formed makes no row, and a piece of it may: texts that are looked up and not found count too
-  pub ill-formed : told broken ≡ none
-  pub ill-formed-cut : told (take 29 broken) ≡ named (67 ∷ []) 1
+  pub reads : rowReads ≡ bytesTo 0 20 ∷ textTo 28 33 ∷ []
+  pub says : Table told
+      ((clueImage, named (letters "Clue") 4)
+      -- cut before the name starts, the row is gone
+      ∷ (take 27 clueImage, none)
+      -- cut where it starts, there is a row with an empty name; then one with a piece of the name; the whole name without its NUL is a text too
+      ∷ (take 28 clueImage, named [] 0)
+      ∷ (take 30 clueImage, named (letters "Cl") 2)
+      ∷ (take 32 clueImage, named (letters "Clue") 4)
+      -- a name that is not well-formed makes no row, and a piece of it may: texts that are looked up and not found count too
+      ∷ (broken, none)
+      ∷ (take 29 broken, named (67 ∷ []) 1)
+      ∷ [])
   -- the premise leaves out exactly the cuts from 28 to 32
-  pub clear-below : (c : ℕ) → c < 28 → All (Clear c) (path clueImage clueSegments (item clueSections (Key.row 0)))
-  pub clear-above : (c : ℕ) → 33 ≤ c → All (Clear c) (path clueImage clueSegments (item clueSections (Key.row 0)))
-  pub not-clear : (c : ℕ) → 28 ≤ c → c < 33 → All (Clear c) (path clueImage clueSegments (item clueSections (Key.row 0))) → ⊥
-  -- the same in terms of the name's address
+  pub clear-below : (c : ℕ) → c < 28 → All (Clear c) rowReads
+  pub clear-above : (c : ℕ) → 33 ≤ c → All (Clear c) rowReads
+  pub not-clear : (c : ℕ) → 28 ≤ c → c < 33 → All (Clear c) rowReads → ⊥
+  -- by the name's address as well
   pub name-not-clear : (c : ℕ) → 28 ≤ c → c < 33 → ClearOf clueImage clueSegments clueSections c (NameKey.descriptor 0) → ⊥
 
 pub clue-worked : ClueWorked
 unfolding run path bind bytesPlace within textOffset extent segmentsOf fileOffset decides inFile table following goesOn textAt textLength untilNul unsignedIn signedIn littleAt signedAt bytesAt littleEndian twosComplement relativeAddress relativePointer descriptor rowName slotRow descriptorName slotNameAddress nameOf mapReads item
 clue-worked =
     record {
-      whole = refl;
       reads = refl;
-      cut-27 = refl;
-      cut-28 = refl;
-      cut-30 = refl;
-      cut-32 = refl;
-      ill-formed = refl;
-      ill-formed-cut = refl;
+      says = refl;
       clear-below = λ c h. ((λ t. absurd (let z : _≡_ {A = ℕ} 0 1 = cc in omega arith)), ((λ t. inl (omega arith)), tt));
       clear-above = λ c h. ((λ t. absurd (let z : _≡_ {A = ℕ} 0 1 = cc in omega arith)), ((λ t. inr (omega arith)), tt));
       not-clear = λ c h g w. ⊎-elim (λ l. omega arith) (λ l. omega arith) (w .1 .0 refl);

@@ -34,9 +34,7 @@ use Rattle.items.specs.ClearLaws.{nowhere, there, asked}
 use Rattle.items.specs.PremiseLaws.{no-slot-name}
 use Rattle.items.specs.TextsLaws.{no-item}
 use Rattle.items.specs.ListedLaws.{no-slot, no-row, no-record}
-
-abbrev word : ℕ → List ℕ
-word n = n ∷ 0 ∷ 0 ∷ 0 ∷ []
+use Rattle.items.specs.Worked.{word, laid, oneSlot, toldBy}
 
 -- each line from the offset that it names
 abbrev pub elderImage : List ℕ
@@ -50,16 +48,11 @@ elderImage =
     -- 48: `Su` and a NUL
     ++ (letters "Su" ++ 0 ∷ []))))))))))))
 
--- laid at 0x1000
 abbrev pub elderSegments : List ℕ
-elderSegments = 0x1000 ∷ 51 ∷ 0 ∷ 51 ∷ []
+elderSegments = laid 51
 
--- types at 0x2000: one slot, whose offset is 0x1004 - 0x2000; no fields
 abbrev pub elderSections : Sections
-elderSections = record { types = 0x04 ∷ 0xf0 ∷ 0xff ∷ 0xff ∷ []; typesStart = 0x2000; fields = []; fieldsStart = 0 }
-
-abbrev told : List ℕ → Option Answer
-told i = run i elderSegments (item elderSections (Key.body 0))
+elderSections = oneSlot 4
 
 -- the superclass's name, with no string section
 abbrev superclass : List ℕ → Option Beside
@@ -70,14 +63,14 @@ abbrev named : List ℕ → ℕ → Option Beside
 named t n = some (record { place = inImage (place 48 n); bytes = t })
 
 pub record ElderWorked : Type 0 where
-  pub whole-body : told elderImage ≡ some (Answer.body (ofClass 0x1030 (fixed 0 0) 0 0 0))
+  pub whole-body : toldBy elderImage elderSegments elderSections (Key.body 0) ≡ some (Answer.body (ofClass 0x1030 (fixed 0 0) 0 0 0))
   pub whole-name : superclass elderImage ≡ named (letters "Su") 2
   -- the cut to 49 does not fall into the name of a descriptor, a context or a field record
   pub descriptors : (i : ℕ) → ClearOf elderImage elderSegments elderSections 49 (NameKey.descriptor i)
   pub contexts : (i k : ℕ) → ClearOf elderImage elderSegments elderSections 49 (NameKey.context i k)
   pub fields : (j k : ℕ) → ClearOf elderImage elderSegments elderSections 49 (NameKey.field j k)
-  -- the body is present, and so is a piece of the superclass's name, which the whole image does not have
-  pub cut-body : told (take 49 elderImage) ≡ told elderImage
+  -- the body is there, and a piece of the superclass's name, which the whole image does not tell
+  pub cut-body : toldBy (take 49 elderImage) elderSegments elderSections (Key.body 0) ≡ toldBy elderImage elderSegments elderSections (Key.body 0)
   pub cut-name : superclass (take 49 elderImage) ≡ named (83 ∷ []) 1
   -- the premise for the name itself leaves out the cuts from 48 to 50, and no others
   pub below : (c : ℕ) → c < 48 → ClearOf elderImage elderSegments elderSections c (NameKey.superclass 0)

@@ -2,11 +2,9 @@
 -- module. Each item's path and what it says are here as numbers, worked out by hand from docs/SPECIFICATION.md (offset + 0x1000 is the
 -- address), and are computed from the definitions.
 use Prim.Native.Nat.{ℕ}
-use mathlib.Core.Path.{_≡_, refl}
+use mathlib.Core.Path.{refl}
 use mathlib.Core.List.{List, [], _∷_, _++_}
-use mathlib.Core.Bool.{true, false}
 use mathlib.Core.Option.{Option, some, none}
-use lib.ListN.{take}
 use Rattle.utf8.specs.Table.{table}
 use Rattle.utf8.specs.Text.{following, goesOn, untilNul, textLength}
 use Rattle.util.specs.Letters.{letters}
@@ -35,10 +33,7 @@ use Rattle.parent.specs.Context.{headerIn, header}
 use Rattle.parent.specs.Chain.{headerAt}
 use Rattle.items.specs.Keys.{Sections, Key, Answer}
 use Rattle.items.specs.Items.{mapReads, contextOfSlot, item}
-
--- a u32 of one byte
-abbrev word : ℕ → List ℕ
-word n = n ∷ 0 ∷ 0 ∷ 0 ∷ []
+use Rattle.items.specs.Worked.{Table, word, laid, oneSlot, bytesTo, rowReads, readBy, toldBy, cutTo}
 
 -- the fields section is a part of the image: 48 bytes from 72 on
 abbrev fieldBytes : List ℕ
@@ -75,28 +70,17 @@ elmImage =
     -- 144: `Park`; 149: `ivy`, which no name leads to; 153: `age`; 157: `id`; 160: `Si`, the name of a type; each with a NUL
     ++ letters "Park" ++ 0 ∷ letters "ivy" ++ 0 ∷ letters "age" ++ 0 ∷ letters "id" ++ 0 ∷ letters "Si" ++ 0 ∷ []
 
--- laid at 0x1000
 abbrev pub elmSegments : List ℕ
-elmSegments = 0x1000 ∷ 163 ∷ 0 ∷ 163 ∷ []
+elmSegments = laid 163
 
--- types at 0x2000: one slot, whose offset is 0x1004 - 0x2000; fields at 0x1048
+-- one slot, which leads to 0x1004; fields at 0x1048
 abbrev pub elmSections : Sections
-elmSections = record { types = 0x04 ∷ 0xf0 ∷ 0xff ∷ 0xff ∷ []; typesStart = 0x2000; fields = fieldBytes; fieldsStart = 0x1048 }
+elmSections = record { types = oneSlot 4 .types; typesStart = 0x2000; fields = fieldBytes; fieldsStart = 0x1048 }
 
-abbrev reads : Key → List Range
-reads k = path elmImage elmSegments (item elmSections k)
+abbrev told : Key → Option Answer
+told = toldBy elmImage elmSegments elmSections
 
-abbrev told : List ℕ → Key → Option Answer
-told i k = run i elmSegments (item elmSections k)
-
--- bytes from an offset up to another
-abbrev bytesTo : ℕ → ℕ → Range
-bytesTo o e = record { from = o; to = e; isText = false }
-
--- the descriptor's 20 bytes, and the name with its NUL; then the body's 8
-abbrev rowReads : List Range
-rowReads = bytesTo 4 24 ∷ record { from = 0; to = 4; isText = true } ∷ []
-
+-- the row's, and the body's 8 bytes
 abbrev bodyReads : List Range
 bodyReads = rowReads ++ (bytesTo 24 32 ∷ [])
 
@@ -108,80 +92,51 @@ abbrev pointerAt : ℕ → Block
 pointerAt a = record { kind = BlockKind.SingletonMetadataPointer; body = BlockBody.At a }
 
 pub record ElmWorked : Type 0 where
-  pub row : reads (Key.row 0) ≡ rowReads
-  pub body : reads (Key.body 0) ≡ bodyReads
-  -- two blocks without a header: there is nothing to read, neither for the block itself nor for the one before
-  pub block-initialization : reads (Key.block 0 BlockKind.SingletonMetadataInit) ≡ bodyReads
-  pub block-pointer : reads (Key.block 0 BlockKind.SingletonMetadataPointer) ≡ bodyReads
-  -- their records: 12 bytes, and 4
-  pub initialization : reads (Key.initialization 0) ≡ bodyReads ++ (bytesTo 32 44 ∷ [])
-  pub pointer : reads (Key.pointer 0) ≡ bodyReads ++ (bytesTo 44 48 ∷ [])
-  -- the vector of metadata at 0x1030: two numbers of four bytes, two words of 8 after the start
-  pub offsets : reads (Key.offsets 0 0x1030) ≡ bodyReads ++ (bytesTo 64 72 ∷ [])
-  pub context-1 : reads (Key.context 0 1) ≡ rowReads ++ (bytesTo 120 128 ∷ bytesTo 132 140 ∷ [])
-  -- a descriptor reads nothing of the image; a record reads the 12 bytes of each record up to it, 16 bytes from one to the next
-  pub field-descriptor : reads (Key.fieldDescriptor 0) ≡ []
-  pub field-record-1 : reads (Key.fieldRecord 0 1) ≡ bytesTo 88 100 ∷ bytesTo 104 116 ∷ []
+  pub reads : Table (readBy elmImage elmSegments elmSections)
+      ((Key.row 0, rowReads)
+      ∷ (Key.body 0, bodyReads)
+      -- two blocks without a header: there is nothing to read, neither of their own nor of the one before
+      ∷ (Key.block 0 BlockKind.SingletonMetadataInit, bodyReads)
+      ∷ (Key.block 0 BlockKind.SingletonMetadataPointer, bodyReads)
+      -- the records that they tell of: 12 bytes, and 4
+      ∷ (Key.initialization 0, bodyReads ++ (bytesTo 32 44 ∷ []))
+      ∷ (Key.pointer 0, bodyReads ++ (bytesTo 44 48 ∷ []))
+      -- the vector of metadata at 0x1030: two numbers of four bytes, two words of 8 behind it
+      ∷ (Key.offsets 0 0x1030, bodyReads ++ (bytesTo 64 72 ∷ []))
+      ∷ (Key.context 0 1, rowReads ++ (bytesTo 120 128 ∷ bytesTo 132 140 ∷ []))
+      -- a descriptor reads nothing of the image; a record the 12 bytes of each one up to it, 16 from one to the next
+      ∷ (Key.fieldDescriptor 0, [])
+      ∷ (Key.fieldRecord 0 1, bytesTo 88 100 ∷ bytesTo 104 116 ∷ [])
+      ∷ [])
   -- what they say; nothing past the last
-  pub says-row : told elmImage (Key.row 0) ≡ some (Answer.row (record { address = 0x1004; flags = 0x90011; parent = 0x1078; name = place 0 3; nameBytes = letters "Elm" }))
-  pub says-body : told elmImage (Key.body 0) ≡ some (Answer.body (ofStruct 2 2))
-  pub says-block-initialization : told elmImage (Key.block 0 BlockKind.SingletonMetadataInit) ≡ some (Answer.block (initializationAt 0x1020))
-  pub says-block-pointer : told elmImage (Key.block 0 BlockKind.SingletonMetadataPointer) ≡ some (Answer.block (pointerAt 0x102c))
-  pub says-initialization : told elmImage (Key.initialization 0) ≡ some (Answer.initialization (record { cache = 0; incomplete = 0x1030; completion = 0x1100 }))
-  pub says-pointer : told elmImage (Key.pointer 0) ≡ some (Answer.pointer 0x1030)
-  pub says-offsets : told elmImage (Key.offsets 0 0x1030) ≡ some (Answer.offsets (0 ∷ 8 ∷ []))
-  pub says-context-0 : told elmImage (Key.context 0 0) ≡ some (Answer.context (record { address = 0x1078; flags = 2; parent = 0x1084 }))
-  pub says-context-1 : told elmImage (Key.context 0 1) ≡ some (Answer.context (record { address = 0x1084; flags = 0; parent = 0 }))
-  pub no-context-2 : told elmImage (Key.context 0 2) ≡ none
-  pub says-field-descriptor : told elmImage (Key.fieldDescriptor 0)
-      ≡ some (Answer.fieldDescriptor (record { address = 0x1048; «mangled_type_name_va» = 0; «superclass_va» = 0; kind = FieldDescriptorKind.Struct; «field_record_size» = 16; «num_fields» = 2 }))
-  pub no-field-descriptor-1 : told elmImage (Key.fieldDescriptor 1) ≡ none
-  pub says-field-record-1 : told elmImage (Key.fieldRecord 0 1) ≡ some (Answer.fieldRecord (record { address = 0x1068; words = 2 ∷ 0x10a0 ∷ 0x109d ∷ [] }))
-  pub no-field-record-2 : told elmImage (Key.fieldRecord 0 2) ≡ none
-  -- each ends where its last range does: a cut there keeps it, and a cut one byte before does not
-  pub cut-44 : told (take 44 elmImage) (Key.initialization 0) ≡ told elmImage (Key.initialization 0)
-  pub cut-43 : told (take 43 elmImage) (Key.initialization 0) ≡ none
-  pub cut-48 : told (take 48 elmImage) (Key.pointer 0) ≡ told elmImage (Key.pointer 0)
-  pub cut-47 : told (take 47 elmImage) (Key.pointer 0) ≡ none
-  pub cut-72 : told (take 72 elmImage) (Key.offsets 0 0x1030) ≡ told elmImage (Key.offsets 0 0x1030)
-  pub cut-71 : told (take 71 elmImage) (Key.offsets 0 0x1030) ≡ none
-  pub cut-116 : told (take 116 elmImage) (Key.fieldRecord 0 1) ≡ told elmImage (Key.fieldRecord 0 1)
-  pub cut-115 : told (take 115 elmImage) (Key.fieldRecord 0 1) ≡ none
+  pub says : Table told
+      ((Key.row 0, some (Answer.row (record { address = 0x1004; flags = 0x90011; parent = 0x1078; name = place 0 3; nameBytes = letters "Elm" })))
+      ∷ (Key.body 0, some (Answer.body (ofStruct 2 2)))
+      ∷ (Key.block 0 BlockKind.SingletonMetadataInit, some (Answer.block (initializationAt 0x1020)))
+      ∷ (Key.block 0 BlockKind.SingletonMetadataPointer, some (Answer.block (pointerAt 0x102c)))
+      ∷ (Key.initialization 0, some (Answer.initialization (record { cache = 0; incomplete = 0x1030; completion = 0x1100 })))
+      ∷ (Key.pointer 0, some (Answer.pointer 0x1030))
+      ∷ (Key.offsets 0 0x1030, some (Answer.offsets (0 ∷ 8 ∷ [])))
+      ∷ (Key.context 0 0, some (Answer.context (record { address = 0x1078; flags = 2; parent = 0x1084 })))
+      ∷ (Key.context 0 1, some (Answer.context (record { address = 0x1084; flags = 0; parent = 0 })))
+      ∷ (Key.context 0 2, none)
+      ∷ (Key.fieldDescriptor 0, some (Answer.fieldDescriptor (record { address = 0x1048; «mangled_type_name_va» = 0; «superclass_va» = 0; kind = FieldDescriptorKind.Struct; «field_record_size» = 16; «num_fields» = 2 })))
+      ∷ (Key.fieldDescriptor 1, none)
+      ∷ (Key.fieldRecord 0 1, some (Answer.fieldRecord (record { address = 0x1068; words = 2 ∷ 0x10a0 ∷ 0x109d ∷ [] })))
+      ∷ (Key.fieldRecord 0 2, none)
+      ∷ [])
+  -- each ends where its last range does: a cut there keeps it, and one a byte before does not
+  pub cuts : Table (cutTo elmImage elmSegments elmSections)
+      (((44, Key.initialization 0), told (Key.initialization 0))
+      ∷ ((43, Key.initialization 0), none)
+      ∷ ((48, Key.pointer 0), told (Key.pointer 0))
+      ∷ ((47, Key.pointer 0), none)
+      ∷ ((72, Key.offsets 0 0x1030), told (Key.offsets 0 0x1030))
+      ∷ ((71, Key.offsets 0 0x1030), none)
+      ∷ ((116, Key.fieldRecord 0 1), told (Key.fieldRecord 0 1))
+      ∷ ((115, Key.fieldRecord 0 1), none)
+      ∷ [])
 
 pub elm-worked : ElmWorked
 unfolding run path bind bytesPlace within textOffset extent segmentsOf fileOffset decides inFile table following goesOn textAt textLength untilNul unsignedIn signedIn littleAt signedAt bytesAt littleEndian twosComplement relativeAddress relativePointer descriptor rowName slotRow mapReads item structBody bodyBytes body slotBody rowAt below blockAt recordAt endAt passed reached blockIn block slotBlock slotTarget targets singletonInit singletonPointer slotInit slotPointer vector u32s fieldOffsets slotOffsets entryAt upTo entry fieldStep descriptorFrom descriptorAt descriptorRecord headerIn header headerAt contextOfSlot kindOf fieldKind
-elm-worked =
-    record {
-      row = refl;
-      body = refl;
-      block-initialization = refl;
-      block-pointer = refl;
-      initialization = refl;
-      pointer = refl;
-      offsets = refl;
-      context-1 = refl;
-      field-descriptor = refl;
-      field-record-1 = refl;
-      says-row = refl;
-      says-body = refl;
-      says-block-initialization = refl;
-      says-block-pointer = refl;
-      says-initialization = refl;
-      says-pointer = refl;
-      says-offsets = refl;
-      says-context-0 = refl;
-      says-context-1 = refl;
-      no-context-2 = refl;
-      says-field-descriptor = refl;
-      no-field-descriptor-1 = refl;
-      says-field-record-1 = refl;
-      no-field-record-2 = refl;
-      cut-44 = refl;
-      cut-43 = refl;
-      cut-48 = refl;
-      cut-47 = refl;
-      cut-72 = refl;
-      cut-71 = refl;
-      cut-116 = refl;
-      cut-115 = refl;
-    }
+elm-worked = record { reads = refl; says = refl; cuts = refl }

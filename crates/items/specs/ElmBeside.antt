@@ -35,6 +35,7 @@ use Rattle.items.specs.Beside.{toldAt, Beside, besideOf}
 use Rattle.items.specs.ClearLaws.{nowhere, there}
 use Rattle.items.specs.TextsLaws.{besideKey, no-item}
 use Rattle.items.specs.ListedLaws.{no-slot, no-row, no-record}
+use Rattle.items.specs.Worked.{Table}
 use Rattle.items.specs.Elm.{elmImage, elmSegments}
 use Rattle.items.specs.Elm as Elm
 use Rattle.items.specs.ElmTexts as ElmTexts
@@ -64,23 +65,27 @@ abbrev Clears : NameKey → Type 0
 Clears n = ClearOf elmImage elmSegments Elm.elmSections 152 n
 
 pub record ElmBesideWorked : Type 0 where
-  -- the names of a row, of a module (an anonymous context has none) and of two fields
-  pub row : told elmImage (NameKey.descriptor 0) ≡ text 0 3 (letters "Elm")
-  pub anonymous : told elmImage (NameKey.context 0 0) ≡ none
-  pub of-module : told elmImage (NameKey.context 0 1) ≡ text 144 4 (letters "Park")
-  pub field-0 : told elmImage (NameKey.field 0 0) ≡ text 153 3 (letters "age")
-  pub field-1 : told elmImage (NameKey.field 0 1) ≡ text 157 2 (letters "id")
-  -- and of other types; a struct has no superclass
-  pub field-type : told elmImage (NameKey.fieldType 0 1) ≡ text 160 2 (letters "Si")
-  pub descriptor-type : told elmImage (NameKey.descriptorType 0) ≡ text 0 3 (letters "Elm")
-  pub descriptor-superclass : told elmImage (NameKey.descriptorSuperclass 0) ≡ text 160 2 (letters "Si")
-  pub superclass : told elmImage (NameKey.superclass 0) ≡ none
-  -- cut to 152: the module's name is whole; the names of fields and types are lost, but the string section has one of them
-  pub cut-module : told (take 152 elmImage) (NameKey.context 0 1) ≡ told elmImage (NameKey.context 0 1)
-  pub cut-field-0 : told (take 152 elmImage) (NameKey.field 0 0) ≡ some (record { place = inStrings (place 0 3); bytes = letters "old" })
-  pub cut-field-1 : told (take 152 elmImage) (NameKey.field 0 1) ≡ none
-  pub cut-type : told (take 152 elmImage) (NameKey.fieldType 0 1) ≡ none
-  -- cut to 143: the module is present without its name, though its offset arrived; cut to 115: field 1 and its name are lost
+  pub says : Table (told elmImage)
+      -- the names of a row, of a module (an anonymous context has none) and of two fields
+      ((NameKey.descriptor 0, text 0 3 (letters "Elm"))
+      ∷ (NameKey.context 0 0, none)
+      ∷ (NameKey.context 0 1, text 144 4 (letters "Park"))
+      ∷ (NameKey.field 0 0, text 153 3 (letters "age"))
+      ∷ (NameKey.field 0 1, text 157 2 (letters "id"))
+      -- and of other types; a struct has no superclass
+      ∷ (NameKey.fieldType 0 1, text 160 2 (letters "Si"))
+      ∷ (NameKey.descriptorType 0, text 0 3 (letters "Elm"))
+      ∷ (NameKey.descriptorSuperclass 0, text 160 2 (letters "Si"))
+      ∷ (NameKey.superclass 0, none)
+      ∷ [])
+  -- cut to 152: the module's name is whole; the names of fields and types are lost, and one of them the string section has
+  pub cut-152 : Table (told (take 152 elmImage))
+      ((NameKey.context 0 1, told elmImage (NameKey.context 0 1))
+      ∷ (NameKey.field 0 0, some (record { place = inStrings (place 0 3); bytes = letters "old" }))
+      ∷ (NameKey.field 0 1, none)
+      ∷ (NameKey.fieldType 0 1, none)
+      ∷ [])
+  -- cut to 143: the module is there without its name, though its offset arrived; cut to 115: field 1 and its name are gone
   pub lost-name : told (take 143 elmImage) (NameKey.context 0 1) ≡ none
   pub lost-field : told (take 115 elmImage) (NameKey.field 0 1) ≡ none
   -- the premise over all texts
@@ -102,25 +107,7 @@ no-descriptors (suc j) = refl
 
 pub elm-beside-worked : ElmBesideWorked
 unfolding run bind bytesPlace within textOffset textPlace extent segmentsOf fileOffset decides inFile table following goesOn textAt partOf textLength untilNul unsignedIn signedIn littleAt signedAt bytesAt littleEndian twosComplement relativeAddress relativePointer descriptor rowName slotRow headerIn header name nameAt slotName contextName headerAt contextOfSlot kindOf contextNameAt structBody bodyBytes body slotBody entryAt upTo entry fieldStep descriptorFrom descriptorAt descriptorRecord fieldKind mapReads nameOf sectionText fieldName toldAt besideOf
-elm-beside-worked =
-    record {
-      row = refl;
-      anonymous = refl;
-      of-module = refl;
-      field-0 = refl;
-      field-1 = refl;
-      field-type = refl;
-      descriptor-type = refl;
-      descriptor-superclass = refl;
-      superclass = refl;
-      cut-module = refl;
-      cut-field-0 = refl;
-      cut-field-1 = refl;
-      cut-type = refl;
-      lost-name = refl;
-      lost-field = refl;
-      clear = all;
-    }
+elm-beside-worked = record { says = refl; cut-152 = refl; lost-name = refl; lost-field = refl; clear = all }
   where
     type-at : (k : ℕ) → run elmImage elmSegments (nameOf Elm.elmSections (NameKey.fieldType 0 k)) ≡ some 0x10a0 → Clears (NameKey.fieldType 0 k)
     type-at k e = there elmImage elmSegments Elm.elmSections 152 (NameKey.fieldType 0 k) 0x10a0 160 e refl (inl (omega arith))

@@ -5,6 +5,7 @@ use Prim.Native.Nat.{ℕ, zero, suc, _≤_, _<_}
 use native.Mathlib.Omega.{arith}
 use mathlib.Core.Path.{_≡_, refl}
 use mathlib.Core.Logic.{inl, inr, ⊎-elim}
+use mathlib.Core.List.{[], _∷_}
 use mathlib.Core.Bool.{Bool, true, false, cond}
 use mathlib.Core.Option.{Option, some, none}
 use lib.Dec.{ltb}
@@ -28,6 +29,7 @@ use Rattle.parent.specs.Chain.{contextsMost, headerAt}
 use Rattle.items.specs.Items.{mapReads, rowOfSlot, contextOfSlot}
 use Rattle.items.specs.Texts.{NameKey, descriptorName, slotNameAddress, contextNameAt, nameOf, ClearOf}
 use Rattle.items.specs.ClearLaws.{Outside, nowhere, there, asked}
+use Rattle.items.specs.Worked.{Table}
 use Rattle.items.specs.Elm.{elmImage, elmSegments, elmSections}
 
 -- the premise for one name, and where the name is looked up
@@ -90,10 +92,7 @@ ofField k = NameKey.field 0 k
 
 pub record ElmTextsWorked : Type 0 where
   -- `Elm`, `Park`, `age` and `id`, by their addresses
-  pub row-at : named ofRow ≡ some 0x1000
-  pub module-at : named ofModule ≡ some 0x1090
-  pub field-0-at : named (ofField 0) ≡ some 0x1099
-  pub field-1-at : named (ofField 1) ≡ some 0x109d
+  pub places : Table named ((ofRow, some 0x1000) ∷ (ofModule, some 0x1090) ∷ (ofField 0, some 0x1099) ∷ (ofField 1, some 0x109d) ∷ [])
   -- the cuts at which the names are clear: of all rows, of all contexts, of all records
   pub rows-clear : (c : ℕ) → 4 ≤ c → (i : ℕ) → Clears c (NameKey.descriptor i)
   pub contexts-clear : (c : ℕ) → Outside 144 149 c → (i k : ℕ) → Clears c (NameKey.context i k)
@@ -108,10 +107,7 @@ pub elm-texts-worked : ElmTextsWorked
 unfolding run bind bytesPlace within textOffset extent segmentsOf fileOffset decides inFile table following goesOn textAt textLength untilNul unsignedIn signedIn littleAt signedAt bytesAt littleEndian twosComplement relativeAddress relativePointer descriptor rowName slotRow descriptorName slotNameAddress headerIn header headerAt contextOfSlot kindOf contextNameAt entryAt upTo entry fieldStep descriptorFrom descriptorAt descriptorRecord fieldKind mapReads nameOf
 elm-texts-worked =
     record {
-      row-at = refl;
-      module-at = refl;
-      field-0-at = refl;
-      field-1-at = refl;
+      places = refl;
       rows-clear = rows;
       contexts-clear = contexts;
       fields-clear = fields;

@@ -17,3 +17,4 @@ pub mod PremiseLaws
 pub mod ProgramLaws
 pub mod Texts
 pub mod TextsLaws
+pub mod Worked

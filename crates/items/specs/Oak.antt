@@ -5,9 +5,7 @@ use native.Mathlib.Omega.{arith}
 use mathlib.Core.Path.{_≡_, refl}
 use mathlib.Core.Logic.{inr}
 use mathlib.Core.List.{List, [], _∷_, _++_}
-use mathlib.Core.Bool.{true, false}
 use mathlib.Core.Option.{Option, some, none}
-use lib.ListN.{take}
 use Rattle.utf8.specs.Table.{table}
 use Rattle.utf8.specs.Text.{following, goesOn, untilNul, textLength}
 use Rattle.util.specs.Letters.{letters}
@@ -29,10 +27,7 @@ use Rattle.parent.specs.Chain.{headerAt}
 use Rattle.items.specs.Keys.{Sections, EntryKind, Key, Answer}
 use Rattle.items.specs.Items.{mapReads, entryOfSlot, contextOfSlot, item}
 use Rattle.items.specs.CutLaws.{Claim}
-
--- a u32 of one byte
-abbrev word : ℕ → List ℕ
-word n = n ∷ 0 ∷ 0 ∷ 0 ∷ []
+use Rattle.items.specs.Worked.{Table, word, laid, oneSlot, bytesTo, rowReads, readBy, toldBy, cutTo}
 
 -- 113 bytes, each line from the offset that it names
 abbrev pub oakImage : List ℕ
@@ -54,74 +49,58 @@ oakImage =
     -- 108: `Wood` and a NUL
     ++ (letters "Wood" ++ 0 ∷ []))))))))))))))))))))))))))
 
--- laid at 0x1000
 abbrev pub oakSegments : List ℕ
-oakSegments = 0x1000 ∷ 113 ∷ 0 ∷ 113 ∷ []
+oakSegments = laid 113
 
--- types at 0x2000: one slot, whose offset is 0x1004 - 0x2000; no fields
 abbrev pub oakSections : Sections
-oakSections = record { types = 0x04 ∷ 0xf0 ∷ 0xff ∷ 0xff ∷ []; typesStart = 0x2000; fields = []; fieldsStart = 0 }
+oakSections = oneSlot 4
 
-abbrev reads : Key → List Range
-reads k = path oakImage oakSegments (item oakSections k)
+abbrev told : Key → Option Answer
+told = toldBy oakImage oakSegments oakSections
 
-abbrev told : List ℕ → Key → Option Answer
-told i k = run i oakSegments (item oakSections k)
-
--- bytes from an offset up to another
-abbrev bytesTo : ℕ → ℕ → Range
-bytesTo o e = record { from = o; to = e; isText = false }
-
--- the descriptor's 20 bytes, and the name with its NUL
-abbrev rowReads : List Range
-rowReads = bytesTo 4 24 ∷ record { from = 0; to = 4; isText = true } ∷ []
+-- the row's, and the body's 24 bytes
+abbrev bodyReads : List Range
+bodyReads = rowReads ++ (bytesTo 24 48 ∷ [])
 
 pub record OakWorked : Type 0 where
-  pub row : reads (Key.row 0) ≡ rowReads
-  -- the body's 24 bytes
-  pub body : reads (Key.body 0) ≡ rowReads ++ (bytesTo 24 48 ∷ [])
-  -- the vtable's own header; for the override table, the vtable's header and then its own
-  pub vtable : reads (Key.block 0 BlockKind.VTable) ≡ rowReads ++ (bytesTo 24 48 ∷ bytesTo 48 56 ∷ [])
-  pub overrides : reads (Key.block 0 BlockKind.OverrideTable) ≡ rowReads ++ (bytesTo 24 48 ∷ bytesTo 48 56 ∷ bytesTo 72 76 ∷ [])
-  -- method 1: its block's, and the bytes of methods 0 and 1
-  pub method-1 : reads (Key.entry 0 EntryKind.methods 1) ≡ rowReads ++ (bytesTo 24 48 ∷ bytesTo 48 56 ∷ bytesTo 56 64 ∷ bytesTo 64 72 ∷ [])
-  pub override-0 : reads (Key.entry 0 EntryKind.overrides 0) ≡ rowReads ++ (bytesTo 24 48 ∷ bytesTo 48 56 ∷ bytesTo 72 76 ∷ bytesTo 76 88 ∷ [])
-  -- context 1: the row's, and the 8 bytes of contexts 0 and 1
-  pub context-1 : reads (Key.context 0 1) ≡ rowReads ++ (bytesTo 88 96 ∷ bytesTo 96 104 ∷ [])
+  pub reads : Table (readBy oakImage oakSegments oakSections)
+      ((Key.row 0, rowReads)
+      ∷ (Key.body 0, bodyReads)
+      -- the vtable's own header; for the override table, the vtable's header and then its own
+      ∷ (Key.block 0 BlockKind.VTable, bodyReads ++ (bytesTo 48 56 ∷ []))
+      ∷ (Key.block 0 BlockKind.OverrideTable, bodyReads ++ (bytesTo 48 56 ∷ bytesTo 72 76 ∷ []))
+      -- method 1: its block's, and the bytes of methods 0 and 1
+      ∷ (Key.entry 0 EntryKind.methods 1, bodyReads ++ (bytesTo 48 56 ∷ bytesTo 56 64 ∷ bytesTo 64 72 ∷ []))
+      ∷ (Key.entry 0 EntryKind.overrides 0, bodyReads ++ (bytesTo 48 56 ∷ bytesTo 72 76 ∷ bytesTo 76 88 ∷ []))
+      -- context 1: the row's, and the 8 bytes of contexts 0 and 1
+      ∷ (Key.context 0 1, rowReads ++ (bytesTo 88 96 ∷ bytesTo 96 104 ∷ []))
+      ∷ [])
   -- what they say
-  pub says-vtable : told oakImage (Key.block 0 BlockKind.VTable) ≡ some (Answer.block (tableBlock BlockKind.VTable 0 2 0x1038))
-  pub says-overrides : told oakImage (Key.block 0 BlockKind.OverrideTable) ≡ some (Answer.block (tableBlock BlockKind.OverrideTable 0 1 0x104c))
-  pub says-method : told oakImage (Key.entry 0 EntryKind.methods 1) ≡ some (Answer.entry (record { address = 0x1040; words = 17 ∷ 0 ∷ [] }))
-  pub says-context : told oakImage (Key.context 0 1) ≡ some (Answer.context (record { address = 0x1060; flags = 0; parent = 0 }))
-  -- the name is the only text, and comes first
-  pub clear : (c : ℕ) → 4 ≤ c → All (Clear c) (reads (Key.row 0))
-  -- method 1 ends at 72: a cut there keeps it, and a cut one byte before does not; the claim says so of both; the override table's header
-  -- comes after it
-  pub cut-72 : told (take 72 oakImage) (Key.entry 0 EntryKind.methods 1) ≡ told oakImage (Key.entry 0 EntryKind.methods 1)
-  pub cut-71 : told (take 71 oakImage) (Key.entry 0 EntryKind.methods 1) ≡ none
+  pub says : Table told
+      ((Key.block 0 BlockKind.VTable, some (Answer.block (tableBlock BlockKind.VTable 0 2 0x1038)))
+      ∷ (Key.block 0 BlockKind.OverrideTable, some (Answer.block (tableBlock BlockKind.OverrideTable 0 1 0x104c)))
+      ∷ (Key.entry 0 EntryKind.methods 1, some (Answer.entry (record { address = 0x1040; words = 17 ∷ 0 ∷ [] })))
+      ∷ (Key.context 0 1, some (Answer.context (record { address = 0x1060; flags = 0; parent = 0 })))
+      ∷ [])
+  -- the name is the only text, and stands first
+  pub clear : (c : ℕ) → 4 ≤ c → All (Clear c) (readBy oakImage oakSegments oakSections (Key.row 0))
+  -- method 1 ends at 72: a cut there keeps it, and one a byte before does not; the claim says so of both; the override table's header is behind it
+  pub cuts : Table (cutTo oakImage oakSegments oakSections)
+      (((72, Key.entry 0 EntryKind.methods 1), told (Key.entry 0 EntryKind.methods 1))
+      ∷ ((71, Key.entry 0 EntryKind.methods 1), none)
+      ∷ ((75, Key.block 0 BlockKind.OverrideTable), none)
+      ∷ [])
   pub claim-72 : Claim oakImage oakSegments oakSections 72 (Key.entry 0 EntryKind.methods 1)
   pub claim-71 : Claim oakImage oakSegments oakSections 71 (Key.entry 0 EntryKind.methods 1)
-  pub cut-75 : told (take 75 oakImage) (Key.block 0 BlockKind.OverrideTable) ≡ none
 
 pub oak-worked : OakWorked
 unfolding run path bind bytesPlace within textOffset extent segmentsOf fileOffset decides inFile table following goesOn textAt textLength untilNul unsignedIn signedIn littleAt signedAt bytesAt littleEndian twosComplement relativeAddress relativePointer descriptor rowName slotRow mapReads item classBody bodyBytes body slotBody rowAt below blockAt recordAt endAt passed reached blockIn block slotBlock entryAt upTo entry entryOfSlot headerIn header headerAt contextOfSlot kindOf
 oak-worked =
     record {
-      row = refl;
-      body = refl;
-      vtable = refl;
-      overrides = refl;
-      method-1 = refl;
-      override-0 = refl;
-      context-1 = refl;
-      says-vtable = refl;
-      says-overrides = refl;
-      says-method = refl;
-      says-context = refl;
+      reads = refl;
+      says = refl;
       clear = λ c h. ((λ t. absurd (let z : _≡_ {A = ℕ} 0 1 = cc in omega arith)), ((λ t. inr (omega arith)), tt));
-      cut-72 = refl;
-      cut-71 = refl;
+      cuts = refl;
       claim-72 = refl;
       claim-71 = refl;
-      cut-75 = refl;
     }

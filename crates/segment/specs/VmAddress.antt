@@ -5,7 +5,6 @@ use mathlib.Core.List.{List, map}
 use mathlib.Core.Option.{Option, some, none}
 use Rattle.segment.specs.Segments.{Segment, fileOffset}
 use Rattle.segment.specs.declared.file_offset.VmAddress.{VmAddress}
-use Rattle.segment.specs.declared.file_offset.Turned.{Turned}
 
 -- offsets and addresses exchanged, and only what has both
 abbrev pub turned : Segment → Segment
@@ -18,7 +17,3 @@ vmAddress segments o = fileOffset (map turned segments) o
 abbrev pub addressOf : VmAddress → Option ℕ
 addressOf (VmAddress.At v) = some v
 addressOf VmAddress.Nothing = none
-
-abbrev pub turnedTo : Turned → Option (Option ℕ)
-turnedTo (Turned.Answer v) = some (addressOf v)
-turnedTo Turned.Next = none

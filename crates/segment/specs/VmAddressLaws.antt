@@ -6,19 +6,24 @@ use mathlib.Core.Path.{_≡_, refl, _∙_, ap}
 use mathlib.Core.List.{List, [], _∷_}
 use mathlib.Core.Option.{Option, some, none, Option·getD}
 use lib.ListN.{length, drop, length-drop}
-use Rattle.segment.specs.Segments.{Segment, segmentsOf, fileOffset, decides, inFile}
+use Rattle.segment.specs.Segments.{Segment, segmentsOf, fileOffset, decides, inFile, decided, offsetOf}
 use Rattle.segment.specs.SegmentsLaws.{wraps, below, above, no-bytes, held, past-file, offset-wraps, in-file, segmentAt, segments-step, segments-end}
-use Rattle.segment.specs.VmAddress.{turned, vmAddress, addressOf, turnedTo}
-use Rattle.segment.specs.declared.file_offset.VmAddress.{VmAddress}
-use Rattle.segment.specs.declared.file_offset.Turned.{Turned}
+use Rattle.segment.specs.VmAddress.{turned, vmAddress}
+use Rattle.segment.specs.declared.segment.FileOffset.{FileOffset}
+use Rattle.segment.specs.declared.segment.Lookup.{Lookup}
+
+-- what a segment says that is turned round by hand, its `m` bytes in both
+pub by-hand : (s : Segment) (o m : ℕ) (y : Option (Option ℕ)) → m ≡ min (s .vmsize) (s .filesize)
+    → y ≡ decides (record { vmaddr = s .fileoff; vmsize = m; fileoff = s .vmaddr; filesize = m }) o → y ≡ decides (turned s) o
+by-hand s o m y e d = rw e at d
 
 -- `x`, what the numbers from `i` on say, is what the segment there says, or what those after it say
 module _ (l : List ℕ) (i o : ℕ) (x : Option ℕ) (inv : x ≡ vmAddress (segmentsOf (drop i l)) o) where
-  pub turn-answer : (r : Turned) (v : VmAddress) → turnedTo r ≡ decides (turned (segmentAt l i)) o → r ≡ Turned.Answer v → i + 4 ≤ length l → addressOf v ≡ x
+  pub turn-answer : (r : Lookup) (a : FileOffset) (y : Option ℕ) → decided r ≡ decides (turned (segmentAt l i)) o → r ≡ Lookup.Answer a → y ≡ offsetOf a → i + 4 ≤ length l → y ≡ x
   unfolding vmAddress fileOffset
-  turn-answer r v e t h = rw (inv, segments-step l i o h, ← e, t)
+  turn-answer r a y e t v h = v ∙ rw (inv, segments-step l i o h, ← e, t)
 
-  pub turn-next : (r : Turned) → turnedTo r ≡ decides (turned (segmentAt l i)) o → r ≡ Turned.Next → i + 4 ≤ length l → x ≡ vmAddress (segmentsOf (drop (i + 4) l)) o
+  pub turn-next : (r : Lookup) → decided r ≡ decides (turned (segmentAt l i)) o → r ≡ Lookup.Next → i + 4 ≤ length l → x ≡ vmAddress (segmentsOf (drop (i + 4) l)) o
   unfolding vmAddress fileOffset
   turn-next r e t h = inv ∙ rw (segments-step l i o h, ← e, t)
 

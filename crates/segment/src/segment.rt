@@ -16,7 +16,7 @@ pub enum Lookup {
     Next,
 }
 
-fn look_up(vmaddr: u64, vmsize: u64, fileoff: u64, filesize: u64, address: u64) -> Lookup
+pub fn look_up(vmaddr: u64, vmsize: u64, fileoff: u64, filesize: u64, address: u64) -> Lookup
     ensures { λ r. ⌜ decided r ≡ decides (record { vmaddr = vmaddr; vmsize = vmsize; fileoff = fileoff; filesize = filesize }) address ⌝ }
 {
     if vmsize > u64::MAX - vmaddr {
@@ -92,7 +92,7 @@ impl Mapping {
     }
 }
 
-fn lower(a: u64, b: u64) -> u64
+pub fn lower(a: u64, b: u64) -> u64
     ensures { λ r. ⌜ r ≡ min a b ⌝ }
 {
     if a < b { a } else { b }

@@ -45,23 +45,22 @@ fn number(n: u64) {
     io::print_decimal(1, n);
 }
 
+// A line's first word, and how many segment numbers there are.
+fn head(word: &[u8], segments: &[u64]) {
+    io::write_all(1, word);
+    number(segments.len() as u64);
+}
+
 fn refused(refusal: Refusal) {
     io::write_all(1, b" refused");
     number(refusal::number(refusal));
 }
 
 fn try_row(image: &[u8], segments: &[u64]) {
-    match steps::next_row(
-        image,
-        segments,
-        b"\x00\xf0\xff\xff",
-        0x2000,
-        TypeIter::new(),
-    ) {
+    let types = b"\x00\xf0\xff\xff";
+    match steps::next_row(image, segments, types, 0x2000, TypeIter::new()) {
         NextRow::Row { slot, row, next } => number(row.address),
-        NextRow::End => {
-            io::write_all(1, b" end");
-        }
+        NextRow::End => end(),
         NextRow::Refused(refusal) => refused(refusal),
     }
 }
@@ -69,9 +68,7 @@ fn try_row(image: &[u8], segments: &[u64]) {
 fn try_context(image: &[u8], segments: &[u64]) {
     match steps::next_context(image, segments, ParentChain::starting_at(0x1000)) {
         NextContext::Context { context, next } => number(context.address),
-        NextContext::End => {
-            io::write_all(1, b" end");
-        }
+        NextContext::End => end(),
         NextContext::Refused(refusal) => refused(refusal),
     }
 }
@@ -87,16 +84,13 @@ fn try_line(image: &[u8], segments: &[u64]) {
         &mut line,
     ) {
         NextLine::Line { length, next } => number(length as u64),
-        NextLine::Done => {
-            io::write_all(1, b" end");
-        }
+        NextLine::Done => end(),
         NextLine::Refused(refusal) => refused(refusal),
     }
 }
 
 fn try_walks(image: &[u8], segments: &[u64]) {
-    io::write_all(1, b"walks");
-    number(segments.len() as u64);
+    head(b"walks", segments);
     try_row(image, segments);
     try_context(image, segments);
     try_line(image, segments);
@@ -233,8 +227,8 @@ fn try_singletons(image: &[u8], segments: &[u64]) {
     match steps::singleton_init(image, segments, 0x1000) {
         InitAnswer::Init(init) => match init {
             SingletonMetadataInit::At {
-                initialization_cache_va,
-                incomplete_metadata_va,
+                initialization_cache_va: _,
+                incomplete_metadata_va: _,
                 completion_function_va,
             } => number(completion_function_va),
             SingletonMetadataInit::Nothing => nothing(),
@@ -251,8 +245,7 @@ fn try_singletons(image: &[u8], segments: &[u64]) {
 }
 
 fn try_reads(image: &[u8], segments: &[u64]) {
-    io::write_all(1, b"reads");
-    number(segments.len() as u64);
+    head(b"reads", segments);
     try_body(image, segments);
     try_texts(image, segments);
     try_blocks(image, segments);
@@ -286,8 +279,7 @@ fn try_buffer(image: &[u8], segments: &[u64], parent: u64, size: usize, buffer: 
 }
 
 fn try_name(image: &[u8], segments: &[u64], parent: u64, size: usize) {
-    io::write_all(1, b"name");
-    number(segments.len() as u64);
+    head(b"name", segments);
     number(parent);
     number(size as u64);
     let mut buffer = [45u8; 8];

@@ -42,7 +42,9 @@ fn number_field(n: u64) {
     io::print_hex(1, n, 1);
 }
 
-fn newline() {
+// The rest of a line that ends with a number.
+fn last_field(n: u64) {
+    number_field(n);
     io::write_all(1, b"\n");
 }
 
@@ -54,14 +56,12 @@ fn nothing() {
 // The rest of a line that ends with a place and a length.
 fn place_end(place: usize, length: usize) {
     number_field(place as u64);
-    number_field(length as u64);
-    newline();
+    last_field(length as u64);
 }
 
 fn refused(refusal: Refusal) {
     io::write_all(1, b"refused");
-    number_field(refusal::number(refusal));
-    newline();
+    last_field(refusal::number(refusal));
 }
 
 fn byte_digits(b: u8) {
@@ -80,7 +80,7 @@ fn name_line(name: &[u8]) {
         byte_digits(name[i]);
         i += 1;
     }
-    newline();
+    io::write_all(1, b"\n");
 }
 
 // The rows.
@@ -133,8 +133,7 @@ fn shown(depth: u64, context: ParentContext) {
 
 fn depth_line(depth: u64) {
     io::write_all(1, b"depth");
-    number_field(depth);
-    newline();
+    last_field(depth);
 }
 
 // The contexts from a row's parent on. A walk gives at most 256, and then its end.
@@ -180,8 +179,7 @@ fn row_lines(image: &[u8], segments: &[u64], slot: usize, row: Row) {
 
 fn end_line(rows: u64) {
     io::write_all(1, b"end");
-    number_field(rows);
-    newline();
+    last_field(rows);
 }
 
 // The rows of a types section of fewer than 4,096 slots.
@@ -215,10 +213,7 @@ fn offset_line(segments: &[u64], address: u64) {
     io::write_all(1, b"offset");
     number_field(address);
     match runtime::vm_to_file_offset(segments, address) {
-        FileOffset::At(n) => {
-            number_field(n);
-            newline();
-        }
+        FileOffset::At(n) => last_field(n),
         FileOffset::Nothing => nothing(),
     }
 }
@@ -270,61 +265,39 @@ fn all_addresses(image: &[u8], segments: &[u64], strings: &[u8], section: u64, a
 
 // From a line to its answers.
 
-// The line's two lists, and all its answers.
-fn run_lists(
-    line: &[u8],
-    image: &[u8],
-    types_va: u64,
-    types: &[u8],
-    strings_va: u64,
-    strings: &[u8],
-) {
-    let mut segments = [0u64; 64];
-    let mut addresses = [0u64; 64];
-    let Count::Of(numbers) = test_lines::parse_list(line, 6, &mut segments) else {
-        bad_line();
-        return;
-    };
-    let next = std::num::wrapping_add_usize(7, numbers);
-    let Count::Of(given) = test_lines::parse_list(line, next, &mut addresses) else {
-        bad_line();
-        return;
-    };
-    let list = test_lines::first(&segments, numbers);
-    all_rows(image, list, types, types_va);
-    all_addresses(
-        image,
-        list,
-        strings,
-        strings_va,
-        test_lines::first(&addresses, given),
-    );
+// How many bytes or numbers a field has; 0, and a line that stands in no expected answer, where it cannot be read.
+fn count(read: Count) -> usize {
+    match read {
+        Count::Of(n) => n,
+        Count::Bad => {
+            bad_line();
+            0
+        }
+    }
 }
 
-// The line's three pieces of bytes.
+// The line's three pieces of bytes and two lists, and all its answers.
 fn run_line(line: &[u8], types_va: u64, strings_va: u64) {
     let mut image = [0u8; 4096];
     let mut types = [0u8; 1024];
     let mut strings = [0u8; 1024];
-    let Count::Of(bytes) = test_lines::parse_bytes(test_lines::field(line, 1), &mut image) else {
-        bad_line();
-        return;
-    };
-    let Count::Of(slots) = test_lines::parse_bytes(test_lines::field(line, 3), &mut types) else {
-        bad_line();
-        return;
-    };
-    let Count::Of(names) = test_lines::parse_bytes(test_lines::field(line, 5), &mut strings) else {
-        bad_line();
-        return;
-    };
-    run_lists(
-        line,
-        util::part(&image, 0, bytes),
-        types_va,
-        util::part(&types, 0, slots),
-        strings_va,
+    let mut segments = [0u64; 64];
+    let mut addresses = [0u64; 64];
+    let bytes = count(test_lines::parse_bytes(test_lines::field(line, 1), &mut image));
+    let slots = count(test_lines::parse_bytes(test_lines::field(line, 3), &mut types));
+    let names = count(test_lines::parse_bytes(test_lines::field(line, 5), &mut strings));
+    let numbers = count(test_lines::parse_list(line, 6, &mut segments));
+    let next = std::num::wrapping_add_usize(7, numbers);
+    let given = count(test_lines::parse_list(line, next, &mut addresses));
+    let whole = util::part(&image, 0, bytes);
+    let list = test_lines::first(&segments, numbers);
+    all_rows(whole, list, util::part(&types, 0, slots), types_va);
+    all_addresses(
+        whole,
+        list,
         util::part(&strings, 0, names),
+        strings_va,
+        test_lines::first(&addresses, given),
     );
 }
 

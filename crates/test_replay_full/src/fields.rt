@@ -19,18 +19,10 @@ use field::FieldRecordStep;
 use field::FieldStep;
 use runtime::FieldName;
 
+// The kind's number. The call for C has 256 before the number of a kind that has no name.
 fn kind_number(kind: FieldDescriptorKind) -> u64 {
-    match kind {
-        FieldDescriptorKind::Struct => 0,
-        FieldDescriptorKind::Class => 1,
-        FieldDescriptorKind::Enum => 2,
-        FieldDescriptorKind::MultiPayloadEnum => 3,
-        FieldDescriptorKind::Protocol => 4,
-        FieldDescriptorKind::ClassProtocol => 5,
-        FieldDescriptorKind::ObjCProtocol => 6,
-        FieldDescriptorKind::ObjCClass => 7,
-        FieldDescriptorKind::Other(n) => n as u64,
-    }
+    let number = c_numbers::field_kind_number(kind);
+    if number < 256 { number } else { number - 256 }
 }
 
 fn unreadable() {

@@ -116,59 +116,38 @@ fn bad_line() {
     word(b"bad line\n");
 }
 
-// The line's sections, and all its answers.
-fn run_sections(
-    line: &[u8],
-    image: &[u8],
-    segments: &[u64],
-    types_va: u64,
-    fields_va: u64,
-    strings_va: u64,
-) {
+// How many bytes or numbers a field has; 0, and a bad line, where it cannot be read.
+fn count(read: Count) -> usize {
+    match read {
+        Count::Of(n) => n,
+        Count::Bad => {
+            bad_line();
+            0
+        }
+    }
+}
+
+// The line's image, segments and sections, and all its answers.
+fn run_line(line: &[u8], types_va: u64, fields_va: u64, strings_va: u64) {
+    let mut image = [0u8; 1024];
     let mut types = [0u8; 256];
     let mut fields = [0u8; 512];
     let mut strings = [0u8; 256];
-    let Count::Of(slots) = test_lines::parse_bytes(test_lines::field(line, 3), &mut types) else {
-        bad_line();
-        return;
-    };
-    let Count::Of(headers) = test_lines::parse_bytes(test_lines::field(line, 5), &mut fields) else {
-        bad_line();
-        return;
-    };
-    let Count::Of(names) = test_lines::parse_bytes(test_lines::field(line, 7), &mut strings) else {
-        bad_line();
-        return;
-    };
-    all_rows(image, segments, util::part(&types, 0, slots), types_va);
+    let mut segments = [0u64; 64];
+    let bytes = count(test_lines::parse_bytes(test_lines::field(line, 1), &mut image));
+    let slots = count(test_lines::parse_bytes(test_lines::field(line, 3), &mut types));
+    let headers = count(test_lines::parse_bytes(test_lines::field(line, 5), &mut fields));
+    let names = count(test_lines::parse_bytes(test_lines::field(line, 7), &mut strings));
+    let numbers = count(test_lines::parse_list(line, 8, &mut segments));
+    let whole = util::part(&image, 0, bytes);
+    let list = test_lines::first(&segments, numbers);
+    all_rows(whole, list, util::part(&types, 0, slots), types_va);
     all_fields(
-        image,
-        segments,
+        whole,
+        list,
         util::part(&fields, 0, headers),
         fields_va,
         util::part(&strings, 0, names),
-        strings_va,
-    );
-}
-
-// The line's image and segments.
-fn run_line(line: &[u8], types_va: u64, fields_va: u64, strings_va: u64) {
-    let mut image = [0u8; 1024];
-    let mut segments = [0u64; 64];
-    let Count::Of(bytes) = test_lines::parse_bytes(test_lines::field(line, 1), &mut image) else {
-        bad_line();
-        return;
-    };
-    let Count::Of(numbers) = test_lines::parse_list(line, 8, &mut segments) else {
-        bad_line();
-        return;
-    };
-    run_sections(
-        line,
-        util::part(&image, 0, bytes),
-        test_lines::first(&segments, numbers),
-        types_va,
-        fields_va,
         strings_va,
     );
 }

@@ -18,6 +18,7 @@ use crate::word;
 use classtrailers::Block;
 use classtrailers::BlockBody;
 use classtrailers::BlockKind;
+use classtrailers::KindRead;
 use field_offsets::FieldOffset;
 use field_offsets::FieldOffsets;
 use steps::BlockAnswer;
@@ -227,30 +228,14 @@ fn kind_line(image: &[u8], segments: &[u64], row: Row, body: TypeBody, kind: Blo
     }
 }
 
+// The block of each of the 11 kinds.
 fn kind_lines(image: &[u8], segments: &[u64], row: Row, body: TypeBody) {
-    kind_line(image, segments, row, body, BlockKind::Generic);
-    kind_line(image, segments, row, body, BlockKind::ResilientSuperclass);
-    kind_line(image, segments, row, body, BlockKind::ForeignMetadataInit);
-    kind_line(image, segments, row, body, BlockKind::SingletonMetadataInit);
-    kind_line(image, segments, row, body, BlockKind::VTable);
-    kind_line(image, segments, row, body, BlockKind::OverrideTable);
-    kind_line(
-        image,
-        segments,
-        row,
-        body,
-        BlockKind::ObjcResilientClassStub,
-    );
-    kind_line(image, segments, row, body, BlockKind::Prespecializations);
-    kind_line(image, segments, row, body, BlockKind::InvertibleProtocolSet);
-    kind_line(
-        image,
-        segments,
-        row,
-        body,
-        BlockKind::SingletonMetadataPointer,
-    );
-    kind_line(image, segments, row, body, BlockKind::DefaultOverrideTable);
+    for number in 0..11 {
+        match classtrailers::kind_numbered(number) {
+            KindRead::Kind(kind) => kind_line(image, segments, row, body, kind),
+            KindRead::Nothing => bad_line(),
+        }
+    }
 }
 
 // Field offsets.

@@ -324,22 +324,24 @@ fn bad_line() {
     io::write_all(1, b"bad line\n");
 }
 
+// How many bytes or numbers a field has; 0, and a bad line, where it cannot be read.
+fn count(read: Count) -> usize {
+    match read {
+        Count::Of(n) => n,
+        Count::Bad => {
+            bad_line();
+            0
+        }
+    }
+}
+
 fn run_line(line: &[u8], a: u64, b: u64) {
     let mut image = [0u8; 1024];
     let mut strings = [0u8; 1024];
     let mut segments = [0u64; 64];
-    let Count::Of(bytes) = test_lines::parse_bytes(test_lines::field(line, 3), &mut image) else {
-        bad_line();
-        return;
-    };
-    let Count::Of(names) = test_lines::parse_bytes(test_lines::field(line, 4), &mut strings) else {
-        bad_line();
-        return;
-    };
-    let Count::Of(numbers) = parse_numbers(line, &mut segments) else {
-        bad_line();
-        return;
-    };
+    let bytes = count(test_lines::parse_bytes(test_lines::field(line, 3), &mut image));
+    let names = count(test_lines::parse_bytes(test_lines::field(line, 4), &mut strings));
+    let numbers = count(parse_numbers(line, &mut segments));
     let known = answer(
         test_lines::field(line, 0),
         a,

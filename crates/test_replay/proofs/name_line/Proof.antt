@@ -6,10 +6,10 @@ use Rattle.test_replay.proofs.name_line.Statement.{statement}
 use Rattle.test_replay.proofs.name_line.Tie as tie
 
 abbrev Inv-loop : tie.InvT-loop
-Inv-loop name i₀ i = Unit
+Inv-loop name i₀ end i = Unit
 
 abbrev μ-loop : tie.MeasureT-loop
-μ-loop name i₀ i = length name - i
+μ-loop name i₀ end i = length name - i
 
 pub name-line-spec : {M : Type 1} → statement M
 name-line-spec =
@@ -17,4 +17,4 @@ name-line-spec =
     (tie.spec
     Inv-loop μ-loop (λ c. search needs) (λ c κs. search needs) (λ c κs. search needs) (λ c. search needs) (λ c κs. search needs) (λ c. search needs)
     (λ c κs. search needs) (λ c. search needs) (λ c. search needs) (λ c κs. search needs) (λ c. search needs) (λ c. search needs) (λ c. search needs)
-    (λ c κs. search needs) (λ c. search needs))
+    (λ c. search needs) (λ c κs. search needs) (λ c. search needs))

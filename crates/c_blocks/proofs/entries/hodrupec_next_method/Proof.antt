@@ -11,13 +11,13 @@ use Rattle.c_blocks.proofs.entries.hodrupec_next_method.Statement.{stat
 use Rattle.c_blocks.proofs.entries.hodrupec_next_method.Tie as tie
 
 returns : tie.Need-returns
-returns c = tells-as (entryStepNumbers 2) _ _ _ _ (told entryAnswer (c .before .before .before .before .before .next-method .ensures) (c .before .before .before .step .given .1)) (ap (take 5) (c .before .step-numbers .ensures))
+returns c = tells-as (entryStepNumbers 2) _ _ _ _ (told entryAnswer (rw (c .before .before .before .before .before .before .cursor-at .ensures) at (c .before .before .before .before .before .next-method .ensures)) (c .before .before .before .step .given .1)) (ap (take 5) (c .before .step-numbers .ensures))
 
 returns-2 : tie.Need-returns-2
-returns-2 c = refuses (entryStepNumbers 2) _ _ _ _ (told entryAnswer (c .before .before .before .before .next-method .ensures) (c .before .before .refusal .given .1)) (c .number .ensures)
+returns-2 c = refuses (entryStepNumbers 2) _ _ _ _ (told entryAnswer (rw (c .before .before .before .before .before .cursor-at .ensures) at (c .before .before .before .before .next-method .ensures)) (c .before .before .refusal .given .1)) (c .number .ensures)
 
 pub hodrupec-next-method-spec : {M : Type 1} → statement M
 hodrupec-next-method-spec =
     tie.close
     (tie.spec
-    (λ c κs. search needs) (λ c. search needs) (λ c κs. search needs) (λ c. search needs) (λ c κs. search needs) returns returns-2)
+    (λ c κs. search needs) (λ c κs. search needs) (λ c. search needs) (λ c κs. search needs) (λ c. search needs) (λ c κs. search needs) returns returns-2)

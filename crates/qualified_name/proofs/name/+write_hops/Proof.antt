@@ -43,24 +43,9 @@ claims t = (
   write-hops.Post,
 )
 
-write-hops-locate-context-requires : (t : ℕ) → write-hops-lts.Need-locate-context-requires (claims t) (write-hops-at t) write-hops.Post
-write-hops-locate-context-requires t c κs = search needs
-
-write-hops-enum-known-mapping : (t : ℕ) → write-hops-lts.Need-enum-known-mapping (claims t) (write-hops-at t) write-hops.Post
-write-hops-enum-known-mapping t c = search needs
-
-write-hops-slice-aggregate-collect : (t : ℕ) → write-hops-lts.Need-slice-aggregate-collect (claims t) (write-hops-at t) write-hops.Post
-write-hops-slice-aggregate-collect t c = search needs
-
-write-hops-slice-aggregate-collect-2 : (t : ℕ) → write-hops-lts.Need-slice-aggregate-collect-2 (claims t) (write-hops-at t) write-hops.Post
-write-hops-slice-aggregate-collect-2 t c = search needs
-
 write-hops-collect-requires : (t : ℕ) → write-hops-lts.Need-collect-requires (claims t) (write-hops-at t) write-hops.Post
 write-hops-collect-requires t c κs =
     (case (ContextLocated _ _) (c .before .before .before .before .before .locate-context .ensures) (c .before .before .before .mapping .given .1), (refl, refl))
-
-write-hops-enum-known-count : (t : ℕ) → write-hops-lts.Need-enum-known-count (claims t) (write-hops-at t) write-hops.Post
-write-hops-enum-known-count t c = search needs
 
 write-hops-returns : (t : ℕ) → write-hops-lts.Need-returns (claims t) (write-hops-at t) write-hops.Post
 write-hops-returns t c =
@@ -69,12 +54,6 @@ write-hops-returns t c =
       kept _ _ _,
     )
 
-write-hops-slice-aggregate-put-hops : (t : ℕ) → write-hops-lts.Need-slice-aggregate-put-hops (claims t) (write-hops-at t) write-hops.Post
-write-hops-slice-aggregate-put-hops t c = search needs
-
-write-hops-slice-aggregate-put-hops-2 : (t : ℕ) → write-hops-lts.Need-slice-aggregate-put-hops-2 (claims t) (write-hops-at t) write-hops.Post
-write-hops-slice-aggregate-put-hops-2 t c = search needs
-
 write-hops-put-hops-requires : (t : ℕ) → write-hops-lts.Need-put-hops-requires (claims t) (write-hops-at t) write-hops.Post
 write-hops-put-hops-requires t c κs =
     let w = case (Walked _ _ _ _ _ _ _) (c .before .before .before .before .before .before .before .before .before .collect .ensures) (c .before .before .before .before .before .count .given .1) in (
@@ -82,22 +61,10 @@ write-hops-put-hops-requires t c κs =
       omega (arith, last-fits _ _ _ _ _ _ _ _ _ w _ (c .before .before .before .if1 .left) (omega (arith, c .before .before .before .before .before .before .before .before .before .before .before .before .before .before .before .before .before .before .before .good))),
     )
 
-write-hops-enum-known-next : (t : ℕ) → write-hops-lts.Need-enum-known-next (claims t) (write-hops-at t) write-hops.Post
-write-hops-enum-known-next t c = search needs
-
 write-hops-write-hops-requires : (t : ℕ) → write-hops-lts.Need-write-hops-requires (claims t) (write-hops-at t) write-hops.Post
 write-hops-write-hops-requires t c κs =
     let w = case (Walked _ _ _ _ _ _ _) (c .before .before .before .before .before .before .collect .ensures) (c .before .before .next .given .1) in
     (omega (arith, w .fewer), tt)
-
-write-hops-enum-known-at : (t : ℕ) → write-hops-lts.Need-enum-known-at (claims t) (write-hops-at t) write-hops.Post
-write-hops-enum-known-at t c = search needs
-
-write-hops-slice-aggregate-put-hops-3 : (t : ℕ) → write-hops-lts.Need-slice-aggregate-put-hops-3 (claims t) (write-hops-at t) write-hops.Post
-write-hops-slice-aggregate-put-hops-3 t c = search needs
-
-write-hops-slice-aggregate-put-hops-4 : (t : ℕ) → write-hops-lts.Need-slice-aggregate-put-hops-4 (claims t) (write-hops-at t) write-hops.Post
-write-hops-slice-aggregate-put-hops-4 t c = search needs
 
 write-hops-put-hops-requires-2 : (t : ℕ) → write-hops-lts.Need-put-hops-requires-2 (claims t) (write-hops-at t) write-hops.Post
 write-hops-put-hops-requires-2 t c κs =
@@ -110,22 +77,10 @@ write-hops-put-hops-requires-2 t c κs =
       ),
     )
 
-write-hops-enum-known-refusal : (t : ℕ) → write-hops-lts.Need-enum-known-refusal (claims t) (write-hops-at t) write-hops.Post
-write-hops-enum-known-refusal t c = search needs
-
-write-hops-enum-told : (t : ℕ) → write-hops-lts.Need-enum-told (claims t) (write-hops-at t) write-hops.Post
-write-hops-enum-told t c = search needs
-
-write-hops-enum-told-2 : (t : ℕ) → write-hops-lts.Need-enum-told-2 (claims t) (write-hops-at t) write-hops.Post
-write-hops-enum-told-2 t c = search needs
-
 write-hops-returns-2 : (t : ℕ) → write-hops-lts.Need-returns-2 (claims t) (write-hops-at t) write-hops.Post
 write-hops-returns-2 t c =
     let e = case (ContextLocated _ _) (c .before .before .before .locate-context .ensures) (c .before .enum-told2 .given .1) _ in
     (none-long _ _ _ _ e _ _ (omega arith) (omega arith) (omega (arith, c .before .before .before .before .before .before .before .good)), kept _ _ _)
-
-write-hops-same-length : (t : ℕ) → write-hops-lts.Need-same-length (claims t) (write-hops-at t) write-hops.Post
-write-hops-same-length t c = search needs
 
 write-hops-returns-3 : (t : ℕ) → write-hops-lts.Need-returns-3 (claims t) (write-hops-at t) write-hops.Post
 write-hops-returns-3 t c =
@@ -133,9 +88,6 @@ write-hops-returns-3 t c =
       last-written _ _ _ _ _ _ _ _ _ w _ _ (c .before .before .put-hops .ensures .ends) (c .before .before .before .before .before .before .if1 .left) (omega (arith, c .before .before .before .before .before .before .before .before .before .before .before .before .before .before .before .before .before .before .before .before .before .before .good)),
       last-filled _ _ _ _ _ _ _ _ _ w _ _ _ (c .before .before .put-hops .ensures),
     )
-
-write-hops-same-length-2 : (t : ℕ) → write-hops-lts.Need-same-length-2 (claims t) (write-hops-at t) write-hops.Post
-write-hops-same-length-2 t c = search needs
 
 write-hops-returns-4 : (t : ℕ) → write-hops-lts.Need-returns-4 (claims t) (write-hops-at t) write-hops.Post
 write-hops-returns-4 t c =
@@ -145,9 +97,6 @@ write-hops-returns-4 t c =
       further-written _ _ _ _ _ _ _ _ _ _ _ w _ _ _ f (c .before .before .put-hops2 .ensures .ends) (omega (arith, c .before .before .before .before .before .before .before .before .before .before .before .before .before .before .before .before .before .before .before .before .before .before .before .before .before .before .before .before .good)),
       further-filled _ _ _ _ _ _ _ _ _ _ _ w _ _ _ _ _ (filled-as _ _ _ _ _ (c .before .before .before .before .before .before .before .before .before .before .before .write-hops .ensures .1) (ap hopsOf (c .before .before .before .before .before .before .before .at .given .1))) (h .0) (c .before .before .put-hops2 .ensures) (omega (arith, h .1)),
     )
-
-write-hops-same-length-3 : (t : ℕ) → write-hops-lts.Need-same-length-3 (claims t) (write-hops-at t) write-hops.Post
-write-hops-same-length-3 t c = search needs
 
 write-hops-returns-5 : (t : ℕ) → write-hops-lts.Need-returns-5 (claims t) (write-hops-at t) write-hops.Post
 write-hops-returns-5 t c =
@@ -166,33 +115,9 @@ write-hops-returns-7 t c =
 
 pub +write-hops-spec : {M : Type 1} → statement M
 +write-hops-spec = close μ-write-hops λ t. write-hops-lts.spec (claims t)
-    (write-hops-at t)
-    write-hops.Post
-    (write-hops-locate-context-requires t)
-    (write-hops-enum-known-mapping t)
-    (write-hops-slice-aggregate-collect t)
-    (write-hops-slice-aggregate-collect-2 t)
-    (write-hops-collect-requires t)
-    (write-hops-enum-known-count t)
-    (write-hops-returns t)
-    (write-hops-slice-aggregate-put-hops t)
-    (write-hops-slice-aggregate-put-hops-2 t)
-    (write-hops-put-hops-requires t)
-    (write-hops-enum-known-next t)
-    (write-hops-write-hops-requires t)
-    (write-hops-enum-known-at t)
-    (write-hops-slice-aggregate-put-hops-3 t)
-    (write-hops-slice-aggregate-put-hops-4 t)
-    (write-hops-put-hops-requires-2 t)
-    (write-hops-enum-known-refusal t)
-    (write-hops-enum-told t)
-    (write-hops-enum-told-2 t)
-    (write-hops-returns-2 t)
-    (write-hops-same-length t)
-    (write-hops-returns-3 t)
-    (write-hops-same-length-2 t)
-    (write-hops-returns-4 t)
-    (write-hops-same-length-3 t)
-    (write-hops-returns-5 t)
-    (write-hops-returns-6 t)
-    (write-hops-returns-7 t)
+    (write-hops-at t) write-hops.Post (λ c κs. search needs) (λ c. search needs) (λ c. search needs) (λ c. search needs)
+    (write-hops-collect-requires t) (λ c. search needs) (write-hops-returns t) (λ c. search needs) (λ c. search needs)
+    (write-hops-put-hops-requires t) (λ c. search needs) (write-hops-write-hops-requires t) (λ c. search needs) (λ c. search needs)
+    (λ c. search needs) (write-hops-put-hops-requires-2 t) (λ c. search needs) (λ c. search needs) (λ c. search needs) (write-hops-returns-2 t)
+    (λ c. search needs) (write-hops-returns-3 t) (λ c. search needs) (write-hops-returns-4 t) (λ c. search needs) (write-hops-returns-5 t)
+    (write-hops-returns-6 t) (write-hops-returns-7 t)

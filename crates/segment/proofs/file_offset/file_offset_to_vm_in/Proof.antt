@@ -7,8 +7,9 @@ use mathlib.Core.Path.{_≡_, refl}
 use denote.Ref.{now}
 use lib.ListN.{length, drop}
 use Rattle.segment.specs.Segments.{segmentsOf}
+use Rattle.segment.specs.SegmentsLaws.{segmentAt}
 use Rattle.segment.specs.VmAddress.{vmAddress}
-use Rattle.segment.specs.VmAddressLaws.{turn-answer, turn-next, turn-end}
+use Rattle.segment.specs.VmAddressLaws.{by-hand, turn-answer, turn-next, turn-end}
 use Rattle.segment.proofs.file_offset.file_offset_to_vm_in.Statement.{statement}
 use Rattle.segment.proofs.file_offset.file_offset_to_vm_in.Tie as tie
 
@@ -24,16 +25,20 @@ loop-holds c = (omega arith, refl)
 
 returns : tie.Need-returns Inv-loop μ-loop
 returns c =
-    let p = c .before .before .before .before .before .before .before .before .before in
-    turn-answer (now (p .before .before .args .segments)) (p .loop .i) (p .before .before .args .offset) _ (p .loop .inv .1) _ _
-    (c .before .before .before .turn .ensures) (c .before .found .given .1) (omega arith)
+    let l = c .before .before .before .before in
+    let p = l .before .before .before .before .before .before .before in
+    turn-answer (now (p .before .before .args .segments)) (p .loop .i) (p .before .before .args .offset) _ (p .loop .inv .1) _ _ _
+    (by-hand (segmentAt (now (p .before .before .args .segments)) (p .loop .i)) _ _ _ (l .before .before .before .lower .ensures) (l .look-up .ensures))
+    (c .before .before .found .given .1) (c .as-address .ensures) (omega arith)
 
 loop-again : tie.Need-loop-again Inv-loop μ-loop
 loop-again c =
-    let p = c .before .before .before .before .before .before .before .before in (
+    let l = c .before .before in
+    let p = l .before .before .before .before .before .before .before in (
       search needs,
       turn-next (now (p .before .before .args .segments)) (p .loop .i) (p .before .before .args .offset) _ (p .loop .inv .1) _
-          (c .before .before .turn .ensures) (c .enum-told .given .1) (omega arith),
+          (by-hand (segmentAt (now (p .before .before .args .segments)) (p .loop .i)) _ _ _ (l .before .before .before .lower .ensures) (l .look-up .ensures))
+          (c .enum-told .given .1) (omega arith),
     )
 
 returns-2 : tie.Need-returns-2 Inv-loop μ-loop
@@ -45,6 +50,4 @@ pub file-offset-to-vm-in-spec : {M : Type 1} → statement M
 file-offset-to-vm-in-spec =
     tie.close
     (tie.spec
-    Inv-loop μ-loop loop-holds (λ c. search needs) (λ c. search needs) (λ c. search needs) (λ c. search needs) (λ c. search needs) (λ c. search needs)
-    (λ c. search needs) (λ c. search needs) (λ c. search needs) (λ c. search needs) (λ c. search needs) (λ c. search needs) (λ c κs. search needs)
-    (λ c. search needs) returns (λ c. search needs) (λ c. search needs) (λ c. search needs) loop-again returns-2)
+    Inv-loop μ-loop loop-holds (λ c. search needs) (λ c. search needs) (λ c. search needs) (λ c. search needs) (λ c. search needs) (λ c. search needs) (λ c. search needs) (λ c κs. search needs) (λ c. search needs) (λ c. search needs) (λ c. search needs) (λ c. search needs) (λ c. search needs) (λ c κs. search needs) (λ c. search needs) (λ c κs. search needs) returns (λ c. search needs) (λ c. search needs) (λ c. search needs) loop-again returns-2)

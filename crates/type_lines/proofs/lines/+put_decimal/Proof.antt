@@ -36,14 +36,8 @@ put-decimal-put-digit-requires t c κs =
     let a = c .before .before .before .before .args in
     (omega arith, omega (arith, one-digit (a .left) (a .n) (omega arith) (omega arith)))
 
-put-decimal-same-length : (t : ℕ) → put-decimal-lts.Need-same-length (claims t) (put-decimal-at t) put-decimal.Post
-put-decimal-same-length t c = search needs
-
 put-decimal-returns-2 : (t : ℕ) → put-decimal-lts.Need-returns-2 (claims t) (put-decimal-at t) put-decimal.Post
 put-decimal-returns-2 t c = count-one _ _ _ _ _ _ (c .before .before .put-digit .ensures) (omega arith) (omega arith)
-
-put-decimal-sub-put-decimal : (t : ℕ) → put-decimal-lts.Need-sub-put-decimal (claims t) (put-decimal-at t) put-decimal.Post
-put-decimal-sub-put-decimal t c = search needs
 
 put-decimal-put-decimal-requires : (t : ℕ) → put-decimal-lts.Need-put-decimal-requires (claims t) (put-decimal-at t) put-decimal.Post
 put-decimal-put-decimal-requires t c κs =
@@ -55,22 +49,10 @@ put-decimal-put-digit-requires-2 t c κs =
     let a = c .before .before .before .before .before .before .before .before .args in
     (omega arith, omega (arith, more-digits (a .left) (a .n) (omega arith) (omega arith), c .before .before .before .put-decimal .ensures .ends, c .before .before .before .put-decimal .kept))
 
-put-decimal-same-length-2 : (t : ℕ) → put-decimal-lts.Need-same-length-2 (claims t) (put-decimal-at t) put-decimal.Post
-put-decimal-same-length-2 t c = search needs
-
 put-decimal-returns-3 : (t : ℕ) → put-decimal-lts.Need-returns-3 (claims t) (put-decimal-at t) put-decimal.Post
 put-decimal-returns-3 t c = count-more _ _ _ _ _ _ _ _ (c .before .before .before .before .before .before .put-decimal .ensures) (c .before .before .put-digit2 .ensures) (omega arith) (omega arith) (omega (arith, c .before .before .before .before .before .before .before .before .before .before .before .pre))
 
 pub +put-decimal-spec : {M : Type 1} → statement M
 +put-decimal-spec = close μ-put-decimal λ t. put-decimal-lts.spec (claims t)
-    (put-decimal-at t)
-    put-decimal.Post
-    (put-decimal-returns t)
-    (put-decimal-put-digit-requires t)
-    (put-decimal-same-length t)
-    (put-decimal-returns-2 t)
-    (put-decimal-sub-put-decimal t)
-    (put-decimal-put-decimal-requires t)
-    (put-decimal-put-digit-requires-2 t)
-    (put-decimal-same-length-2 t)
-    (put-decimal-returns-3 t)
+    (put-decimal-at t) put-decimal.Post (put-decimal-returns t) (put-decimal-put-digit-requires t) (λ c. search needs) (put-decimal-returns-2 t)
+    (λ c. search needs) (put-decimal-put-decimal-requires t) (put-decimal-put-digit-requires-2 t) (λ c. search needs) (put-decimal-returns-3 t)
