@@ -5,7 +5,10 @@ use crate::input::Input;
 use crate::proved;
 use crate::proved_full::Image;
 use crate::{proved_archive, proved_full, proved_fullrows, proved_tables};
-use darwinscope::swift::{FieldRecordIter, TypeKindBody, VTableIter};
+use darwinscope::swift::{
+    DefaultOverrideEntryIter, FieldRecordIter, OverrideEntryIter, PrespecializationIter,
+    TypeKindBody, VTableIter,
+};
 use std::hint::black_box;
 use std::time::Instant;
 
@@ -383,7 +386,7 @@ fn bodies_in_steps(input: &Input) -> Times {
                 slot = row.next as usize;
                 let flags = row.flags as u32;
                 let body = proved_full::body(image, row.address, flags);
-                black_box(body.expect("whole segments"));
+                black_box(body.expect("whole segments")[0]);
                 sum += row.length as usize;
                 let first = proved_full::first_block(image, row.address, flags);
                 let [_, class, extra, mut at] = first.expect("whole segments");
@@ -391,8 +394,8 @@ fn bodies_in_steps(input: &Input) -> Times {
                 loop {
                     let step =
                         proved_full::next_block(image, flags, class as u32, extra as u32, next, at);
-                    let step = black_box(step.expect("whole segments"));
-                    if step[0] == 0 {
+                    let step = step.expect("whole segments");
+                    if black_box(step[0]) == 0 {
                         break;
                     }
                     (next, at) = (step[5] as u32, step[6]);
@@ -471,6 +474,91 @@ fn methods(input: &Input, count: usize, steps: bool) -> Times {
             }
         })
     })
+}
+
+/// How many entries a table of another kind has.
+const OTHERS: usize = 16;
+
+/// All entries of tables of another kind, by a call for each: `rust` gives what both sides make of a table, `step` the next entry's number and what they
+/// make of an entry.
+fn other_entries(
+    size: usize,
+    rust: impl Fn(u64) -> usize,
+    step: impl Fn(u64, u32) -> Option<(u64, usize)>,
+) -> Times {
+    let starts = tables(OTHERS, size);
+    let items = starts.clone().count() * OTHERS;
+    both(
+        items,
+        || starts.clone().fold(0usize, |s, va| s.wrapping_add(rust(va))),
+        || {
+            starts.clone().fold(0usize, |mut s, va| {
+                let mut next = 0;
+                while let Some((number, made)) = step(va, next) {
+                    next = number as u32;
+                    s = s.wrapping_add(made);
+                }
+                s
+            })
+        },
+    )
+}
+
+/// The three other kinds of tables, whose entries have twelve bytes at most.
+fn other_tables(segments: usize) {
+    let words = 3 * ENTRIES as u32;
+    let image = (0..words).flat_map(|w| (w * 37 + 1).to_le_bytes());
+    let input = mapped(image.collect(), segments);
+    let rt = runtime(&input);
+    let image = Image::of(&input);
+    let n = OTHERS as u32;
+    let added = |all: &mut dyn Iterator<Item = usize>| all.fold(0usize, usize::wrapping_add);
+    let case = |kind: &str, times| line(&format!("{kind:15} | {n:5} | {segments:8}"), times);
+    case(
+        "overrides",
+        other_entries(
+            12,
+            |va| {
+                let all = OverrideEntryIter::new(&rt, va, n);
+                added(&mut all.map(|e| sum([e.class_va, e.method_va, e.impl_va])))
+            },
+            |va, next| {
+                let step = proved_full::next_override(image, va, n, next);
+                let [there, number, _, a, b, c] = step.expect("whole segments");
+                (there == 1).then(|| (number, sum([a, b, c])))
+            },
+        ),
+    );
+    case(
+        "default overr.",
+        other_entries(
+            8,
+            |va| {
+                let all = DefaultOverrideEntryIter::new(&rt, va, n);
+                added(&mut all.map(|e| sum([e.address, e.method_va, e.impl_va])))
+            },
+            |va, next| {
+                let step = proved_full::next_default_override(image, va, n, next);
+                let [there, number, a, b, c] = step.expect("whole segments");
+                (there == 1).then(|| (number, sum([a, b, c])))
+            },
+        ),
+    );
+    case(
+        "prespecial.",
+        other_entries(
+            4,
+            |va| {
+                let all = PrespecializationIter::new(&rt, va, n);
+                added(&mut all.map(|va| sum([va, 0, 0])))
+            },
+            |va, next| {
+                let step = proved_full::next_prespecialization(image, va, n, next);
+                let [there, number, _, a] = step.expect("whole segments");
+                (there == 1).then(|| (number, sum([a, 0, 0])))
+            },
+        ),
+    );
 }
 
 /// A class with a vtable.
@@ -816,5 +904,11 @@ fn full() {
                 records::<true>(&input, count),
             );
         }
+    }
+    println!();
+    println!("Entries of the other kinds of tables, nanoseconds per entry, by a call for each.");
+    println!("entries         | count | segments |      Rust |    proved | ratio");
+    for segments in [2, 40] {
+        other_tables(segments);
     }
 }

@@ -1,5 +1,5 @@
-//! The proved side of the full level, the functions of crates/c_blocks: bodies, trailing blocks, entries, singleton records. Each call
-//! returns its array of numbers.
+//! The proved side of the full level, functions of crates/c_bodies, c_blocks, c_entries and c_methods: bodies, trailing
+//! blocks, entries, singleton records. Each call returns its array of numbers.
 
 use crate::input::Input;
 use crate::proved::{Answer, UNWRITTEN, refusal};
@@ -57,16 +57,28 @@ macro_rules! calls {
 pub(crate) use calls;
 
 calls! {
-    "c_blocks":
+    "c_bodies":
     text_at = hodrupec_text_at(vmaddr: u64) -> 3;
     body = hodrupec_body(address: u64, flags: u32) -> 8;
+    singleton_init = hodrupec_singleton_init(address: u64) -> 4;
+    singleton_pointer = hodrupec_singleton_pointer(address: u64) -> 2;
+}
+
+calls! {
+    "c_blocks":
     first_block = hodrupec_first_block(address: u64, flags: u32) -> 4;
     next_block = hodrupec_next_block(flags: u32, class: u32, extra: u32, row: u32, address: u64) -> 7;
+}
+
+calls! {
+    "c_entries":
     block_of_kind = hodrupec_block_of_kind(address: u64, flags: u32, kind: u32) -> 5;
-    next_method = hodrupec_next_method(base_va: u64, count: u32, next: u32) -> 5;
     next_override = hodrupec_next_override(base_va: u64, count: u32, next: u32) -> 6;
     next_default_override = hodrupec_next_default_override(base_va: u64, count: u32, next: u32) -> 5;
     next_prespecialization = hodrupec_next_prespecialization(base_va: u64, count: u32, next: u32) -> 4;
-    singleton_init = hodrupec_singleton_init(address: u64) -> 4;
-    singleton_pointer = hodrupec_singleton_pointer(address: u64) -> 2;
+}
+
+calls! {
+    "c_methods":
+    next_method = hodrupec_next_method(base_va: u64, count: u32, next: u32) -> 5;
 }

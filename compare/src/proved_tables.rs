@@ -1,4 +1,4 @@
-//! The proved side of whole tables, functions of crates/c_blocks, c_fields and c_tables: entries and field records into
+//! The proved side of whole tables, functions of crates/c_methods, c_fields and c_tables: entries and field records into
 //! the caller's buffer of numbers.
 
 use crate::proved::{Answer, UNWRITTEN, refusal};

@@ -1,4 +1,2 @@
 pub mod Blocks
 pub mod BlocksLaws
-pub mod Entries
-pub mod Singletons

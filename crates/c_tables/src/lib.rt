@@ -1,7 +1,7 @@
 // Whole tables for programs in C or Rust, by the rules of the crate `c_rows`: the entries from one on up to the first that cannot be read,
-// as many as the caller's buffer holds. Methods stand in `c_blocks` and field records in `c_fields`: with one kind of table to an
-// archive its loop is made for that kind. Told are: how many were written, and why no more: 0 the table's end, 1 the buffer is full, 2 an entry that
-// cannot be read.
+// as many as the caller's buffer holds. The call for methods is in `c_methods` and that for field records in `c_fields`: with one kind of
+// table in an archive, the compiler makes the loop for that kind. `out` says how many entries were written, and why no more: 0 the table's
+// end, 1 the buffer is full, 2 an entry that cannot be read.
 ghost use mathlib.Core.Path.{_≡_};
 ghost use Rattle.refusal.specs.Refusal.{mapped};
 ghost use Rattle.vtable.specs.Entries.{override, defaultOverride, prespecialization};
