@@ -17,9 +17,6 @@ use Rattle.util.specs.Pointer.{relativePointer}
 use Rattle.util.specs.Cstr.{Place, textAt}
 use Rattle.runtime.specs.Reads.{Reads, done, nothing, bytes, text, andThen, within, bytesPlace, textOffset, run}
 use Rattle.runtime.specs.Bytes.{bytesRead, bytesFrom}
-use Rattle.runtime.specs.CallsLaws.{run-mapped}
-use Rattle.segment.specs.Mapping.{withMapping, TrueMapping}
-use Rattle.segment.specs.declared.segment.Mapping.{Mapping}
 use Rattle.context.specs.Context.{contextKind, hasName}
 use Rattle.typedescriptor.specs.Row.{TypeRow, rowName, descriptor}
 use Rattle.typedescriptor.specs.Slots.{slots, slotRow}
@@ -252,10 +249,6 @@ module _ (image segments : List ℕ) (left a : ℕ) where
 
     pub chain-on : 0 < left → certain image segments (name (h .address) (h .flags)) ≡ true → chainCertain image segments left a ≡ chainCertain image segments (left - 1) (h .parent)
     chain-on l f = chain-by (left - 1) (omega arith) ∙ rw f
-
--- a header that was read with a true mapping
-pub header-near : (image segments : List ℕ) (a : ℕ) (m : Mapping) (w : TrueMapping segments m) (x : Option Header) → x ≡ run image (withMapping m segments) (header a) → x ≡ run image segments (header a)
-header-near image segments a m w x e = e ∙ run-mapped image segments m w (header a)
 
 -- ---- the joined name of a slot
 

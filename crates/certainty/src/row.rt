@@ -9,7 +9,7 @@ use crate::reads::text_certain;
 fn descriptor_certain(image: &[u8], segments: &[u64], descriptor_va: u64) -> bool
     ensures { λ r. ⌜ r ≡ certain (now (image .entry)) (now (segments .entry)) (descriptor «descriptor_va») ⌝ }
 {
-    let header = runtime::read_bytes(image, segments, descriptor_va, 20);
+    let header = runtime::read_bytes(image, segments, segment::NO_MAPPING, descriptor_va, 20);
     if header.len() < 20 {
         return is_nowhere(segments, descriptor_va);
     }

@@ -9,7 +9,6 @@ ghost use Rattle.class_methods.specs.ClassMethods.{classNumbers, classes
 use crate::vtables::TableAt;
 use crate::vtables::vtable_near;
 use entry_tables::Listed;
-use segment::Mapping;
 use typedescriptor::Descriptor;
 use vtable::EntryIter;
 
@@ -72,7 +71,7 @@ pub fn put_classes(
     ensures { λ _. ⌜ now (buffer .exit) ≡ atStart (methodNumbersOf (classesIn (now (image .entry)) (now (segments .entry)) (now (types .entry)) vmaddr start first (length (now (buffer .entry))))) (now (buffer .entry)) ⌝ }
 {
     let count = types.len() / 4;
-    let mut mapping = Mapping::empty();
+    let mut mapping = segment::NO_MAPPING;
     let mut slot = start;
     let mut method = first;
     let mut classes: usize = 0;

@@ -47,10 +47,10 @@ pub fn vtable_near(
 ) -> TableAt
     ensures { λ r. ⌜ tableAt r ≡ methodTable (now (image .entry)) (withMapping mapping (now (segments .entry))) address flags ⌝ }
 {
-    let body = type_body::decode_body_near(image, segments, mapping, address, flags);
+    let body = type_body::decode_body(image, segments, mapping, address, flags);
     match type_body::trailing(address, flags, body) {
         TrailingRead::Start { trailing, start } => {
-            let found = classtrailers::block_of_kind_near(
+            let found = classtrailers::block_of_kind(
                 image,
                 segments,
                 mapping,

@@ -66,7 +66,7 @@ fn plain_at(kind: BlockKind, at: u64, size: u64) -> BlockAt
 fn generic_at(image: &[u8], segments: &[u64], mapping: Mapping, at: u64) -> BlockAt
     ensures { λ r. ⌜ blockAtOf r ≡ run (now (image .entry)) (withMapping mapping (now (segments .entry))) (blockAt (rowAt 0) at) ⌝ }
 {
-    let header = runtime::read_bytes_near(image, segments, mapping, at, 16);
+    let header = runtime::read_bytes(image, segments, mapping, at, 16);
     if header.len() < 16 {
         return BlockAt::Nothing;
     }
@@ -87,7 +87,7 @@ fn generic_at(image: &[u8], segments: &[u64], mapping: Mapping, at: u64) -> Bloc
 fn vtable_at(image: &[u8], segments: &[u64], mapping: Mapping, at: u64) -> BlockAt
     ensures { λ r. ⌜ blockAtOf r ≡ run (now (image .entry)) (withMapping mapping (now (segments .entry))) (blockAt (rowAt 4) at) ⌝ }
 {
-    let header = runtime::read_bytes_near(image, segments, mapping, at, 8);
+    let header = runtime::read_bytes(image, segments, mapping, at, 8);
     if header.len() < 8 {
         return BlockAt::Nothing;
     }
@@ -120,7 +120,7 @@ fn entries_at(
     requires { ⌜ entry ≤ 12 ⌝ }
     ensures { λ r. ⌜ blockAtOf r ≡ run (now (image .entry)) (withMapping mapping (now (segments .entry))) (blockAt (listed kind (λ _. false) entry) at) ⌝ }
 {
-    let header = runtime::read_bytes_near(image, segments, mapping, at, 4);
+    let header = runtime::read_bytes(image, segments, mapping, at, 4);
     if header.len() < 4 {
         return BlockAt::Nothing;
     }
@@ -145,7 +145,7 @@ fn entries_at(
 fn invertible_at(image: &[u8], segments: &[u64], mapping: Mapping, at: u64) -> BlockAt
     ensures { λ r. ⌜ blockAtOf r ≡ run (now (image .entry)) (withMapping mapping (now (segments .entry))) (blockAt (rowAt 8) at) ⌝ }
 {
-    let header = runtime::read_bytes_near(image, segments, mapping, at, 2);
+    let header = runtime::read_bytes(image, segments, mapping, at, 2);
     if header.len() < 2 {
         return BlockAt::Nothing;
     }
@@ -161,7 +161,7 @@ fn invertible_at(image: &[u8], segments: &[u64], mapping: Mapping, at: u64) -> B
 }
 
 // The block of a kind at an address. The mapping is asked before the segments: one that is true of them changes no answer.
-pub fn block_near(
+pub fn block_at(
     image: &[u8],
     segments: &[u64],
     mapping: Mapping,

@@ -9,7 +9,7 @@ use crate::block::Block;
 use crate::block::BlockKind;
 use crate::decode::BlockAt;
 use crate::decode::End;
-use crate::decode::block_near;
+use crate::decode::block_at;
 use crate::trailing::KindRead;
 use crate::trailing::Trailing;
 use crate::trailing::has_block;
@@ -49,7 +49,7 @@ fn step_at(
     requires { ⌜ (row < 11) × (row ≡ rowNumber kind) ⌝ }
     ensures { λ r. ⌜ blockStepOf r ≡ stepAt (now (image .entry)) (now (segments .entry)) (trailingOf trailing) row address ⌝ }
 {
-    match block_near(image, segments, Mapping::empty(), kind, address) {
+    match block_at(image, segments, segment::NO_MAPPING, kind, address) {
         BlockAt::Block { block, end } => BlockStep::Block {
             block,
             next: BlockIter {
@@ -117,7 +117,7 @@ fn pass(
     let KindRead::Kind(kind) = kind_there(trailing, row) else {
         return End::At(address);
     };
-    match block_near(image, segments, mapping, kind, address) {
+    match block_at(image, segments, mapping, kind, address) {
         BlockAt::Block { block: _, end } => End::At(end),
         BlockAt::Last(_) => End::Nothing,
         BlockAt::Nothing => End::Nothing,
@@ -125,7 +125,7 @@ fn pass(
 }
 
 // The block of a kind, of a descriptor whose blocks start at an address: of those before it only the headers are read.
-pub fn block_of_kind_near(
+pub fn block_of_kind(
     image: &[u8],
     segments: &[u64],
     mapping: Mapping,
@@ -152,22 +152,9 @@ pub fn block_of_kind_near(
             }
         }
     }
-    match block_near(image, segments, mapping, kind, address) {
+    match block_at(image, segments, mapping, kind, address) {
         BlockAt::Block { block, end: _ } => BlockRead::Block(block),
         BlockAt::Last(block) => BlockRead::Block(block),
         BlockAt::Nothing => BlockRead::Nothing,
     }
-}
-
-// The same without a mapping.
-pub fn block_of_kind(
-    image: &[u8],
-    segments: &[u64],
-    trailing: Trailing,
-    start: u64,
-    kind: BlockKind,
-) -> BlockRead
-    ensures { λ r. ⌜ blockReadOf r ≡ run (now (image .entry)) (now (segments .entry)) (block (trailingOf trailing) start kind) ⌝ }
-{
-    block_of_kind_near(image, segments, Mapping::empty(), trailing, start, kind)
 }

@@ -116,7 +116,7 @@ fn decode_class_body(
     if address > 0xffff_ffff_ffff_ffd3 {
         return TypeBody::Nothing;
     }
-    let header = runtime::read_bytes_near(image, segments, mapping, address + 20, 24);
+    let header = runtime::read_bytes(image, segments, mapping, address + 20, 24);
     if header.len() < 24 {
         return TypeBody::Nothing;
     }
@@ -129,7 +129,7 @@ fn decode_struct_body(image: &[u8], segments: &[u64], mapping: Mapping, address:
     if address > 0xffff_ffff_ffff_ffe3 {
         return TypeBody::Nothing;
     }
-    let header = runtime::read_bytes_near(image, segments, mapping, address + 20, 8);
+    let header = runtime::read_bytes(image, segments, mapping, address + 20, 8);
     if header.len() < 8 {
         return TypeBody::Nothing;
     }
@@ -142,7 +142,7 @@ fn decode_enum_body(image: &[u8], segments: &[u64], mapping: Mapping, address: u
     if address > 0xffff_ffff_ffff_ffe3 {
         return TypeBody::Nothing;
     }
-    let header = runtime::read_bytes_near(image, segments, mapping, address + 20, 8);
+    let header = runtime::read_bytes(image, segments, mapping, address + 20, 8);
     if header.len() < 8 {
         return TypeBody::Nothing;
     }
@@ -151,7 +151,7 @@ fn decode_enum_body(image: &[u8], segments: &[u64], mapping: Mapping, address: u
 
 // The body of the descriptor at an address, which has these flags: nothing where it is not a class, struct or enum, where its bytes are
 // not in the image, and where its end reaches 2^64. The mapping is asked before the segments: one that is true of them changes no answer.
-pub fn decode_body_near(
+pub fn decode_body(
     image: &[u8],
     segments: &[u64],
     mapping: Mapping,
@@ -173,19 +173,17 @@ pub fn decode_body_near(
     }
 }
 
-// The same without a mapping.
-pub fn decode_body(image: &[u8], segments: &[u64], address: u64, flags: u32) -> TypeBody
-    ensures { λ r. ⌜ bodyOf r ≡ run (now (image .entry)) (now (segments .entry)) (body address flags) ⌝ }
-{
-    decode_body_near(image, segments, Mapping::empty(), address, flags)
-}
-
 // The name of a class's superclass; `util::text_part` gives the part of the image. There is none beside another body.
 pub fn superclass_name(image: &[u8], segments: &[u64], body: TypeBody) -> Text
     ensures { λ r. ⌜ textOf r ≡ superclassName (now (image .entry)) (now (segments .entry)) (bodyOf body) ⌝ }
 {
     match body {
-        TypeBody::Class(class) => runtime::read_cstr(image, segments, class.superclass_va),
+        TypeBody::Class(class) => runtime::read_cstr(
+            image,
+            segments,
+            segment::NO_MAPPING,
+            class.superclass_va,
+        ),
         TypeBody::Struct(_) => Text::Nothing,
         TypeBody::Enum(_) => Text::Nothing,
         TypeBody::Nothing => Text::Nothing,

@@ -46,7 +46,7 @@ pub fn singleton_metadata_init(
 ) -> SingletonMetadataInit
     ensures { λ r. ⌜ initOf r ≡ run (now (image .entry)) (now (segments .entry)) (singletonInit address) ⌝ }
 {
-    let bytes = runtime::read_bytes(image, segments, address, 12);
+    let bytes = runtime::read_bytes(image, segments, segment::NO_MAPPING, address, 12);
     if bytes.len() < 12 {
         return SingletonMetadataInit::Nothing;
     }
@@ -74,7 +74,7 @@ pub fn singleton_metadata_pointer(
 ) -> SingletonMetadataPointer
     ensures { λ r. ⌜ pointerOf r ≡ run (now (image .entry)) (now (segments .entry)) (singletonPointer address) ⌝ }
 {
-    let bytes = runtime::read_bytes(image, segments, address, 4);
+    let bytes = runtime::read_bytes(image, segments, segment::NO_MAPPING, address, 4);
     if bytes.len() < 4 {
         return SingletonMetadataPointer::Nothing;
     }

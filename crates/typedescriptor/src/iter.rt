@@ -6,7 +6,7 @@ ghost use Rattle.typedescriptor.specs.Row.{descriptorOf};
 ghost use Rattle.typedescriptor.specs.Slots.{slotRow, nextRow, typeStepOf};
 use crate::descriptor::Descriptor;
 use crate::descriptor::Row;
-use crate::descriptor::decode_type_descriptor_near;
+use crate::descriptor::decode_type_descriptor;
 use segment::Around;
 use segment::Mapping;
 
@@ -26,7 +26,7 @@ pub enum TypeStep {
 }
 
 // The row of one slot of a types section whose first byte is at `vmaddr`.
-fn slot_row_near(
+pub fn slot_row(
     image: &[u8],
     segments: &[u64],
     mapping: Mapping,
@@ -45,7 +45,7 @@ fn slot_row_near(
         return Descriptor::Nothing;
     }
     let slot_va = std::num::wrapping_add_u64(vmaddr, off as u64);
-    decode_type_descriptor_near(
+    decode_type_descriptor(
         image,
         segments,
         mapping,
@@ -88,7 +88,7 @@ pub fn slot_row_moving(
     let address = util::pointer_in(pointer, 0, slot_va);
     match segment::locate_near(segments, mapping, address) {
         Around::Mapping(near) => SlotRow {
-            found: decode_type_descriptor_near(image, segments, near, address),
+            found: decode_type_descriptor(image, segments, near, address),
             mapping: near,
         },
         Around::Nothing => SlotRow {
@@ -96,19 +96,6 @@ pub fn slot_row_moving(
             mapping,
         },
     }
-}
-
-// The same without a mapping.
-pub fn slot_row(
-    image: &[u8],
-    segments: &[u64],
-    types: &[u8],
-    vmaddr: u64,
-    slot: usize,
-) -> Descriptor
-    ensures { λ r. ⌜ descriptorOf (now (image .entry)) r ≡ run (now (image .entry)) (now (segments .entry)) (slotRow (now (types .entry)) vmaddr slot) ⌝ }
-{
-    slot_row_near(image, segments, Mapping::empty(), types, vmaddr, slot)
 }
 
 impl TypeIter {
@@ -125,7 +112,7 @@ impl TypeIter {
         let count = types.len() / 4;
         let mut slot = self.slot;
         while slot < count {
-            let found = slot_row(image, segments, types, vmaddr, slot);
+            let found = slot_row(image, segments, segment::NO_MAPPING, types, vmaddr, slot);
             match found {
                 Descriptor::Row(row) => {
                     return TypeStep::Row {

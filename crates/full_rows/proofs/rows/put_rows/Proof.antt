@@ -20,7 +20,7 @@ abbrev μ-loop : tie.MeasureT-loop
 μ-loop image segments types vmaddr start buffer₀ count room mapping₀ slot₀ n₀ buffer mapping slot n = count - slot
 
 loop-holds : tie.Need-loop-holds Inv-loop μ-loop
-loop-holds c = (empty-mapped _ _ (c .empty .ensures), start-going _ _ _ _ _ _)
+loop-holds c = (empty-mapped _, start-going _ _ _ _ _ _)
 
 returns : tie.Need-returns Inv-loop μ-loop
 returns c =
@@ -29,27 +29,27 @@ returns c =
 
 mul-put-record : tie.Need-mul-put-record Inv-loop μ-loop
 mul-put-record c =
-    let s = c .before .before .before .before .before .before .before .before .before .before .before .before .before .before in
+    let s = c .before .before .before .before .before .before .before .before .before .before .before .before .before in
     record { fits = omega (arith, s .good .1 .1 .1 .1 .1 .0 .0, fits (s .args .image .now) (s .args .segments .now) (s .args .types .now) (s .args .vmaddr) (s .args .start) (s .args .buffer .now) (c .before .before .before .before .before .before .before .before .loop .n) (omega (arith, c .before .if1 .left))) }
 
 put-record-requires : tie.Need-put-record-requires Inv-loop μ-loop
 put-record-requires c κs =
-    let s = c .before .before .before .before .before .before .before .before .before .before .before .before .before .before in
+    let s = c .before .before .before .before .before .before .before .before .before .before .before .before .before in
     omega (arith, c .before .before .before .before .before .before .before .before .loop .inv .1 .long, fits (s .args .image .now) (s .args .segments .now) (s .args .types .now) (s .args .vmaddr) (s .args .start) (s .args .buffer .now) (c .before .before .before .before .before .before .before .before .loop .n) (omega (arith, c .before .if1 .left)))
 
 add-n : tie.Need-add-n Inv-loop μ-loop
 add-n c =
-    let s = c .before .before .before .before .before .before .before .before .before .before .before .before .before .before .before .before .before in
+    let s = c .before .before .before .before .before .before .before .before .before .before .before .before .before .before .before .before in
     record { fits = omega (arith, s .good .1 .1 .1 .1 .1 .0 .0, c .before .before .before .before .if1 .left) }
 
 add-slot : tie.Need-add-slot Inv-loop μ-loop
 add-slot c =
-    let s = c .before .before .before .before .before .before .before .before .before .before .before .before .before .before .before .before .before in
+    let s = c .before .before .before .before .before .before .before .before .before .before .before .before .before .before .before .before in
     record { fits = omega (arith, s .good .1 .1 .0, c .before .before .before .before .before .before .before .before .before .before .loop-test .taken) }
 
 loop-again : tie.Need-loop-again Inv-loop μ-loop
 loop-again c =
-    let a = c .before .before .before .before .before .before .before .before .before .before .before .before .before .before .before .before .before .args in
+    let a = c .before .before .before .before .before .before .before .before .before .before .before .before .before .before .before .before .args in
     let l = c .before .before .before .before .before .before .before .before .before .before .before .loop in
     let step = c .before .before .before .before .before .before .before .before .before .slot-row-moving in
     let mapped = step .ensures .mapped (l .inv .0) in
@@ -69,6 +69,6 @@ pub put-rows-spec : {M : Type 1} → statement M
 put-rows-spec =
     tie.close
     (tie.spec
-    Inv-loop μ-loop (λ c κs. search needs) loop-holds (λ c κs. search needs) (λ c. search needs) (λ c. search needs) returns mul-put-record
+    Inv-loop μ-loop loop-holds (λ c κs. search needs) (λ c. search needs) (λ c. search needs) returns mul-put-record
     put-record-requires add-n add-slot (λ c. search needs) loop-again (λ c. search needs) (λ c. search needs) (λ c. search needs) loop-again-2
     (λ c. search needs) returns-2)

@@ -33,7 +33,7 @@ returns-3 c =
       row = λ w.
           slot-at (now (a .image)) (now (a .segments)) _ _ _ _ _ _ (λ z. c .before .before .before .before .before .before .before .if2 .left (c .before .before .before .before .before .before .before .before .u32-at .ensures ∙ unsigned-part 4 (now (a .types)) (4 * a .slot) _ refl (omega arith) ∙ z)) (c .before .before .before .before .before .before .wrapping-add-u64 .ensures)
           (c .before .before .before .before .before .pointer-in .ensures ∙ ap (relativePointer (c .before .before .before .before .before .before .wrapping-add-u64 .result)) (signed-part 4 (now (a .types)) (4 * a .slot) _ refl (omega arith)))
-          (c .decode-type-descriptor-near .ensures ∙ run-mapped _ _ _ (near-mapped (now (a .segments)) (a .mapping) (c .before .before .before .before .before .pointer-in .result) (around .result) _ (c .before .before .near .given .1) (around .ensures) w) _) (omega arith);
+          (c .decode-type-descriptor .ensures ∙ run-mapped _ _ _ (near-mapped (now (a .segments)) (a .mapping) (c .before .before .before .before .before .pointer-in .result) (around .result) _ (c .before .before .near .given .1) (around .ensures) w) _) (omega arith);
     }
 
 returns-4 : tie.Need-returns-4
