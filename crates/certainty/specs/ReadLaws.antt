@@ -1,5 +1,5 @@
 -- What the readers' answers say of certainty, as the calls' tests leave the cases.
-use Prim.Native.Nat.{ℕ, zero, suc, _+_, _-_, _*_, _%_, _^_, _≤_, _<_}
+use Prim.Native.Nat.{ℕ, zero, suc, _+_, _-_, _^_, _≤_, _<_}
 use native.Mathlib.Decide.{decLe}
 use native.Mathlib.Numerals.{add-one}
 use native.Mathlib.Omega.{arith}
@@ -10,7 +10,7 @@ use mathlib.Core.Option.{Option, some, none}
 use lib.ListN.{length, take, drop, getD, length-take, length-drop, drop-of-length-le}
 use lib.Seq.{drop-cons}
 use lib.Dec.{leb}
-use borrow.Author.Tests.{le-leb, lt-leb, lt-ltb, le-ltb, eq-eqb, ne-eqb}
+use borrow.Author.Tests.{le-leb, lt-leb, eq-eqb, ne-eqb}
 use Rattle.segment.specs.Segments.{segmentsOf, fileOffset}
 use Rattle.util.specs.LittleEndian.{unsignedIn, signedIn}
 use Rattle.util.specs.Pointer.{relativePointer}
@@ -19,7 +19,7 @@ use Rattle.runtime.specs.Reads.{Reads, done, nothing, bytes, text, andThen, wit
 use Rattle.runtime.specs.Bytes.{bytesRead, bytesFrom}
 use Rattle.context.specs.Context.{contextKind, hasName}
 use Rattle.typedescriptor.specs.Row.{TypeRow, rowName, descriptor}
-use Rattle.typedescriptor.specs.Slots.{slots, slotRow}
+use Rattle.typedescriptor.specs.Slots.{slotDescriptor, readAt, slotRow}
 use Rattle.parent.specs.Context.{Header, headerIn, header, slotName, nameAt, name}
 use Rattle.parent.specs.Chain.{contextsMost, headerAt}
 use Rattle.items.specs.Texts.{lookup}
@@ -146,18 +146,9 @@ module _ (image segments : List ℕ) (a : ℕ) (h : List ℕ) (e : h ≡ bytesRe
 -- ---- a slot
 
 module _ (image segments types : List ℕ) (start i : ℕ) where
-  pub past-slots : slots types ≤ i → certain image segments (slotRow types start i) ≡ true
-  unfolding slotRow certain
-  past-slots h = simp (le-ltb i (slots types) h)
-
-  pub zero-slot : unsignedIn 4 types (4 * i) ≡ 0 → i < slots types → certain image segments (slotRow types start i) ≡ true
-  unfolding slotRow certain
-  zero-slot z h = simp (lt-ltb i (slots types) h, z)
-
-  pub slot-at : (s v : ℕ) → (unsignedIn 4 types (4 * i) ≡ 0 → ⊥) → s ≡ (start + 4 * i) % 2 ^ 64 → v ≡ relativePointer s (signedIn 4 types (4 * i))
-      → i < slots types → certain image segments (descriptor v) ≡ certain image segments (slotRow types start i)
+  pub slot-reads : (t : Option ℕ) → t ≡ slotDescriptor types start i → certain image segments (readAt t descriptor) ≡ certain image segments (slotRow types start i)
   unfolding slotRow
-  slot-at s v z es ev h = rw (ev, es) (simp (lt-ltb i (slots types) h, ne-eqb (unsignedIn 4 types (4 * i)) 0 z))
+  slot-reads t e = rw e
 
 -- ---- a context's name
 

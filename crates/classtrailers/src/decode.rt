@@ -5,12 +5,14 @@ ghost use mathlib.Core.Option.{some};
 ghost use Prim.Native.Nat.{_+_, _*_, _≤_};
 ghost use Rattle.runtime.specs.Reads.{run};
 ghost use Rattle.segment.specs.Mapping.{withMapping};
+ghost use Rattle.segment.specs.VmAddress.{addressOf};
 ghost use Rattle.classtrailers.specs.Blocks.{placedBlock, listed, rowAt, rowNumber, below, blockAt};
-ghost use Rattle.classtrailers.specs.Calls.{blockAtOf, endOf};
+ghost use Rattle.classtrailers.specs.Calls.{blockAtOf};
 use crate::block::Block;
 use crate::block::BlockBody;
 use crate::block::BlockKind;
 use segment::Mapping;
+use segment::VmAddress;
 
 // How many bytes an entry has.
 const OVERRIDE: u64 = 12;
@@ -27,18 +29,13 @@ pub enum BlockAt {
 }
 
 // Where something ends, unless that reaches 2^64.
-pub enum End {
-    At(u64),
-    Nothing,
-}
-
-fn end_of(at: u64, size: u64) -> End
-    ensures { λ r. ⌜ endOf r ≡ below (at + size) ⌝ }
+fn end_of(at: u64, size: u64) -> VmAddress
+    ensures { λ r. ⌜ addressOf r ≡ below (at + size) ⌝ }
 {
     if size > 0xffff_ffff_ffff_ffff - at {
-        return End::Nothing;
+        return VmAddress::Nothing;
     }
-    End::At(at + size)
+    VmAddress::At(at + size)
 }
 
 // A block that is recorded whatever its end is.
@@ -46,8 +43,8 @@ fn unread(block: Block, at: u64, size: u64) -> BlockAt
     ensures { λ r. ⌜ blockAtOf r ≡ some (record { block = block; end = below (at + size) }) ⌝ }
 {
     match end_of(at, size) {
-        End::At(end) => BlockAt::Block { block, end },
-        End::Nothing => BlockAt::Last(block),
+        VmAddress::At(end) => BlockAt::Block { block, end },
+        VmAddress::Nothing => BlockAt::Last(block),
     }
 }
 
@@ -73,14 +70,14 @@ fn generic_at(image: &[u8], segments: &[u64], mapping: Mapping, at: u64) -> Bloc
     let parameters = util::u16_at(header, 8) as u64;
     let requirements = util::u16_at(header, 10) as u64;
     match end_of(at, 16 + 4 * ((parameters + 3) / 4) + 12 * requirements) {
-        End::At(end) => BlockAt::Block {
+        VmAddress::At(end) => BlockAt::Block {
             block: Block {
                 kind: BlockKind::Generic,
                 body: BlockBody::At(at),
             },
             end,
         },
-        End::Nothing => BlockAt::Nothing,
+        VmAddress::Nothing => BlockAt::Nothing,
     }
 }
 
@@ -93,7 +90,7 @@ fn vtable_at(image: &[u8], segments: &[u64], mapping: Mapping, at: u64) -> Block
     }
     let count = util::u32_at(header, 4);
     match end_of(at, 8 + 8 * (count as u64)) {
-        End::At(end) => BlockAt::Block {
+        VmAddress::At(end) => BlockAt::Block {
             block: Block {
                 kind: BlockKind::VTable,
                 body: BlockBody::Table {
@@ -104,7 +101,7 @@ fn vtable_at(image: &[u8], segments: &[u64], mapping: Mapping, at: u64) -> Block
             },
             end,
         },
-        End::Nothing => BlockAt::Nothing,
+        VmAddress::Nothing => BlockAt::Nothing,
     }
 }
 
@@ -126,7 +123,7 @@ fn entries_at(
     }
     let count = util::u32_at(header, 0);
     match end_of(at, 4 + entry * (count as u64)) {
-        End::At(end) => BlockAt::Block {
+        VmAddress::At(end) => BlockAt::Block {
             block: Block {
                 kind,
                 body: BlockBody::Table {
@@ -137,7 +134,7 @@ fn entries_at(
             },
             end,
         },
-        End::Nothing => BlockAt::Nothing,
+        VmAddress::Nothing => BlockAt::Nothing,
     }
 }
 

@@ -3,12 +3,12 @@ ghost use mathlib.Core.Path.{_≡_};
 ghost use Prim.Native.Nat.{_<_};
 ghost use Rattle.runtime.specs.Reads.{run};
 ghost use Rattle.segment.specs.Mapping.{withMapping};
+ghost use Rattle.segment.specs.VmAddress.{addressOf};
 ghost use Rattle.classtrailers.specs.Blocks.{rowAt, rowNumber, passed, stepAt, nextBlock, block};
-ghost use Rattle.classtrailers.specs.Calls.{trailingOf, walkOf, endOf, blockStepOf, blockReadOf};
+ghost use Rattle.classtrailers.specs.Calls.{trailingOf, walkOf, blockStepOf, blockReadOf};
 use crate::block::Block;
 use crate::block::BlockKind;
 use crate::decode::BlockAt;
-use crate::decode::End;
 use crate::decode::block_at;
 use crate::trailing::KindRead;
 use crate::trailing::Trailing;
@@ -16,6 +16,7 @@ use crate::trailing::has_block;
 use crate::trailing::kind_there;
 use crate::trailing::number_of;
 use segment::Mapping;
+use segment::VmAddress;
 
 // How many kinds of blocks there are.
 pub const ROWS: u32 = 11;
@@ -111,16 +112,16 @@ fn pass(
     trailing: Trailing,
     row: u32,
     address: u64,
-) -> End
-    ensures { λ r. ⌜ endOf r ≡ run (now (image .entry)) (withMapping mapping (now (segments .entry))) (passed (trailingOf trailing) (rowAt row) address) ⌝ }
+) -> VmAddress
+    ensures { λ r. ⌜ addressOf r ≡ run (now (image .entry)) (withMapping mapping (now (segments .entry))) (passed (trailingOf trailing) (rowAt row) address) ⌝ }
 {
     let KindRead::Kind(kind) = kind_there(trailing, row) else {
-        return End::At(address);
+        return VmAddress::At(address);
     };
     match block_at(image, segments, mapping, kind, address) {
-        BlockAt::Block { block: _, end } => End::At(end),
-        BlockAt::Last(_) => End::Nothing,
-        BlockAt::Nothing => End::Nothing,
+        BlockAt::Block { block: _, end } => VmAddress::At(end),
+        BlockAt::Last(_) => VmAddress::Nothing,
+        BlockAt::Nothing => VmAddress::Nothing,
     }
 }
 
@@ -143,11 +144,11 @@ pub fn block_of_kind(
     let mut row: u32 = 0;
     while row < number {
         match pass(image, segments, mapping, trailing, row, address) {
-            End::At(end) => {
+            VmAddress::At(end) => {
                 address = end;
                 row += 1;
             }
-            End::Nothing => {
+            VmAddress::Nothing => {
                 return BlockRead::Nothing;
             }
         }

@@ -20,7 +20,8 @@ pub fn vm_to_file_offset(segments: &[u64], vmaddr: u64) -> FileOffset
     segment::vm_to_file_offset_in(segments, vmaddr)
 }
 
-// Where `len` bytes at an address lie. Only the first address is translated: the rest follows in the image, which alone bounds it.
+// Where `len` bytes at an address lie. Only the first address is translated: the rest follows in the image, which alone bounds it. This and
+// every reader above asks a mapping before the segments; a caller that has none passes `segment::NO_MAPPING`.
 pub fn find_bytes(
     image: &[u8],
     segments: &[u64],

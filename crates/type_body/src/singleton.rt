@@ -1,12 +1,8 @@
 ghost use mathlib.Core.Path.{_≡_};
+ghost use Rattle.segment.specs.VmAddress.{addressOf};
 ghost use Rattle.runtime.specs.Reads.{run};
-ghost use Rattle.type_body.specs.Singleton.{slotTarget, targetOf, singletonInit, initOf, singletonPointer, pointerOf};
-
-// What an offset in a record refers to.
-pub enum Target {
-    At(u64),
-    Nothing,
-}
+ghost use Rattle.type_body.specs.Singleton.{slotTarget, singletonInit, initOf, singletonPointer, pointerOf};
+use segment::VmAddress;
 
 // The three addresses of a singleton initialization, each 0 where its offset is 0.
 pub enum SingletonMetadataInit {
@@ -26,16 +22,16 @@ pub enum SingletonMetadataPointer {
 
 // What the offset at `off` of the record at `address` refers to. An offset of 0 refers to address 0, wherever its slot lies; another
 // one has to lie below 2^64.
-fn target_in(bytes: &[u8], off: usize, address: u64) -> Target
-    ensures { λ r. ⌜ targetOf r ≡ slotTarget address (now (bytes .entry)) off ⌝ }
+fn target_in(bytes: &[u8], off: usize, address: u64) -> VmAddress
+    ensures { λ r. ⌜ addressOf r ≡ slotTarget address (now (bytes .entry)) off ⌝ }
 {
     if util::u32_at(bytes, off) == 0 {
-        return Target::At(0);
+        return VmAddress::At(0);
     }
     if off as u64 > u64::MAX - address {
-        return Target::Nothing;
+        return VmAddress::Nothing;
     }
-    Target::At(util::pointer_in(bytes, off, address + off as u64))
+    VmAddress::At(util::pointer_in(bytes, off, address + off as u64))
 }
 
 // The 12 bytes of the singleton initialization at an address.
@@ -50,13 +46,13 @@ pub fn singleton_metadata_init(
     if bytes.len() < 12 {
         return SingletonMetadataInit::Nothing;
     }
-    let Target::At(cache) = target_in(bytes, 0, address) else {
+    let VmAddress::At(cache) = target_in(bytes, 0, address) else {
         return SingletonMetadataInit::Nothing;
     };
-    let Target::At(incomplete) = target_in(bytes, 4, address) else {
+    let VmAddress::At(incomplete) = target_in(bytes, 4, address) else {
         return SingletonMetadataInit::Nothing;
     };
-    let Target::At(completion) = target_in(bytes, 8, address) else {
+    let VmAddress::At(completion) = target_in(bytes, 8, address) else {
         return SingletonMetadataInit::Nothing;
     };
     SingletonMetadataInit::At {

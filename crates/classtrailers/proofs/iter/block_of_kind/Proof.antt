@@ -9,7 +9,8 @@ use Rattle.util.specs.AnswersLaws.{told}
 use Rattle.runtime.specs.Reads.{run}
 use Rattle.segment.specs.Mapping.{withMapping}
 use Rattle.classtrailers.specs.Blocks.{reached, block}
-use Rattle.classtrailers.specs.Calls.{trailingOf, endOf, blockAtOf}
+use Rattle.segment.specs.VmAddress.{addressOf}
+use Rattle.classtrailers.specs.Calls.{trailingOf, blockAtOf}
 use Rattle.classtrailers.specs.CallsLaws.{record-says, reached-start, reached-next, kind-absent, kind-stops, kind-there}
 use borrow.Author.Needs.{needs}
 use Rattle.classtrailers.proofs.iter.block_of_kind.Statement.{statement}
@@ -30,11 +31,11 @@ loop-holds : tie.Need-loop-holds Inv-loop μ-loop
 loop-holds c = (omega arith, reached-start _ _ _ _)
 
 loop-again : tie.Need-loop-again Inv-loop μ-loop
-loop-again c = (omega arith, reached-next _ _ _ _ _ _ _ (c .before .before .before .before .before .loop .inv .1) (told endOf (c .before .before .before .pass .ensures) (c .before .end .given .1)))
+loop-again c = (omega arith, reached-next _ _ _ _ _ _ _ (c .before .before .before .before .before .loop .inv .1) (told addressOf (c .before .before .before .pass .ensures) (c .before .end .given .1)))
 
 returns-2 : tie.Need-returns-2 Inv-loop μ-loop
 unfolding block
-returns-2 c = kind-stops _ _ _ _ _ _ (reached-next _ _ _ _ _ _ _ (c .before .before .before .before .loop .inv .1) (told endOf (c .before .before .pass .ensures) (c .enum-told .given .1))) (omega (arith, c .before .before .before .before .before .before .before .number-of .ensures))
+returns-2 c = kind-stops _ _ _ _ _ _ (reached-next _ _ _ _ _ _ _ (c .before .before .before .before .loop .inv .1) (told addressOf (c .before .before .pass .ensures) (c .enum-told .given .1))) (omega (arith, c .before .before .before .before .before .before .before .number-of .ensures))
 
 returns-3 : tie.Need-returns-3 Inv-loop μ-loop
 unfolding block
