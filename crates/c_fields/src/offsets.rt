@@ -43,7 +43,7 @@ pub extern "C" fn hodrupec_field_offsets(
 ) -> u64
     ensures { λ r. ⌜ Tells (mapped offsetsNumbers (guarded (now (segments .entry)) (answered (offsetsPlace (now (image .entry)) (now (segments .entry)) (run (now (image .entry)) (now (segments .entry)) (body address flags)) «metadata_va»)))) (now (out .entry)) r (now (out .exit)) ⌝ }
 {
-    let body = type_body::decode_body(image, segments, address, flags);
+    let body = type_body::decode_body(image, segments, segment::NO_MAPPING, address, flags);
     let found = steps::field_offsets(image, segments, body, metadata_va);
     tell_offsets(found, out)
 }

@@ -11,7 +11,6 @@ ghost use Rattle.c_rows.specs.Numbers.{Tells};
 ghost use Rattle.c_listing.specs.Listing.{twoNumbers, headBytes, rowBytes, listingFrom, listingNumbers, listingBytes};
 use qualified_name::QualifiedName;
 use refusal::Refusal;
-use segment::Mapping;
 use typedescriptor::Descriptor;
 use typedescriptor::Row;
 
@@ -109,7 +108,7 @@ fn put_rows(
     ensures { λ _. ⌜ now (buffer .exit) ≡ atStart (listingBytes (listingFrom (now (image .entry)) (now (segments .entry)) (now (types .entry)) vmaddr start (length (now (buffer .entry))))) (now (buffer .entry)) ⌝ }
 {
     let count = types.len() / 4;
-    let mut mapping = Mapping::empty();
+    let mut mapping = segment::NO_MAPPING;
     let mut slot = start;
     let mut at = 0;
     while slot < count {

@@ -90,7 +90,14 @@ pub extern "C" fn hodrupec_field_name(
     if segments.len() % 4 != 0 {
         return refusal::number(Refusal::RaggedSegments);
     }
-    let name = runtime::lookup_field_name(image, segments, strings, vmaddr, target_va);
+    let name = runtime::lookup_field_name(
+        image,
+        segments,
+        segment::NO_MAPPING,
+        strings,
+        vmaddr,
+        target_va,
+    );
     *out = field_name_numbers(name);
     ANSWERED
 }

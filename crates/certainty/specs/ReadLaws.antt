@@ -1,5 +1,5 @@
--- What the readers' answers say about certainty, in the cases that the calls' tests leave.
-use Prim.Native.Nat.{ℕ, zero, suc, _+_, _-_, _*_, _%_, _^_, _≤_, _<_}
+-- What the readers' answers say of certainty, as the calls' tests leave the cases.
+use Prim.Native.Nat.{ℕ, zero, suc, _+_, _-_, _^_, _≤_, _<_}
 use native.Mathlib.Decide.{decLe}
 use native.Mathlib.Numerals.{add-one}
 use native.Mathlib.Omega.{arith}
@@ -10,19 +10,16 @@ use mathlib.Core.Option.{Option, some, none}
 use lib.ListN.{length, take, drop, getD, length-take, length-drop, drop-of-length-le}
 use lib.Seq.{drop-cons}
 use lib.Dec.{leb}
-use borrow.Author.Tests.{le-leb, lt-leb, lt-ltb, le-ltb, eq-eqb, ne-eqb}
+use borrow.Author.Tests.{le-leb, lt-leb, eq-eqb, ne-eqb}
 use Rattle.segment.specs.Segments.{segmentsOf, fileOffset}
 use Rattle.util.specs.LittleEndian.{unsignedIn, signedIn}
 use Rattle.util.specs.Pointer.{relativePointer}
 use Rattle.util.specs.Cstr.{Place, textAt}
 use Rattle.runtime.specs.Reads.{Reads, done, nothing, bytes, text, andThen, within, bytesPlace, textOffset, run}
 use Rattle.runtime.specs.Bytes.{bytesRead, bytesFrom}
-use Rattle.runtime.specs.CallsLaws.{run-mapped}
-use Rattle.segment.specs.Mapping.{withMapping, TrueMapping}
-use Rattle.segment.specs.declared.segment.Mapping.{Mapping}
 use Rattle.context.specs.Context.{contextKind, hasName}
 use Rattle.typedescriptor.specs.Row.{TypeRow, rowName, descriptor}
-use Rattle.typedescriptor.specs.Slots.{slots, slotRow}
+use Rattle.typedescriptor.specs.Slots.{slotDescriptor, readAt, slotRow}
 use Rattle.parent.specs.Context.{Header, headerIn, header, slotName, nameAt, name}
 use Rattle.parent.specs.Chain.{contextsMost, headerAt}
 use Rattle.items.specs.Texts.{lookup}
@@ -149,18 +146,9 @@ module _ (image segments : List ℕ) (a : ℕ) (h : List ℕ) (e : h ≡ bytesRe
 -- ---- a slot
 
 module _ (image segments types : List ℕ) (start i : ℕ) where
-  pub past-slots : slots types ≤ i → certain image segments (slotRow types start i) ≡ true
-  unfolding slotRow certain
-  past-slots h = simp (le-ltb i (slots types) h)
-
-  pub zero-slot : unsignedIn 4 types (4 * i) ≡ 0 → i < slots types → certain image segments (slotRow types start i) ≡ true
-  unfolding slotRow certain
-  zero-slot z h = simp (lt-ltb i (slots types) h, z)
-
-  pub slot-at : (s v : ℕ) → (unsignedIn 4 types (4 * i) ≡ 0 → ⊥) → s ≡ (start + 4 * i) % 2 ^ 64 → v ≡ relativePointer s (signedIn 4 types (4 * i))
-      → i < slots types → certain image segments (descriptor v) ≡ certain image segments (slotRow types start i)
+  pub slot-reads : (t : Option ℕ) → t ≡ slotDescriptor types start i → certain image segments (readAt t descriptor) ≡ certain image segments (slotRow types start i)
   unfolding slotRow
-  slot-at s v z es ev h = rw (ev, es) (simp (lt-ltb i (slots types) h, ne-eqb (unsignedIn 4 types (4 * i)) 0 z))
+  slot-reads t e = rw e
 
 -- ---- a context's name
 
@@ -252,10 +240,6 @@ module _ (image segments : List ℕ) (left a : ℕ) where
 
     pub chain-on : 0 < left → certain image segments (name (h .address) (h .flags)) ≡ true → chainCertain image segments left a ≡ chainCertain image segments (left - 1) (h .parent)
     chain-on l f = chain-by (left - 1) (omega arith) ∙ rw f
-
--- a header that was read with a true mapping
-pub header-near : (image segments : List ℕ) (a : ℕ) (m : Mapping) (w : TrueMapping segments m) (x : Option Header) → x ≡ run image (withMapping m segments) (header a) → x ≡ run image segments (header a)
-header-near image segments a m w x e = e ∙ run-mapped image segments m w (header a)
 
 -- ---- the joined name of a slot
 

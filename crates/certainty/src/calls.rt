@@ -62,7 +62,7 @@ pub fn name_certain(
     if !slot_certain(image, segments, types, vmaddr, slot) {
         return Certainty::Open;
     }
-    match typedescriptor::slot_row(image, segments, types, vmaddr, slot) {
+    match typedescriptor::slot_row(image, segments, segment::NO_MAPPING, types, vmaddr, slot) {
         Descriptor::Row(row) => told(chain_certain(image, segments, row.parent)),
         Descriptor::Nothing => Certainty::Certain,
     }

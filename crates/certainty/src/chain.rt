@@ -9,7 +9,6 @@ use parent::CONTEXTS;
 use parent::HeaderRead;
 use parent::has_name;
 use parent::read_header;
-use segment::Mapping;
 
 // Whether the name that the word after a context's header refers to is certain, or that there is none.
 fn slot_name_certain(image: &[u8], segments: &[u64], descriptor_va: u64) -> bool
@@ -19,7 +18,7 @@ fn slot_name_certain(image: &[u8], segments: &[u64], descriptor_va: u64) -> bool
         return true;
     }
     let slot_va = descriptor_va + 8;
-    let slot = runtime::read_bytes(image, segments, slot_va, 4);
+    let slot = runtime::read_bytes(image, segments, segment::NO_MAPPING, slot_va, 4);
     if slot.len() < 4 {
         return is_nowhere(segments, slot_va);
     }
@@ -50,7 +49,7 @@ fn header_certain(image: &[u8], segments: &[u64], descriptor_va: u64) -> bool
     if descriptor_va == 0 {
         return true;
     }
-    let bytes = runtime::read_bytes(image, segments, descriptor_va, 8);
+    let bytes = runtime::read_bytes(image, segments, segment::NO_MAPPING, descriptor_va, 8);
     if bytes.len() < 8 {
         return is_nowhere(segments, descriptor_va);
     }
@@ -61,11 +60,10 @@ fn header_certain(image: &[u8], segments: &[u64], descriptor_va: u64) -> bool
 pub fn chain_certain(image: &[u8], segments: &[u64], parent_va: u64) -> bool
     ensures { λ r. ⌜ r ≡ chainCertain (now (image .entry)) (now (segments .entry)) contextsMost «parent_va» ⌝ }
 {
-    let mapping = Mapping::empty();
     let mut next = parent_va;
     let mut left = CONTEXTS;
     loop {
-        match read_header(image, segments, mapping, next) {
+        match read_header(image, segments, segment::NO_MAPPING, next) {
             HeaderRead::Header { flags, parent } => {
                 if left == 0 {
                     return true;

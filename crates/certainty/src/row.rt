@@ -4,12 +4,13 @@ ghost use Rattle.typedescriptor.specs.Slots.{slotRow};
 ghost use Rattle.certainty.specs.Certain.{certain};
 use crate::reads::is_nowhere;
 use crate::reads::text_certain;
+use segment::VmAddress;
 
 // Whether the row of the type descriptor at an address is certain, or that there is none.
 fn descriptor_certain(image: &[u8], segments: &[u64], descriptor_va: u64) -> bool
     ensures { λ r. ⌜ r ≡ certain (now (image .entry)) (now (segments .entry)) (descriptor «descriptor_va») ⌝ }
 {
-    let header = runtime::read_bytes(image, segments, descriptor_va, 20);
+    let header = runtime::read_bytes(image, segments, segment::NO_MAPPING, descriptor_va, 20);
     if header.len() < 20 {
         return is_nowhere(segments, descriptor_va);
     }
@@ -27,14 +28,8 @@ fn descriptor_certain(image: &[u8], segments: &[u64], descriptor_va: u64) -> boo
 pub fn slot_certain(image: &[u8], segments: &[u64], types: &[u8], vmaddr: u64, slot: usize) -> bool
     ensures { λ r. ⌜ r ≡ certain (now (image .entry)) (now (segments .entry)) (slotRow (now (types .entry)) vmaddr slot) ⌝ }
 {
-    if types.len() / 4 <= slot {
-        return true;
+    match typedescriptor::slot_descriptor(types, vmaddr, slot) {
+        VmAddress::At(address) => descriptor_certain(image, segments, address),
+        VmAddress::Nothing => true,
     }
-    let off = 4 * slot;
-    let pointer = &types[off..off + 4];
-    if util::u32_at(pointer, 0) == 0 {
-        return true;
-    }
-    let slot_va = std::num::wrapping_add_u64(vmaddr, off as u64);
-    descriptor_certain(image, segments, util::pointer_in(pointer, 0, slot_va))
 }

@@ -5,7 +5,6 @@ use Rattle.classtrailers.specs.Blocks.{Trailing, Ended, Walk, Step}
 use Rattle.classtrailers.specs.declared.block.Block.{Block}
 use Rattle.classtrailers.specs.declared.block.BlockKind.{BlockKind}
 use Rattle.classtrailers.specs.declared.decode.BlockAt.{BlockAt}
-use Rattle.classtrailers.specs.declared.decode.End.{End}
 use Rattle.classtrailers.specs.declared.trailing.KindRead.{KindRead}
 use Rattle.classtrailers.specs.declared.trailing.Trailing as plain
 use Rattle.classtrailers.specs.declared.iter.BlockIter.{BlockIter}
@@ -31,10 +30,6 @@ abbrev pub blockAtOf : BlockAt → Option Ended
 blockAtOf (BlockAt.Block b e) = some (record { block = b; end = some e })
 blockAtOf (BlockAt.Last b) = some (record { block = b; end = none })
 blockAtOf BlockAt.Nothing = none
-
-abbrev pub endOf : End → Option ℕ
-endOf (End.At e) = some e
-endOf End.Nothing = none
 
 abbrev pub kindReadOf : KindRead → Option BlockKind
 kindReadOf (KindRead.Kind k) = some k

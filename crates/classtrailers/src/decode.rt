@@ -5,12 +5,14 @@ ghost use mathlib.Core.Option.{some};
 ghost use Prim.Native.Nat.{_+_, _*_, _≤_};
 ghost use Rattle.runtime.specs.Reads.{run};
 ghost use Rattle.segment.specs.Mapping.{withMapping};
+ghost use Rattle.segment.specs.VmAddress.{addressOf};
 ghost use Rattle.classtrailers.specs.Blocks.{placedBlock, listed, rowAt, rowNumber, below, blockAt};
-ghost use Rattle.classtrailers.specs.Calls.{blockAtOf, endOf};
+ghost use Rattle.classtrailers.specs.Calls.{blockAtOf};
 use crate::block::Block;
 use crate::block::BlockBody;
 use crate::block::BlockKind;
 use segment::Mapping;
+use segment::VmAddress;
 
 // How many bytes an entry has.
 const OVERRIDE: u64 = 12;
@@ -27,18 +29,13 @@ pub enum BlockAt {
 }
 
 // Where something ends, unless that reaches 2^64.
-pub enum End {
-    At(u64),
-    Nothing,
-}
-
-fn end_of(at: u64, size: u64) -> End
-    ensures { λ r. ⌜ endOf r ≡ below (at + size) ⌝ }
+fn end_of(at: u64, size: u64) -> VmAddress
+    ensures { λ r. ⌜ addressOf r ≡ below (at + size) ⌝ }
 {
     if size > 0xffff_ffff_ffff_ffff - at {
-        return End::Nothing;
+        return VmAddress::Nothing;
     }
-    End::At(at + size)
+    VmAddress::At(at + size)
 }
 
 // A block that is recorded whatever its end.
@@ -46,8 +43,8 @@ fn unread(block: Block, at: u64, size: u64) -> BlockAt
     ensures { λ r. ⌜ blockAtOf r ≡ some (record { block = block; end = below (at + size) }) ⌝ }
 {
     match end_of(at, size) {
-        End::At(end) => BlockAt::Block { block, end },
-        End::Nothing => BlockAt::Last(block),
+        VmAddress::At(end) => BlockAt::Block { block, end },
+        VmAddress::Nothing => BlockAt::Last(block),
     }
 }
 
@@ -66,34 +63,34 @@ fn plain_at(kind: BlockKind, at: u64, size: u64) -> BlockAt
 fn generic_at(image: &[u8], segments: &[u64], mapping: Mapping, at: u64) -> BlockAt
     ensures { λ r. ⌜ blockAtOf r ≡ run (now (image .entry)) (withMapping mapping (now (segments .entry))) (blockAt (rowAt 0) at) ⌝ }
 {
-    let header = runtime::read_bytes_near(image, segments, mapping, at, 16);
+    let header = runtime::read_bytes(image, segments, mapping, at, 16);
     if header.len() < 16 {
         return BlockAt::Nothing;
     }
     let parameters = util::u16_at(header, 8) as u64;
     let requirements = util::u16_at(header, 10) as u64;
     match end_of(at, 16 + 4 * ((parameters + 3) / 4) + 12 * requirements) {
-        End::At(end) => BlockAt::Block {
+        VmAddress::At(end) => BlockAt::Block {
             block: Block {
                 kind: BlockKind::Generic,
                 body: BlockBody::At(at),
             },
             end,
         },
-        End::Nothing => BlockAt::Nothing,
+        VmAddress::Nothing => BlockAt::Nothing,
     }
 }
 
 fn vtable_at(image: &[u8], segments: &[u64], mapping: Mapping, at: u64) -> BlockAt
     ensures { λ r. ⌜ blockAtOf r ≡ run (now (image .entry)) (withMapping mapping (now (segments .entry))) (blockAt (rowAt 4) at) ⌝ }
 {
-    let header = runtime::read_bytes_near(image, segments, mapping, at, 8);
+    let header = runtime::read_bytes(image, segments, mapping, at, 8);
     if header.len() < 8 {
         return BlockAt::Nothing;
     }
     let count = util::u32_at(header, 4);
     match end_of(at, 8 + 8 * (count as u64)) {
-        End::At(end) => BlockAt::Block {
+        VmAddress::At(end) => BlockAt::Block {
             block: Block {
                 kind: BlockKind::VTable,
                 body: BlockBody::Table {
@@ -104,7 +101,7 @@ fn vtable_at(image: &[u8], segments: &[u64], mapping: Mapping, at: u64) -> Block
             },
             end,
         },
-        End::Nothing => BlockAt::Nothing,
+        VmAddress::Nothing => BlockAt::Nothing,
     }
 }
 
@@ -120,13 +117,13 @@ fn entries_at(
     requires { ⌜ entry ≤ 12 ⌝ }
     ensures { λ r. ⌜ blockAtOf r ≡ run (now (image .entry)) (withMapping mapping (now (segments .entry))) (blockAt (listed kind (λ _. false) entry) at) ⌝ }
 {
-    let header = runtime::read_bytes_near(image, segments, mapping, at, 4);
+    let header = runtime::read_bytes(image, segments, mapping, at, 4);
     if header.len() < 4 {
         return BlockAt::Nothing;
     }
     let count = util::u32_at(header, 0);
     match end_of(at, 4 + entry * (count as u64)) {
-        End::At(end) => BlockAt::Block {
+        VmAddress::At(end) => BlockAt::Block {
             block: Block {
                 kind,
                 body: BlockBody::Table {
@@ -137,7 +134,7 @@ fn entries_at(
             },
             end,
         },
-        End::Nothing => BlockAt::Nothing,
+        VmAddress::Nothing => BlockAt::Nothing,
     }
 }
 
@@ -145,7 +142,7 @@ fn entries_at(
 fn invertible_at(image: &[u8], segments: &[u64], mapping: Mapping, at: u64) -> BlockAt
     ensures { λ r. ⌜ blockAtOf r ≡ run (now (image .entry)) (withMapping mapping (now (segments .entry))) (blockAt (rowAt 8) at) ⌝ }
 {
-    let header = runtime::read_bytes_near(image, segments, mapping, at, 2);
+    let header = runtime::read_bytes(image, segments, mapping, at, 2);
     if header.len() < 2 {
         return BlockAt::Nothing;
     }
@@ -160,8 +157,8 @@ fn invertible_at(image: &[u8], segments: &[u64], mapping: Mapping, at: u64) -> B
     unread(set, at, 4)
 }
 
-// The block of a kind at an address. The mapping is tried before the segments; a true mapping changes no answer.
-pub fn block_near(
+// The block of a kind at an address. The mapping is asked before the segments: one that is true of them changes no answer.
+pub fn block_at(
     image: &[u8],
     segments: &[u64],
     mapping: Mapping,

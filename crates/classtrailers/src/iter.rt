@@ -3,19 +3,20 @@ ghost use mathlib.Core.Path.{_≡_};
 ghost use Prim.Native.Nat.{_<_};
 ghost use Rattle.runtime.specs.Reads.{run};
 ghost use Rattle.segment.specs.Mapping.{withMapping};
+ghost use Rattle.segment.specs.VmAddress.{addressOf};
 ghost use Rattle.classtrailers.specs.Blocks.{rowAt, rowNumber, passed, stepAt, nextBlock, block};
-ghost use Rattle.classtrailers.specs.Calls.{trailingOf, walkOf, endOf, blockStepOf, blockReadOf};
+ghost use Rattle.classtrailers.specs.Calls.{trailingOf, walkOf, blockStepOf, blockReadOf};
 use crate::block::Block;
 use crate::block::BlockKind;
 use crate::decode::BlockAt;
-use crate::decode::End;
-use crate::decode::block_near;
+use crate::decode::block_at;
 use crate::trailing::KindRead;
 use crate::trailing::Trailing;
 use crate::trailing::has_block;
 use crate::trailing::kind_there;
 use crate::trailing::number_of;
 use segment::Mapping;
+use segment::VmAddress;
 
 // How many kinds of blocks there are.
 pub const ROWS: u32 = 11;
@@ -49,7 +50,7 @@ fn step_at(
     requires { ⌜ (row < 11) × (row ≡ rowNumber kind) ⌝ }
     ensures { λ r. ⌜ blockStepOf r ≡ stepAt (now (image .entry)) (now (segments .entry)) (trailingOf trailing) row address ⌝ }
 {
-    match block_near(image, segments, Mapping::empty(), kind, address) {
+    match block_at(image, segments, segment::NO_MAPPING, kind, address) {
         BlockAt::Block { block, end } => BlockStep::Block {
             block,
             next: BlockIter {
@@ -111,21 +112,21 @@ fn pass(
     trailing: Trailing,
     row: u32,
     address: u64,
-) -> End
-    ensures { λ r. ⌜ endOf r ≡ run (now (image .entry)) (withMapping mapping (now (segments .entry))) (passed (trailingOf trailing) (rowAt row) address) ⌝ }
+) -> VmAddress
+    ensures { λ r. ⌜ addressOf r ≡ run (now (image .entry)) (withMapping mapping (now (segments .entry))) (passed (trailingOf trailing) (rowAt row) address) ⌝ }
 {
     let KindRead::Kind(kind) = kind_there(trailing, row) else {
-        return End::At(address);
+        return VmAddress::At(address);
     };
-    match block_near(image, segments, mapping, kind, address) {
-        BlockAt::Block { block: _, end } => End::At(end),
-        BlockAt::Last(_) => End::Nothing,
-        BlockAt::Nothing => End::Nothing,
+    match block_at(image, segments, mapping, kind, address) {
+        BlockAt::Block { block: _, end } => VmAddress::At(end),
+        BlockAt::Last(_) => VmAddress::Nothing,
+        BlockAt::Nothing => VmAddress::Nothing,
     }
 }
 
 // The block of a kind, of a descriptor whose blocks start at an address: of those before it only the headers are read.
-fn block_of_kind_near(
+pub fn block_of_kind(
     image: &[u8],
     segments: &[u64],
     mapping: Mapping,
@@ -143,31 +144,18 @@ fn block_of_kind_near(
     let mut row: u32 = 0;
     while row < number {
         match pass(image, segments, mapping, trailing, row, address) {
-            End::At(end) => {
+            VmAddress::At(end) => {
                 address = end;
                 row += 1;
             }
-            End::Nothing => {
+            VmAddress::Nothing => {
                 return BlockRead::Nothing;
             }
         }
     }
-    match block_near(image, segments, mapping, kind, address) {
+    match block_at(image, segments, mapping, kind, address) {
         BlockAt::Block { block, end: _ } => BlockRead::Block(block),
         BlockAt::Last(block) => BlockRead::Block(block),
         BlockAt::Nothing => BlockRead::Nothing,
     }
-}
-
-// The same without a mapping.
-pub fn block_of_kind(
-    image: &[u8],
-    segments: &[u64],
-    trailing: Trailing,
-    start: u64,
-    kind: BlockKind,
-) -> BlockRead
-    ensures { λ r. ⌜ blockReadOf r ≡ run (now (image .entry)) (now (segments .entry)) (block (trailingOf trailing) start kind) ⌝ }
-{
-    block_of_kind_near(image, segments, Mapping::empty(), trailing, start, kind)
 }

@@ -8,7 +8,7 @@ pub use block::Block;
 pub use block::BlockBody;
 pub use block::BlockKind;
 pub use decode::BlockAt;
-pub use decode::block_near;
+pub use decode::block_at;
 pub use iter::BlockIter;
 pub use iter::BlockRead;
 pub use iter::BlockStep;

@@ -22,7 +22,7 @@ fn window_of_one(image: &[u8], segments: &[u64], address: u64, size: usize) -> W
     requires { ⌜ address + (size - 4) < 2 ^ 64 ⌝ }
     ensures { λ r. ⌜ Opens (now (image .entry)) (now (segments .entry)) size address r ⌝ }
 {
-    match runtime::find_bytes(image, segments, address, size) {
+    match runtime::find_bytes(image, segments, segment::NO_MAPPING, address, size) {
         Bytes::At(place) => Window::At { place, last: 0 },
         Bytes::Nothing => Window::Nothing,
     }

@@ -114,11 +114,21 @@ impl FieldDescriptor {
 pub fn mangled_type_name(image: &[u8], segments: &[u64], descriptor: FieldDescriptor) -> Text
     ensures { λ r. ⌜ textOf r ≡ textPlace (now (image .entry)) (now (segments .entry)) (descriptor .«mangled_type_name_va») ⌝ }
 {
-    runtime::read_cstr(image, segments, descriptor.mangled_type_name_va)
+    runtime::read_cstr(
+        image,
+        segments,
+        segment::NO_MAPPING,
+        descriptor.mangled_type_name_va,
+    )
 }
 
 pub fn superclass_mangled_name(image: &[u8], segments: &[u64], descriptor: FieldDescriptor) -> Text
     ensures { λ r. ⌜ textOf r ≡ textPlace (now (image .entry)) (now (segments .entry)) (descriptor .«superclass_va») ⌝ }
 {
-    runtime::read_cstr(image, segments, descriptor.superclass_va)
+    runtime::read_cstr(
+        image,
+        segments,
+        segment::NO_MAPPING,
+        descriptor.superclass_va,
+    )
 }

@@ -62,7 +62,7 @@ impl FieldRecordIter {
     {
         match segment::locate(segments, self.base_va) {
             Around::Mapping(mapping) => mapping,
-            Around::Nothing => Mapping::empty(),
+            Around::Nothing => segment::NO_MAPPING,
         }
     }
 
@@ -101,7 +101,12 @@ impl FieldRecordIter {
 pub fn record_type_name(image: &[u8], segments: &[u64], record: FieldRecord) -> Text
     ensures { λ r. ⌜ textOf r ≡ textPlace (now (image .entry)) (now (segments .entry)) («record» .«mangled_type_name_va») ⌝ }
 {
-    runtime::read_cstr(image, segments, record.mangled_type_name_va)
+    runtime::read_cstr(
+        image,
+        segments,
+        segment::NO_MAPPING,
+        record.mangled_type_name_va,
+    )
 }
 
 // The image's text at the name's address, else that of the string section, whose first byte is at `strings_va`.
@@ -114,5 +119,12 @@ pub fn field_name(
 ) -> FieldName
     ensures { λ r. ⌜ fieldNameOf r ≡ fieldName (now (image .entry)) (now (segments .entry)) (now (strings .entry)) «strings_va» («record» .«field_name_va») ⌝ }
 {
-    runtime::lookup_field_name(image, segments, strings, strings_va, record.field_name_va)
+    runtime::lookup_field_name(
+        image,
+        segments,
+        segment::NO_MAPPING,
+        strings,
+        strings_va,
+        record.field_name_va,
+    )
 }

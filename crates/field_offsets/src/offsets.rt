@@ -52,7 +52,13 @@ fn struct_offsets(
         return FieldOffsets::Nothing;
     }
     let length = 4 * (count as usize);
-    match runtime::find_bytes(image, segments, metadata_va + distance, length) {
+    match runtime::find_bytes(
+        image,
+        segments,
+        segment::NO_MAPPING,
+        metadata_va + distance,
+        length,
+    ) {
         Bytes::At(place) => FieldOffsets::At { place, count },
         Bytes::Nothing => FieldOffsets::Nothing,
     }
@@ -144,6 +150,7 @@ fn metadata_after(
     let found = classtrailers::block_of_kind(
         image,
         segments,
+        segment::NO_MAPPING,
         trailing,
         start,
         BlockKind::SingletonMetadataPointer,
@@ -163,7 +170,7 @@ pub fn static_field_offsets(
 ) -> FieldOffsets
     ensures { λ r. ⌜ offsetsOf r ≡ staticPlace (now (image .entry)) (now (segments .entry)) address flags ⌝ }
 {
-    let body = decode_body(image, segments, address, flags);
+    let body = decode_body(image, segments, segment::NO_MAPPING, address, flags);
     match metadata_after(image, segments, address, flags, body) {
         SingletonMetadataPointer::At(metadata_va) => {
             field_offsets(image, segments, body, metadata_va)

@@ -260,7 +260,7 @@ fn put_blocks(
         let here = at + 4 * (row as usize);
         match classtrailers::kind_there(trailing, row) {
             KindRead::Kind(kind) => {
-                let found = classtrailers::block_near(image, segments, mapping, kind, address);
+                let found = classtrailers::block_at(image, segments, mapping, kind, address);
                 match found {
                     BlockAt::Block { block, end } => {
                         put_block(block, buffer, here);
@@ -302,7 +302,7 @@ fn put_record(
     let address = row.address;
     let flags = row.flags;
     put_row(slot, row, buffer, at);
-    let body = type_body::decode_body_near(image, segments, mapping, address, flags);
+    let body = type_body::decode_body(image, segments, mapping, address, flags);
     put_body(body, buffer, at + 6);
     match type_body::trailing(address, flags, body) {
         TrailingRead::Start { trailing, start } => {
@@ -328,7 +328,7 @@ pub fn put_rows(
 {
     let count = types.len() / 4;
     let room = buffer.len() / RECORD;
-    let mut mapping = Mapping::empty();
+    let mut mapping = segment::NO_MAPPING;
     let mut slot = start;
     let mut n: usize = 0;
     while slot < count {

@@ -22,7 +22,7 @@ use Rattle.classtrailers.specs.declared.block.Block.{Block}
 use Rattle.classtrailers.specs.declared.block.BlockKind.{BlockKind}
 use Rattle.typedescriptor.specs.Row.{TypeRow}
 use Rattle.typedescriptor.specs.Slots.{slots, Found, found, rowsFrom, rows}
-use Rattle.typedescriptor.specs.RowLaws.{past-slots}
+use Rattle.typedescriptor.specs.RowLaws.{past-slots, refers-nowhere}
 use Rattle.typedescriptor.specs.SlotsLaws.{steppedRows, stepped-rows}
 use Rattle.type_body.specs.Body.{Body, body, trailing, trailingStart}
 use Rattle.type_body.specs.Singleton.{needing, singletonInit, singletonPointer}
@@ -96,7 +96,7 @@ module _ (image segments : List ℕ) (s : Sections) where
   -- and past the last slot there is none
   pub no-slot : (i : ℕ) → slots (s .types) ≤ i → run image segments (item s (Key.row i)) ≡ none
   unfolding item
-  no-slot i h = run-map image segments Answer.row (rowOfSlot s i) ∙ rw (← past-slots image segments (s .types) (s .typesStart) i h)
+  no-slot i h = run-map image segments Answer.row (rowOfSlot s i) ∙ rw (← refers-nowhere image segments (s .types) (s .typesStart) i (past-slots (s .types) (s .typesStart) i h))
 
   -- ---- what belongs to a row
 

@@ -20,7 +20,7 @@ use Rattle.runtime.specs.ReadsLaws.{path-bind}
 use Rattle.runtime.specs.PathLaws.{bytes-clear}
 use Rattle.context.specs.Context.{contextKind, hasName}
 use Rattle.typedescriptor.specs.Row.{TypeRow, nameAddress, typeRow, rowName, descriptor}
-use Rattle.typedescriptor.specs.Slots.{slots, slotAddress, slotRow}
+use Rattle.typedescriptor.specs.Slots.{slots, slotDescriptor, readAt, slotRow}
 use Rattle.vtable.specs.Entries.{Entry}
 use Rattle.field.specs.Records.{descriptorRecord}
 use Rattle.parent.specs.Context.{Name, Header, slotName, nameAt, name}
@@ -54,13 +54,11 @@ descriptor-text a = ap (bytes a 20) (fun-ext (λ h. named h (leb (2 ^ 64) (a + 8
 
 pub row-text : (s : Sections) (i : ℕ) → readName s (NameKey.descriptor i) ≡ mapReads rowNamed (rowOfSlot s i)
 unfolding readName nameOf slotNameAddress slotRow mapReads bind
-row-text s i = go (ltb i (slots (s .types))) (eqb (unsignedIn 4 (s .types) (4 * i)) 0)
+row-text s i = go (slotDescriptor (s .types) (s .typesStart) i)
   where
-    go : (b d : Bool) → bind (cond b (cond d nothing (descriptorName (slotAddress (s .types) (s .typesStart) i))) nothing) lookup
-        ≡ bind (cond b (cond d nothing (descriptor (slotAddress (s .types) (s .typesStart) i))) nothing) (λ r. done (rowNamed r))
-    go true false = descriptor-text (slotAddress (s .types) (s .typesStart) i)
-    go true true = refl
-    go false d = refl
+    go : (t : Option ℕ) → bind (readAt t descriptorName) lookup ≡ bind (readAt t descriptor) (λ r. done (rowNamed r))
+    go none = refl
+    go (some a) = descriptor-text a
 
 -- a context's
 pub header-text : (h : Header) → bind (contextNameAt h) lookup ≡ name (h .address) (h .flags)

@@ -17,7 +17,7 @@ use Rattle.context.specs.declared.descriptor.ContextDescriptorKind.{ContextDesc
 use Rattle.classtrailers.specs.Blocks.{Trailing, BlockRow, rowAt, readHeader, below, ended, blockAt, recordAt, somewhere, endAt, passed, reached, blockIn, rowNumber, block}
 use Rattle.classtrailers.specs.declared.block.Block.{Block}
 use Rattle.classtrailers.specs.declared.block.BlockKind.{BlockKind}
-use Rattle.typedescriptor.specs.Slots.{slots, slotAddress}
+use Rattle.typedescriptor.specs.Slots.{slotDescriptor, readAt}
 use Rattle.type_body.specs.Body.{Body, ofClass, ofStruct, ofEnum, bodyBytes, bodyOfKind, body, slotBody, trailing, trailingStart}
 use Rattle.type_body.specs.Singleton.{initialization, slotTarget, needing, targets, singletonInit, singletonPointer}
 use Rattle.type_body.specs.Items.{placeOf, slotBlock, slotInit, slotPointer, initOfBlock, pointerOfBlock}
@@ -280,10 +280,11 @@ module _ (image segments : List ℕ) (P : Range → Type 0) (onBytes : (o n : �
 
   pub on-slot-name : (s : Sections) (i : ℕ) → On (slotNameAddress s i)
   unfolding slotNameAddress descriptorName
-  on-slot-name s i =
-      on-cond (ltb i (slots (s .types)))
-      (on-cond (eqb (unsignedIn 4 (s .types) (4 * i)) 0) on-nothing
-      (on-bytes (slotAddress (s .types) (s .typesStart) i) 20 (λ h. on-cond (leb (2 ^ 64) (slotAddress (s .types) (s .typesStart) i + 8)) on-nothing (on-done _)))) on-nothing
+  on-slot-name s i = go (slotDescriptor (s .types) (s .typesStart) i)
+    where
+      go : (t : Option ℕ) → On (readAt t descriptorName)
+      go none = on-nothing
+      go (some a) = on-bytes a 20 (λ h. on-cond (leb (2 ^ 64) (a + 8)) on-nothing (on-done _))
 
   pub on-context-name : (h : Header) → On (contextNameAt h)
   unfolding contextNameAt

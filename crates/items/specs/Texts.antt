@@ -1,18 +1,18 @@
--- The texts that a listing looks up, by the addresses of names: docs/SPECIFICATION.md, "Items, paths and the cut". The premise of the cut
--- speaks of them (`ClearOf`); what the calls return for them is `Beside`.
-use Prim.Native.Nat.{ℕ, _+_, _*_, _^_}
+-- The texts that a listing looks up, by the addresses of names: docs/SPECIFICATION.md, "Items, paths and the cut". The premise of the cut speaks of them
+-- (`ClearOf`), and what the calls tell of them is `Beside`.
+use Prim.Native.Nat.{ℕ, _+_, _^_}
 use mathlib.Core.List.{List}
 use mathlib.Core.Path.{_≡_}
 use mathlib.Core.Bool.{cond}
 use mathlib.Core.Option.{some}
 use lib.ListN.{getD}
-use lib.Dec.{leb, ltb, eqb}
+use lib.Dec.{leb, eqb}
 use Rattle.util.specs.LittleEndian.{unsignedIn, signedIn}
 use Rattle.util.specs.Pointer.{relativePointer}
 use Rattle.runtime.specs.Reads.{Reads, done, nothing, bytes, text, bind, textOffset, textRange, run, Clear}
 use Rattle.context.specs.Context.{contextKind, hasName}
 use Rattle.typedescriptor.specs.Row.{nameAddress}
-use Rattle.typedescriptor.specs.Slots.{slots, slotAddress}
+use Rattle.typedescriptor.specs.Slots.{slotDescriptor, readAt}
 use Rattle.type_body.specs.Body.{Body, ofClass, ofStruct, ofEnum}
 use Rattle.vtable.specs.Entries.{Entry}
 use Rattle.field.specs.Fields.{descriptorAt}
@@ -38,9 +38,7 @@ unfoldable pub descriptorName : ℕ → Reads ℕ
 descriptorName a = bytes a 20 (λ h. cond (leb (2 ^ 64) (a + 8)) nothing (done (nameAddress a h)))
 
 unfoldable pub slotNameAddress : Sections → ℕ → Reads ℕ
-slotNameAddress s i =
-    cond (ltb i (slots (s .types)))
-    (cond (eqb (unsignedIn 4 (s .types) (4 * i)) 0) nothing (descriptorName (slotAddress (s .types) (s .typesStart) i))) nothing
+slotNameAddress s i = readAt (slotDescriptor (s .types) (s .typesStart) i) descriptorName
 
 -- a context's, if it has a name: from the offset at the address + 8, which is not 0
 unfoldable pub contextNameAt : Header → Reads ℕ

@@ -96,16 +96,9 @@ fn put_record(
     let type_va = record.mangled_type_name_va;
     let name_va = record.field_name_va;
     put_words(record, buffer, at);
-    let type_name = runtime::read_cstr_near(image, segments, mapping, type_va);
+    let type_name = runtime::read_cstr(image, segments, mapping, type_va);
     put_text(type_name, buffer, at + 4);
-    let name = runtime::lookup_field_name_near(
-        image,
-        segments,
-        mapping,
-        strings,
-        strings_va,
-        name_va,
-    );
+    let name = runtime::lookup_field_name(image, segments, mapping, strings, strings_va, name_va);
     put_field_name(name, buffer, at + 7);
 }
 

@@ -38,7 +38,7 @@ pub fn read_header(
     if descriptor_va == 0 {
         return HeaderRead::Nothing;
     }
-    let bytes = runtime::read_bytes_near(image, segments, mapping, descriptor_va, 8);
+    let bytes = runtime::read_bytes(image, segments, mapping, descriptor_va, 8);
     if bytes.len() < 8 {
         return HeaderRead::Nothing;
     }
@@ -72,25 +72,24 @@ pub fn read_context_name(
         return Text::Nothing;
     }
     let slot_va = descriptor_va + 8;
-    let slot = runtime::read_bytes_near(image, segments, mapping, slot_va, 4);
+    let slot = runtime::read_bytes(image, segments, mapping, slot_va, 4);
     if slot.len() < 4 {
         return Text::Nothing;
     }
     if util::u32_at(slot, 0) == 0 {
         return Text::Nothing;
     }
-    runtime::read_cstr_near(image, segments, mapping, util::pointer_in(slot, 0, slot_va))
+    runtime::read_cstr(image, segments, mapping, util::pointer_in(slot, 0, slot_va))
 }
 
 // The context at an address.
 pub fn read_context(image: &[u8], segments: &[u64], descriptor_va: u64) -> ContextRead
     ensures { λ r. ⌜ contextOf (now (image .entry)) r ≡ contextRead (now (image .entry)) (now (segments .entry)) «descriptor_va» ⌝ }
 {
-    let mapping = Mapping::empty();
-    match read_header(image, segments, mapping, descriptor_va) {
+    match read_header(image, segments, segment::NO_MAPPING, descriptor_va) {
         HeaderRead::Header { flags, parent } => {
             let name = if has_name(flags) {
-                read_context_name(image, segments, mapping, descriptor_va)
+                read_context_name(image, segments, segment::NO_MAPPING, descriptor_va)
             } else {
                 Text::Nothing
             };

@@ -22,13 +22,9 @@ use Rattle.runtime.specs.FieldName.{inImage, inStrings, sectionText, fie
 
 -- a true mapping changes no answer
 module _ (image segments : List ℕ) (m : Mapping) (w : TrueMapping segments m) where
-  pub place-mapped : (a n : ℕ) → bytesPlace image (withMapping m segments) a n ≡ bytesPlace image segments a n
+  place-mapped : (a n : ℕ) → bytesPlace image (withMapping m segments) a n ≡ bytesPlace image segments a n
   unfolding bytesPlace
   place-mapped a n = simp (w .same)
-
-  pub read-mapped : (a n : ℕ) → bytesRead image (withMapping m segments) a n ≡ bytesRead image segments a n
-  unfolding bytesRead
-  read-mapped a n = rw (place-mapped a n)
 
   offset-mapped : (a : ℕ) → textOffset (withMapping m segments) a ≡ textOffset segments a
   unfolding textOffset

@@ -20,9 +20,9 @@ pub fn vm_to_file_offset(segments: &[u64], vmaddr: u64) -> FileOffset
     segment::vm_to_file_offset_in(segments, vmaddr)
 }
 
-// Where `len` bytes at an address lie. Only the first address is translated: the rest follows in the image, and only the image's end bounds
-// it.
-fn find_bytes_near(
+// Where `len` bytes at an address lie. Only the first address is translated: the rest follows in the image, which alone bounds it. This and
+// every reader above asks a mapping before the segments; a caller that has none passes `segment::NO_MAPPING`.
+pub fn find_bytes(
     image: &[u8],
     segments: &[u64],
     mapping: Mapping,
@@ -46,8 +46,8 @@ fn find_bytes_near(
     }
 }
 
-// The bytes themselves, as that part of the image: empty if there are none.
-pub fn read_bytes_near<'a>(
+// The bytes themselves, as that part of the image: empty where there are none.
+pub fn read_bytes<'a>(
     image: &'a [u8],
     segments: &[u64],
     mapping: Mapping,
@@ -56,14 +56,14 @@ pub fn read_bytes_near<'a>(
 ) -> &'a [u8]
     ensures { λ r. ⌜ now r ≡ bytesRead (now (image .entry)) (withMapping mapping (now (segments .entry))) vmaddr len ⌝ }
 {
-    match find_bytes_near(image, segments, mapping, vmaddr, len) {
+    match find_bytes(image, segments, mapping, vmaddr, len) {
         Bytes::At(off) => util::part(image, off, len),
         Bytes::Nothing => &image[..0],
     }
 }
 
 // The text at an address. There is none at address 0.
-pub fn read_cstr_near(image: &[u8], segments: &[u64], mapping: Mapping, vmaddr: u64) -> Text
+pub fn read_cstr(image: &[u8], segments: &[u64], mapping: Mapping, vmaddr: u64) -> Text
     ensures { λ r. ⌜ textOf r ≡ textPlace (now (image .entry)) (withMapping mapping (now (segments .entry))) vmaddr ⌝ }
 {
     if vmaddr == 0 {
@@ -81,23 +81,4 @@ pub fn read_cstr_near(image: &[u8], segments: &[u64], mapping: Mapping, vmaddr: 
         }
         FileOffset::Nothing => Text::Nothing,
     }
-}
-
-// The three calls without a mapping are those above with the empty mapping, which changes no address's offset.
-pub fn find_bytes(image: &[u8], segments: &[u64], vmaddr: u64, len: usize) -> Bytes
-    ensures { λ r. ⌜ bytesPlaceOf r ≡ bytesPlace (now (image .entry)) (now (segments .entry)) vmaddr len ⌝ }
-{
-    find_bytes_near(image, segments, Mapping::empty(), vmaddr, len)
-}
-
-pub fn read_bytes<'a>(image: &'a [u8], segments: &[u64], vmaddr: u64, len: usize) -> &'a [u8]
-    ensures { λ r. ⌜ now r ≡ bytesRead (now (image .entry)) (now (segments .entry)) vmaddr len ⌝ }
-{
-    read_bytes_near(image, segments, Mapping::empty(), vmaddr, len)
-}
-
-pub fn read_cstr(image: &[u8], segments: &[u64], vmaddr: u64) -> Text
-    ensures { λ r. ⌜ textOf r ≡ textPlace (now (image .entry)) (now (segments .entry)) vmaddr ⌝ }
-{
-    read_cstr_near(image, segments, Mapping::empty(), vmaddr)
 }

@@ -26,8 +26,8 @@ fn section_text(strings: &[u8], vmaddr: u64, target_va: u64) -> Text
     util::read_cstr_at(strings, off)
 }
 
-// The name at an address: in the image, else in the string section. A missing section is an empty one.
-pub fn lookup_field_name_near(
+// The name at an address: by the image, else by the string section. A missing section is an empty one.
+pub fn lookup_field_name(
     image: &[u8],
     segments: &[u64],
     mapping: Mapping,
@@ -40,7 +40,7 @@ pub fn lookup_field_name_near(
     if target_va == 0 {
         return FieldName::Nothing;
     }
-    match crate::read_cstr_near(image, segments, mapping, target_va) {
+    match crate::read_cstr(image, segments, mapping, target_va) {
         Text::At { place, length } => FieldName::Image { place, length },
         Text::Nothing => match section_text(strings, vmaddr, target_va) {
             Text::At { place, length } => FieldName::Strings { place, length },
@@ -49,27 +49,7 @@ pub fn lookup_field_name_near(
     }
 }
 
-// The same without a mapping.
-pub fn lookup_field_name(
-    image: &[u8],
-    segments: &[u64],
-    strings: &[u8],
-    vmaddr: u64,
-    target_va: u64,
-) -> FieldName
-    ensures { λ r. ⌜ fieldNameOf r ≡ fieldName (now (image .entry)) (now (segments .entry)) (now (strings .entry)) vmaddr «target_va» ⌝ }
-{
-    lookup_field_name_near(
-        image,
-        segments,
-        Mapping::empty(),
-        strings,
-        vmaddr,
-        target_va,
-    )
-}
-
-// The part of the image or of the string section that a name is: empty if there is none.
+// The part of the image or of the string section that a name is: empty where there is none.
 pub fn field_name_part<'a>(image: &'a [u8], strings: &'a [u8], name: FieldName) -> &'a [u8]
     ensures { λ r. ⌜ now r ≡ namePart (now (image .entry)) (now (strings .entry)) (fieldNameOf name) ⌝ }
 {

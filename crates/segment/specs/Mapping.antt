@@ -1,15 +1,18 @@
 -- Addresses that the segments map to the file one after the other. A true mapping saves a walk over the segments and changes no answer.
 use Prim.Native.Nat.{ℕ, _+_, _-_, _^_, _≤_, _<_}
 use mathlib.Core.Path.{_≡_}
+use mathlib.Core.Bool.{cond}
 use mathlib.Core.List.{List, _∷_}
 use mathlib.Core.Option.{some, none}
+use lib.Dec.{eqb}
 use Rattle.segment.specs.Segments.{Segment, segmentsOf, fileOffset}
 use Rattle.segment.specs.declared.segment.Mapping.{Mapping}
 use Rattle.segment.specs.declared.segment.Around.{Around}
 
--- the segments' numbers with a mapping as one more segment before them: the segments of a call that takes a mapping
-unfoldable pub withMapping : Mapping → List ℕ → List ℕ
-withMapping m segments = m .vmaddr ∷ (m .size ∷ (m .fileoff ∷ (m .size ∷ segments)))
+-- the segments' numbers with a mapping as one more segment before them: what a call that takes a mapping goes by. One without addresses
+-- adds nothing: with `NO_MAPPING` this computes to the segments.
+abbrev pub withMapping : Mapping → List ℕ → List ℕ
+withMapping m segments = cond (eqb (m .size) 0) segments (m .vmaddr ∷ (m .size ∷ (m .fileoff ∷ (m .size ∷ segments))))
 
 -- a mapping is true of the segments: with it before them, every address has the offset that it has without it
 pub record TrueMapping (segments : List ℕ) (m : Mapping) : Type 0 where

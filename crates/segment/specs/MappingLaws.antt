@@ -5,10 +5,10 @@ use native.Mathlib.Omega.{arith}
 use mathlib.Core.Path.{_≡_, refl, sym, ap, _∙_, subst}
 use mathlib.Core.Bool.{true, false}
 use mathlib.Core.Option.{Option, some, none}
-use mathlib.Core.List.{List}
+use mathlib.Core.List.{List, _∷_}
 use lib.ListN.{length, drop, getD}
 use lib.Dec.{ltb}
-use borrow.Author.Tests.{ltb-true}
+use borrow.Author.Tests.{ltb-true, eq-eqb, ne-eqb}
 use Rattle.segment.specs.Segments.{Segment, segmentsOf, fileOffset, decides, inFile, decided, offsetOf}
 use Rattle.segment.specs.SegmentsLaws.{wraps, below, above, no-bytes, held, past-file, offset-wraps, in-file, segmentAt, segments-step}
 use Rattle.segment.specs.Mapping.{LocatedNear, withMapping, TrueMapping, Has, Exact, Located, InFile, Clipped}
@@ -22,22 +22,35 @@ use Rattle.segment.specs.declared.segment.Lookup.the-variants.{Answer, N
 abbrev first : Mapping → Segment
 first m = record { vmaddr = m .vmaddr; vmsize = m .size; fileoff = m .fileoff; filesize = m .size }
 
-module _ (segments : List ℕ) (m : Mapping) (v : ℕ) (r : Lookup) (e : decided r ≡ decides (first m) v) where
+-- which is asked before the segments: one without addresses says nothing
+asked : (segments : List ℕ) (m : Mapping) (v : ℕ) → m .vmaddr < 2 ^ 64 → fileOffset (segmentsOf (withMapping m segments)) v ≡ fileOffset (first m ∷ segmentsOf segments) v
+unfolding fileOffset segmentsOf
+asked segments m v h =
+    elim (decLt 0 (m .size)) [
+      | yes p ↦ rw (ne-eqb (m .size) 0 (λ z. omega arith))
+      | no p ↦
+          let d : none ≡ decides (first m) v =
+          elim (decLt v (m .vmaddr)) [ yes b ↦ below (first m) v (omega arith) b | no b ↦ above (first m) v (omega arith) (omega arith) (omega arith) ] in
+          rw (eq-eqb (m .size) 0 (omega arith), ← d)
+    ]
+
+module _ (segments : List ℕ) (m : Mapping) (v : ℕ) (h : m .vmaddr < 2 ^ 64) (r : Lookup) (e : decided r ≡ decides (first m) v) where
   pub near-answer : (o : FileOffset) → r ≡ Answer o → offsetOf o ≡ fileOffset (segmentsOf (withMapping m segments)) v
-  unfolding fileOffset segmentsOf withMapping
-  near-answer o t = rw (← e, t)
+  unfolding fileOffset
+  near-answer o t = rw (asked segments m v h, ← e, t)
 
   pub near-next : (x : Option ℕ) → r ≡ Next → x ≡ fileOffset (segmentsOf segments) v → x ≡ fileOffset (segmentsOf (withMapping m segments)) v
-  unfolding fileOffset segmentsOf withMapping
-  near-next x t f = f ∙ rw (← e, t)
+  unfolding fileOffset
+  near-next x t f = f ∙ rw (asked segments m v h, ← e, t)
 
 -- a mapping whose addresses have the offsets that it gives them is true
 module _ (segments : List ℕ) (m : Mapping) (ends : m .vmaddr + m .size < 2 ^ 64) (fits : m .fileoff + m .size ≤ 2 ^ 64)
     (holds : (v : ℕ) → m .vmaddr ≤ v → v < m .vmaddr + m .size → fileOffset (segmentsOf segments) v ≡ some (m .fileoff + (v - m .vmaddr))) where
   mapped-at : (v : ℕ) → fileOffset (segmentsOf (withMapping m segments)) v ≡ fileOffset (segmentsOf segments) v
-  unfolding fileOffset segmentsOf withMapping
+  unfolding fileOffset
   mapped-at v =
-      elim (decLt v (m .vmaddr)) [
+      asked segments m v (omega arith)
+      ∙ elim (decLt v (m .vmaddr)) [
         | yes b ↦ rw (← below (first m) v ends b)
         | no b ↦
             elim (decLt v (m .vmaddr + m .size)) [
@@ -52,8 +65,8 @@ module _ (segments : List ℕ) (m : Mapping) (ends : m .vmaddr + m .size < 2 ^ 6
   pub mapped : TrueMapping segments m
   mapped = record { same = mapped-at }
 
-pub empty-mapped : (segments : List ℕ) (m : Mapping) → (m .vmaddr ≡ 0) × (m .size ≡ 0) × (m .fileoff ≡ 0) → TrueMapping segments m
-empty-mapped segments m e = mapped segments m (omega (arith, e)) (omega (arith, e)) (λ v g h. absurd (omega (arith, e)))
+pub empty-mapped : (segments : List ℕ) → TrueMapping segments (record { vmaddr = 0; size = 0; fileoff = 0 })
+empty-mapped segments = record { same = λ v. refl }
 
 -- a part of a segment, from `start` up to `end`
 pub clipped : (low high : ℕ) (s : Segment) (v : ℕ) → InFile low high s v → (start end size : ℕ) → start ≡ max low (s .vmaddr) → end ≡ min high (s .vmaddr + size)

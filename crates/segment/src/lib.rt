@@ -8,6 +8,7 @@ pub use file_offset::file_offset_to_vm_in;
 pub use segment::Around;
 pub use segment::FileOffset;
 pub use segment::Mapping;
+pub use segment::NO_MAPPING;
 pub use segment::locate;
 pub use segment::locate_near;
 pub use segment::vm_to_file_offset_in;

@@ -73,23 +73,18 @@ pub struct Mapping {
     pub fileoff: u64,
 }
 
+// No address: a call that is handed it goes by the segments alone.
+pub const NO_MAPPING: Mapping = Mapping {
+    vmaddr: 0,
+    size: 0,
+    fileoff: 0,
+};
+
 // What is in the file around an address.
 pub enum Around {
     Mapping(Mapping),
     // Not even the address itself.
     Nothing,
-}
-
-impl Mapping {
-    pub fn empty() -> Mapping
-        ensures { λ r. ⌜ (r .vmaddr ≡ 0) × (r .size ≡ 0) × (r .fileoff ≡ 0) ⌝ }
-    {
-        Mapping {
-            vmaddr: 0,
-            size: 0,
-            fileoff: 0,
-        }
-    }
 }
 
 pub fn lower(a: u64, b: u64) -> u64

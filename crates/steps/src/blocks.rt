@@ -79,7 +79,14 @@ pub fn block_of_kind(
     }
     match type_body::trailing(address, flags, body) {
         TrailingRead::Start { trailing, start } => {
-            match classtrailers::block_of_kind(image, segments, trailing, start, kind) {
+            match classtrailers::block_of_kind(
+                image,
+                segments,
+                segment::NO_MAPPING,
+                trailing,
+                start,
+                kind,
+            ) {
                 BlockRead::Block(block) => BlockAnswer::Block(block),
                 BlockRead::Nothing => BlockAnswer::Nothing,
             }

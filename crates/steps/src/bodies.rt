@@ -26,7 +26,7 @@ pub fn row_body(image: &[u8], segments: &[u64], address: u64, flags: u32) -> Bod
     if segments.len() % 4 != 0 {
         return BodyAnswer::Refused(Refusal::RaggedSegments);
     }
-    BodyAnswer::Body(type_body::decode_body(image, segments, address, flags))
+    BodyAnswer::Body(type_body::decode_body(image, segments, segment::NO_MAPPING, address, flags))
 }
 
 // The name of a class's superclass; there is none for any other body.
@@ -46,5 +46,5 @@ pub fn text_at(image: &[u8], segments: &[u64], vmaddr: u64) -> TextAnswer
     if segments.len() % 4 != 0 {
         return TextAnswer::Refused(Refusal::RaggedSegments);
     }
-    TextAnswer::Text(runtime::read_cstr(image, segments, vmaddr))
+    TextAnswer::Text(runtime::read_cstr(image, segments, segment::NO_MAPPING, vmaddr))
 }

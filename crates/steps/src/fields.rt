@@ -17,7 +17,6 @@ use field::FieldRecordStep;
 use field::FieldStep;
 use refusal::Refusal;
 use runtime::FieldName;
-use segment::Mapping;
 
 pub enum NextFieldRecord {
     Step(FieldRecordStep),
@@ -43,7 +42,7 @@ pub fn next_field_record(image: &[u8], segments: &[u64], walk: FieldRecordIter) 
     if segments.len() % 4 != 0 {
         return NextFieldRecord::Refused(Refusal::RaggedSegments);
     }
-    NextFieldRecord::Step(walk.next(image, segments, Mapping::empty()))
+    NextFieldRecord::Step(walk.next(image, segments, segment::NO_MAPPING))
 }
 
 // The name of a record's field: the image's text, else that of the string section, whose first byte is at `strings_va`.

@@ -221,7 +221,14 @@ fn offset_line(segments: &[u64], address: u64) {
 fn field_line(image: &[u8], segments: &[u64], strings: &[u8], section: u64, address: u64) {
     io::write_all(1, b"field");
     number_field(address);
-    match runtime::lookup_field_name(image, segments, strings, section, address) {
+    match runtime::lookup_field_name(
+        image,
+        segments,
+        segment::NO_MAPPING,
+        strings,
+        section,
+        address,
+    ) {
         FieldName::Image { place, length } => {
             number_field(1);
             place_end(place, length);

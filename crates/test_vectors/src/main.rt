@@ -169,14 +169,14 @@ fn read_cstr_at(s: &[u8], off: usize) {
 }
 
 fn read_cstr(image: &[u8], segments: &[u64], vmaddr: u64) {
-    let text = runtime::read_cstr(image, segments, vmaddr);
+    let text = runtime::read_cstr(image, segments, segment::NO_MAPPING, vmaddr);
     let part = util::text_part(image, text);
     text_line(text, part, part);
 }
 
 fn read_bytes(image: &[u8], segments: &[u64], vmaddr: u64, length: usize) {
-    let part = runtime::read_bytes(image, segments, vmaddr, length);
-    match runtime::find_bytes(image, segments, vmaddr, length) {
+    let part = runtime::read_bytes(image, segments, segment::NO_MAPPING, vmaddr, length);
+    match runtime::find_bytes(image, segments, segment::NO_MAPPING, vmaddr, length) {
         Bytes::At(place) => {
             number_field(place as u64);
             bytes_line(part, util::part(image, place, length));
@@ -192,7 +192,14 @@ fn lookup_field_name<'a>(
     section: u64,
     vmaddr: u64,
 ) {
-    let name = runtime::lookup_field_name(image, segments, strings, section, vmaddr);
+    let name = runtime::lookup_field_name(
+        image,
+        segments,
+        segment::NO_MAPPING,
+        strings,
+        section,
+        vmaddr,
+    );
     let part = runtime::field_name_part(image, strings, name);
     match name {
         FieldName::Image { place, length } => {

@@ -1,7 +1,7 @@
 -- The body of a row: docs/SPECIFICATION.md, "Bodies"; Metadata.h, `TargetClassDescriptor`, `TargetStructDescriptor`, `TargetEnumDescriptor`:
 -- what follows the 20 bytes that all descriptors have.
 use Prim.Native.Nat.{ℕ, _+_, _/_, _%_, _^_}
-use mathlib.Core.List.{List}
+use mathlib.Core.List.{List, []}
 use mathlib.Core.Bool.{Bool, true, false, cond}
 use mathlib.Core.Option.{Option, some, none}
 use lib.Dec.{leb}
@@ -12,6 +12,7 @@ use Rattle.context.specs.Context.{contextKind, kindSpecificFlags}
 use Rattle.context.specs.TypeContext.{classHasResilientSuperclass}
 use Rattle.context.specs.declared.descriptor.ContextDescriptorKind.{ContextDescriptorKind}
 use Rattle.runtime.specs.Reads.{Reads, done, nothing, bytes, bind, textPlace}
+use Rattle.runtime.specs.Bytes.{bytesRead}
 use Rattle.classtrailers.specs.Blocks.{Trailing}
 use Rattle.typedescriptor.specs.Slots.{slotRow}
 use Rattle.type_body.specs.declared.body.ClassSizes.{ClassSizes}
@@ -61,6 +62,10 @@ bodySize (ofEnum p w e) = 8
 -- a number of bytes, whose end lies below 2^64
 unfoldable pub bodyBytes : ℕ → ℕ → (List ℕ → Body) → Reads Body
 bodyBytes a n k = cond (leb (2 ^ 64) (a + 20 + n)) nothing (bytes (a + 20) n (λ h. done (k h)))
+
+-- these bytes, none unless all of them are there
+unfoldable pub bodyPart : List ℕ → List ℕ → ℕ → ℕ → List ℕ
+bodyPart image segments a n = cond (leb (2 ^ 64) (a + 20 + n)) [] (bytesRead image segments (a + 20) n)
 
 abbrev pub bodyOfKind : ContextDescriptorKind → ℕ → ℕ → Reads Body
 bodyOfKind ContextDescriptorKind.Class a flags = bodyBytes a 24 (classBody a flags)

@@ -1,7 +1,9 @@
 -- What the tests on a body say about its program.
 use Prim.Native.Nat.{ℕ, _+_, _/_, _%_, _^_, _≤_, _<_}
+use native.Mathlib.Decide.{decLt}
+use native.Mathlib.Omega.{arith}
 use mathlib.Core.Path.{_≡_, sym, _∙_, ap}
-use mathlib.Core.List.{List}
+use mathlib.Core.List.{List, []}
 use mathlib.Core.Bool.{Bool, true, false}
 use mathlib.Core.Option.{Option, some, none}
 use lib.ListN.{length}
@@ -15,7 +17,7 @@ use Rattle.runtime.specs.CallsLaws.{run-bytes, run-no-bytes}
 use Rattle.context.specs.Context.{contextKind, kindSpecificFlags}
 use Rattle.context.specs.TypeContext.{classHasResilientSuperclass}
 use Rattle.context.specs.declared.descriptor.ContextDescriptorKind.{ContextDescriptorKind}
-use Rattle.type_body.specs.Body.{Sizes, fixed, resilient, Body, ofClass, ofStruct, ofEnum, sizesAt, classBody, structBody, enumBody, bodyBytes, bodyOfKind, body, bodyOf, superclassName}
+use Rattle.type_body.specs.Body.{Sizes, fixed, resilient, Body, ofClass, ofStruct, ofEnum, sizesAt, classBody, structBody, enumBody, bodyBytes, bodyPart, bodyOfKind, body, bodyOf, superclassName}
 use Rattle.type_body.specs.declared.body.TypeBody.{TypeBody}
 
 -- ---- the numbers in the bytes
@@ -44,19 +46,37 @@ module _ (h : List ℕ) where
 
 -- ---- the bytes
 
-module _ (image segments : List ℕ) (a n : ℕ) (k : List ℕ → Body) where
-  pub body-wraps : 2 ^ 64 ≤ a + 20 + n → none ≡ run image segments (bodyBytes a n k)
-  unfolding bodyBytes run
-  body-wraps w = simp (le-leb (2 ^ 64) (a + 20 + n) w)
+module _ (image segments : List ℕ) (a n : ℕ) where
+  pub part-wraps : 2 ^ 64 ≤ a + 20 + n → [] ≡ bodyPart image segments a n
+  unfolding bodyPart
+  part-wraps w = simp (le-leb (2 ^ 64) (a + 20 + n) w)
 
-  module _ (h : List ℕ) (e : h ≡ bytesRead image segments (a + 20) n) where
-    pub no-body : length h < n → a + 20 + n < 2 ^ 64 → none ≡ run image segments (bodyBytes a n k)
-    unfolding bodyBytes
-    no-body l w = simp (lt-leb (2 ^ 64) (a + 20 + n) w) (sym (run-no-bytes image segments (a + 20) n (λ h. done (k h)) h e l))
+  pub part-below : a + 20 + n < 2 ^ 64 → bytesRead image segments (a + 20) n ≡ bodyPart image segments a n
+  unfolding bodyPart
+  part-below w = simp (lt-leb (2 ^ 64) (a + 20 + n) w)
 
-    pub body-at : (b : Body) → b ≡ k h → 0 < n → n ≤ length h → a + 20 + n < 2 ^ 64 → some b ≡ run image segments (bodyBytes a n k)
-    unfolding bodyBytes run
-    body-at b eb z l w = simp (lt-leb (2 ^ 64) (a + 20 + n) w) (ap some eb ∙ sym (run-bytes image segments (a + 20) n (λ h. done (k h)) h e z l))
+  module _ (h : List ℕ) (e : h ≡ bodyPart image segments a n) where
+    pub ends-below : 0 < n → n ≤ length h → a + 20 + n < 2 ^ 64
+    ends-below z l =
+        elim (decLt (a + 20 + n) (2 ^ 64)) [
+          | yes w ↦ w
+          | no w ↦ absurd (omega (arith, ap length (e ∙ sym (part-wraps (omega arith)))))
+        ]
+
+    module _ (k : List ℕ → Body) (z : 0 < n) where
+      pub no-body : length h < n → none ≡ run image segments (bodyBytes a n k)
+      unfolding bodyBytes run
+      no-body l =
+          elim (decLt (a + 20 + n) (2 ^ 64)) [
+            | yes w ↦ simp (lt-leb (2 ^ 64) (a + 20 + n) w) (sym (run-no-bytes image segments (a + 20) n (λ h. done (k h)) h (e ∙ sym (part-below w)) l))
+            | no w ↦ simp (le-leb (2 ^ 64) (a + 20 + n) (omega arith))
+          ]
+
+      pub body-at : (b : Body) → b ≡ k h → n ≤ length h → some b ≡ run image segments (bodyBytes a n k)
+      unfolding bodyBytes run
+      body-at b eb l =
+          let w = ends-below z l in
+          simp (lt-leb (2 ^ 64) (a + 20 + n) w) (ap some eb ∙ sym (run-bytes image segments (a + 20) n (λ h. done (k h)) h (e ∙ sym (part-below w)) z l))
 
 -- a body depends on the kind in the flags
 module _ (image segments : List ℕ) (a flags : ℕ) (r k : ContextDescriptorKind) (e : r ≡ contextKind flags) (t : r ≡ k) where

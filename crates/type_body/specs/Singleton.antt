@@ -8,7 +8,6 @@ use lib.Dec.{leb, eqb}
 use Rattle.util.specs.LittleEndian.{unsignedIn, signedIn}
 use Rattle.util.specs.Pointer.{relativePointer, relativeAddress}
 use Rattle.runtime.specs.Reads.{Reads, done, nothing, bytes}
-use Rattle.type_body.specs.declared.singleton.Target.{Target}
 use Rattle.type_body.specs.declared.singleton.SingletonMetadataInit.{SingletonMetadataInit}
 use Rattle.type_body.specs.declared.singleton.SingletonMetadataPointer.{SingletonMetadataPointer}
 
@@ -45,10 +44,6 @@ unfoldable pub singletonPointer : ℕ → Reads ℕ
 singletonPointer a = bytes a 4 (λ h. done (relativeAddress a (signedIn 4 h 0)))
 
 -- ---- what the calls' answers say
-
-abbrev pub targetOf : Target → Option ℕ
-targetOf (Target.At v) = some v
-targetOf Target.Nothing = none
 
 abbrev pub initOf : SingletonMetadataInit → Option Initialization
 initOf (SingletonMetadataInit.At c i f) = some (initialization c i f)

@@ -1,9 +1,9 @@
 ghost use mathlib.Core.Path.{_≡_};
-ghost use Prim.Native.Nat.{_+_, _<_, _^_};
+ghost use Prim.Native.Nat.{_+_, _≤_, _<_, _^_};
 ghost use Rattle.segment.specs.Mapping.{withMapping};
 ghost use Rattle.runtime.specs.Reads.{run};
 ghost use Rattle.util.specs.Cstr.{textOf};
-ghost use Rattle.type_body.specs.Body.{sizesAt, sizesOf, classBody, classOf, structBody, structOf, enumBody, enumOf, bodyBytes, body, bodyOf, superclassName};
+ghost use Rattle.type_body.specs.Body.{sizesAt, sizesOf, classBody, classOf, structBody, structOf, enumBody, enumOf, bodyPart, body, bodyOf, superclassName};
 use context::ContextDescriptorFlags;
 use context::ContextDescriptorKind;
 use segment::Mapping;
@@ -104,54 +104,26 @@ fn enum_in(header: &[u8]) -> EnumBody
     }
 }
 
-fn decode_class_body(
-    image: &[u8],
+// The bytes that a body of this size has after the descriptor's first 20: none unless all of them are in the image and end below 2^64.
+fn body_part<'a>(
+    image: &'a [u8],
     segments: &[u64],
     mapping: Mapping,
     address: u64,
-    flags: u32,
-) -> TypeBody
-    ensures { λ r. ⌜ bodyOf r ≡ run (now (image .entry)) (withMapping mapping (now (segments .entry))) (bodyBytes address 24 (classBody address flags)) ⌝ }
+    size: usize,
+) -> &'a [u8]
+    requires { ⌜ size ≤ 24 ⌝ }
+    ensures { λ r. ⌜ now r ≡ bodyPart (now (image .entry)) (withMapping mapping (now (segments .entry))) address size ⌝ }
 {
-    if address > 0xffff_ffff_ffff_ffd3 {
-        return TypeBody::Nothing;
+    if address > 0xffff_ffff_ffff_ffeb - (size as u64) {
+        return &image[..0];
     }
-    let header = runtime::read_bytes_near(image, segments, mapping, address + 20, 24);
-    if header.len() < 24 {
-        return TypeBody::Nothing;
-    }
-    TypeBody::Class(class_in(header, address, flags))
+    runtime::read_bytes(image, segments, mapping, address + 20, size)
 }
 
-fn decode_struct_body(image: &[u8], segments: &[u64], mapping: Mapping, address: u64) -> TypeBody
-    ensures { λ r. ⌜ bodyOf r ≡ run (now (image .entry)) (withMapping mapping (now (segments .entry))) (bodyBytes address 8 structBody) ⌝ }
-{
-    if address > 0xffff_ffff_ffff_ffe3 {
-        return TypeBody::Nothing;
-    }
-    let header = runtime::read_bytes_near(image, segments, mapping, address + 20, 8);
-    if header.len() < 8 {
-        return TypeBody::Nothing;
-    }
-    TypeBody::Struct(struct_in(header))
-}
-
-fn decode_enum_body(image: &[u8], segments: &[u64], mapping: Mapping, address: u64) -> TypeBody
-    ensures { λ r. ⌜ bodyOf r ≡ run (now (image .entry)) (withMapping mapping (now (segments .entry))) (bodyBytes address 8 enumBody) ⌝ }
-{
-    if address > 0xffff_ffff_ffff_ffe3 {
-        return TypeBody::Nothing;
-    }
-    let header = runtime::read_bytes_near(image, segments, mapping, address + 20, 8);
-    if header.len() < 8 {
-        return TypeBody::Nothing;
-    }
-    TypeBody::Enum(enum_in(header))
-}
-
-// The body of the descriptor with these flags at an address: nothing if it is not a class, struct or enum, if its bytes are not in the
-// image, or if its end reaches 2^64. The mapping is tried before the segments; a true mapping changes no answer.
-pub fn decode_body_near(
+// The body of the descriptor at an address, which has these flags: nothing where it is not a class, struct or enum, where its bytes are
+// not in the image, and where its end reaches 2^64. The mapping is asked before the segments: one that is true of them changes no answer.
+pub fn decode_body(
     image: &[u8],
     segments: &[u64],
     mapping: Mapping,
@@ -161,9 +133,27 @@ pub fn decode_body_near(
     ensures { λ r. ⌜ bodyOf r ≡ run (now (image .entry)) (withMapping mapping (now (segments .entry))) (body address flags) ⌝ }
 {
     match ContextDescriptorFlags(flags).kind() {
-        ContextDescriptorKind::Class => decode_class_body(image, segments, mapping, address, flags),
-        ContextDescriptorKind::Struct => decode_struct_body(image, segments, mapping, address),
-        ContextDescriptorKind::Enum => decode_enum_body(image, segments, mapping, address),
+        ContextDescriptorKind::Class => {
+            let header = body_part(image, segments, mapping, address, 24);
+            if header.len() < 24 {
+                return TypeBody::Nothing;
+            }
+            TypeBody::Class(class_in(header, address, flags))
+        }
+        ContextDescriptorKind::Struct => {
+            let header = body_part(image, segments, mapping, address, 8);
+            if header.len() < 8 {
+                return TypeBody::Nothing;
+            }
+            TypeBody::Struct(struct_in(header))
+        }
+        ContextDescriptorKind::Enum => {
+            let header = body_part(image, segments, mapping, address, 8);
+            if header.len() < 8 {
+                return TypeBody::Nothing;
+            }
+            TypeBody::Enum(enum_in(header))
+        }
         ContextDescriptorKind::Module => TypeBody::Nothing,
         ContextDescriptorKind::Extension => TypeBody::Nothing,
         ContextDescriptorKind::Anonymous => TypeBody::Nothing,
@@ -173,19 +163,17 @@ pub fn decode_body_near(
     }
 }
 
-// The same without a mapping.
-pub fn decode_body(image: &[u8], segments: &[u64], address: u64, flags: u32) -> TypeBody
-    ensures { λ r. ⌜ bodyOf r ≡ run (now (image .entry)) (now (segments .entry)) (body address flags) ⌝ }
-{
-    decode_body_near(image, segments, Mapping::empty(), address, flags)
-}
-
-// The name of a class's superclass; `util::text_part` returns the part of the image. There is none for any other body.
+// The name of a class's superclass; `util::text_part` gives the part of the image. There is none beside another body.
 pub fn superclass_name(image: &[u8], segments: &[u64], body: TypeBody) -> Text
     ensures { λ r. ⌜ textOf r ≡ superclassName (now (image .entry)) (now (segments .entry)) (bodyOf body) ⌝ }
 {
     match body {
-        TypeBody::Class(class) => runtime::read_cstr(image, segments, class.superclass_va),
+        TypeBody::Class(class) => runtime::read_cstr(
+            image,
+            segments,
+            segment::NO_MAPPING,
+            class.superclass_va,
+        ),
         TypeBody::Struct(_) => Text::Nothing,
         TypeBody::Enum(_) => Text::Nothing,
         TypeBody::Nothing => Text::Nothing,

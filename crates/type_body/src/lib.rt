@@ -10,7 +10,6 @@ pub use body::EnumBody;
 pub use body::StructBody;
 pub use body::TypeBody;
 pub use body::decode_body;
-pub use body::decode_body_near;
 pub use body::superclass_name;
 pub use singleton::SingletonMetadataInit;
 pub use singleton::SingletonMetadataPointer;

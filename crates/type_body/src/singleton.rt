@@ -1,12 +1,8 @@
 ghost use mathlib.Core.Path.{_≡_};
+ghost use Rattle.segment.specs.VmAddress.{addressOf};
 ghost use Rattle.runtime.specs.Reads.{run};
-ghost use Rattle.type_body.specs.Singleton.{slotTarget, targetOf, singletonInit, initOf, singletonPointer, pointerOf};
-
-// What an offset in a record refers to.
-pub enum Target {
-    At(u64),
-    Nothing,
-}
+ghost use Rattle.type_body.specs.Singleton.{slotTarget, singletonInit, initOf, singletonPointer, pointerOf};
+use segment::VmAddress;
 
 // The three addresses of a singleton initialization, each 0 if its offset is 0.
 pub enum SingletonMetadataInit {
@@ -24,18 +20,18 @@ pub enum SingletonMetadataPointer {
     Nothing,
 }
 
-// What the offset at `off` of the record at `address` refers to. An offset of 0 refers to address 0, wherever its slot lies; the
-// slot of any other offset must lie below 2^64.
-fn target_in(bytes: &[u8], off: usize, address: u64) -> Target
-    ensures { λ r. ⌜ targetOf r ≡ slotTarget address (now (bytes .entry)) off ⌝ }
+// What the offset at `off` of the record at `address` refers to. An offset of 0 refers to address 0, wherever its slot lies; another
+// one has to lie below 2^64.
+fn target_in(bytes: &[u8], off: usize, address: u64) -> VmAddress
+    ensures { λ r. ⌜ addressOf r ≡ slotTarget address (now (bytes .entry)) off ⌝ }
 {
     if util::u32_at(bytes, off) == 0 {
-        return Target::At(0);
+        return VmAddress::At(0);
     }
     if off as u64 > u64::MAX - address {
-        return Target::Nothing;
+        return VmAddress::Nothing;
     }
-    Target::At(util::pointer_in(bytes, off, address + off as u64))
+    VmAddress::At(util::pointer_in(bytes, off, address + off as u64))
 }
 
 // The 12 bytes of the singleton initialization at an address.
@@ -46,17 +42,17 @@ pub fn singleton_metadata_init(
 ) -> SingletonMetadataInit
     ensures { λ r. ⌜ initOf r ≡ run (now (image .entry)) (now (segments .entry)) (singletonInit address) ⌝ }
 {
-    let bytes = runtime::read_bytes(image, segments, address, 12);
+    let bytes = runtime::read_bytes(image, segments, segment::NO_MAPPING, address, 12);
     if bytes.len() < 12 {
         return SingletonMetadataInit::Nothing;
     }
-    let Target::At(cache) = target_in(bytes, 0, address) else {
+    let VmAddress::At(cache) = target_in(bytes, 0, address) else {
         return SingletonMetadataInit::Nothing;
     };
-    let Target::At(incomplete) = target_in(bytes, 4, address) else {
+    let VmAddress::At(incomplete) = target_in(bytes, 4, address) else {
         return SingletonMetadataInit::Nothing;
     };
-    let Target::At(completion) = target_in(bytes, 8, address) else {
+    let VmAddress::At(completion) = target_in(bytes, 8, address) else {
         return SingletonMetadataInit::Nothing;
     };
     SingletonMetadataInit::At {
@@ -74,7 +70,7 @@ pub fn singleton_metadata_pointer(
 ) -> SingletonMetadataPointer
     ensures { λ r. ⌜ pointerOf r ≡ run (now (image .entry)) (now (segments .entry)) (singletonPointer address) ⌝ }
 {
-    let bytes = runtime::read_bytes(image, segments, address, 4);
+    let bytes = runtime::read_bytes(image, segments, segment::NO_MAPPING, address, 4);
     if bytes.len() < 4 {
         return SingletonMetadataPointer::Nothing;
     }

@@ -17,7 +17,7 @@ use Rattle.util.specs.Cstr.{Place, textAt}
 use Rattle.runtime.specs.Reads.{Reads, done, nothing, bytes, text, run, Range, bytesRange, withNul, path}
 use Rattle.runtime.specs.PathLaws.{path-bytes, path-bytes-past, path-no-text, bytes-read, text-read, path-found}
 use Rattle.typedescriptor.specs.Row.{TypeRow, typeRow, nameAddress, rowName, descriptor}
-use Rattle.typedescriptor.specs.Slots.{slots, slotAddress, slotRow}
+use Rattle.typedescriptor.specs.Slots.{slots, slotAddress, readAt, slotRow}
 
 module _ (image segments : List ℕ) (row : TypeRow) where
   -- the row's address is the descriptor's
@@ -94,12 +94,12 @@ module _ (image segments types : List ℕ) (start i : ℕ) where
   -- a slot with a row reads what the descriptor that it refers to reads
   pub slot-program : (row : TypeRow) → run image segments (slotRow types start i) ≡ some row → slotRow types start i ≡ descriptor (slotAddress types start i)
   unfolding slotRow run
-  slot-program row e = go (ltb i (slots types)) (eqb (unsignedIn 4 types (4 * i)) 0) (descriptor (slotAddress types start i)) e
+  slot-program row e = go (ltb i (slots types)) (eqb (unsignedIn 4 types (4 * i)) 0) (slotAddress types start i) e
     where
-      go : (b c : Bool) (p : Reads TypeRow) → run image segments (cond b (cond c nothing p) nothing) ≡ some row → cond b (cond c nothing p) nothing ≡ p
-      go true false p f = refl
-      go true true p f = let z : _≡_ {A = ℕ} 0 1 = cc in absurd (omega arith)
-      go false c p f = let z : _≡_ {A = ℕ} 0 1 = cc in absurd (omega arith)
+      go : (b c : Bool) (a : ℕ) → run image segments (readAt (cond b (cond c none (some a)) none) descriptor) ≡ some row → readAt (cond b (cond c none (some a)) none) descriptor ≡ descriptor a
+      go true false a f = refl
+      go true true a f = let z : _≡_ {A = ℕ} 0 1 = cc in absurd (omega arith)
+      go false c a f = let z : _≡_ {A = ℕ} 0 1 = cc in absurd (omega arith)
 
   pub slot-path : (row : TypeRow) (o : ℕ) → run image segments (slotRow types start i) ≡ some row → fileOffset (segmentsOf segments) (slotAddress types start i) ≡ some o
       → path image segments (slotRow types start i) ≡ bytesRange o 20 ∷ (withNul image (row .name) ∷ [])
@@ -115,6 +115,6 @@ module _ (image segments types : List ℕ) (start i : ℕ) where
   unfolding slotRow path
   zero-slot-path z = go (ltb i (slots types))
     where
-      go : (b : Bool) → path image segments (cond b (cond (eqb (unsignedIn 4 types (4 * i)) 0) nothing (descriptor (slotAddress types start i))) nothing) ≡ []
+      go : (b : Bool) → path image segments (readAt (cond b (cond (eqb (unsignedIn 4 types (4 * i)) 0) none (some (slotAddress types start i))) none) descriptor) ≡ []
       go true = simp z
       go false = refl

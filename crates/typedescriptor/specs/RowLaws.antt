@@ -16,7 +16,7 @@ use Rattle.runtime.specs.Reads.{done, run, bytesPlace, textPlace}
 use Rattle.runtime.specs.Bytes.{bytesRead}
 use Rattle.runtime.specs.CallsLaws.{run-bytes, run-no-bytes, run-text, run-no-text}
 use Rattle.typedescriptor.specs.Row.{TypeRow, typeRow, rowName, descriptor}
-use Rattle.typedescriptor.specs.Slots.{slots, slotRow, found, firstRow, nextRow}
+use Rattle.typedescriptor.specs.Slots.{slots, slotDescriptor, slotRow, found, firstRow, nextRow}
 
 module _ (image segments : List ℕ) (a : ℕ) (h : List ℕ) (e : h ≡ bytesRead image segments a 20) where
   pub no-header : length h < 20 → none ≡ run image segments (descriptor a)
@@ -48,19 +48,26 @@ pub no-place : (image segments : List ℕ) (a : ℕ) → none ≡ fileOffset (se
 unfolding descriptor run bytesPlace
 no-place image segments a e = rw (← e)
 
-module _ (image segments types : List ℕ) (start i : ℕ) where
-  pub past-slots : slots types ≤ i → none ≡ run image segments (slotRow types start i)
-  unfolding slotRow run
+-- what a slot refers to, and what is then read
+module _ (types : List ℕ) (start i : ℕ) where
+  pub past-slots : slots types ≤ i → none ≡ slotDescriptor types start i
   past-slots h = simp (le-ltb i (slots types) h)
 
-  pub zero-slot : unsignedIn 4 types (4 * i) ≡ 0 → i < slots types → none ≡ run image segments (slotRow types start i)
-  unfolding slotRow run
+  pub zero-slot : unsignedIn 4 types (4 * i) ≡ 0 → i < slots types → none ≡ slotDescriptor types start i
   zero-slot z h = simp (lt-ltb i (slots types) h, z)
 
-  pub slot-at : (x : Option TypeRow) (s v : ℕ) → (unsignedIn 4 types (4 * i) ≡ 0 → ⊥) → s ≡ (start + 4 * i) % 2 ^ 64 → v ≡ relativePointer s (signedIn 4 types (4 * i))
-      → x ≡ run image segments (descriptor v) → i < slots types → x ≡ run image segments (slotRow types start i)
+  pub slot-at : (s v : ℕ) → (unsignedIn 4 types (4 * i) ≡ 0 → ⊥) → s ≡ (start + 4 * i) % 2 ^ 64 → v ≡ relativePointer s (signedIn 4 types (4 * i))
+      → i < slots types → some v ≡ slotDescriptor types start i
+  slot-at s v z es ev h = rw (ev, es) (simp (lt-ltb i (slots types) h, ne-eqb (unsignedIn 4 types (4 * i)) 0 z))
+
+module _ (image segments types : List ℕ) (start i : ℕ) where
+  pub refers-nowhere : none ≡ slotDescriptor types start i → none ≡ run image segments (slotRow types start i)
+  unfolding slotRow run
+  refers-nowhere e = rw (← e)
+
+  pub refers-to : (a : ℕ) → some a ≡ slotDescriptor types start i → run image segments (descriptor a) ≡ run image segments (slotRow types start i)
   unfolding slotRow
-  slot-at x s v z es ev ex h = ex ∙ rw (ev, es) (simp (lt-ltb i (slots types) h, ne-eqb (unsignedIn 4 types (4 * i)) 0 z))
+  refers-to a e = rw (← e)
 
   -- a turn of the walk
   here : i < slots types → nextRow image segments types start i ≡ firstRow image segments types start (suc (slots types - (i + 1))) i

@@ -19,10 +19,19 @@ slots types = length types / 4
 abbrev pub slotAddress : List ℕ → ℕ → ℕ → ℕ
 slotAddress types start i = relativePointer ((start + 4 * i) % 2 ^ 64) (signedIn 4 types (4 * i))
 
--- the row of a slot; offset 0 has none
+-- if it refers to one: offset 0 does not
+abbrev pub slotDescriptor : List ℕ → ℕ → ℕ → Option ℕ
+slotDescriptor types start i =
+    cond (ltb i (slots types)) (cond (eqb (unsignedIn 4 types (4 * i)) 0) none (some (slotAddress types start i))) none
+
+-- what is read there
+abbrev pub readAt : {A : Type 0} → Option ℕ → (ℕ → Reads A) → Reads A
+readAt none f = nothing
+readAt (some a) f = f a
+
+-- the row of a slot
 unfoldable pub slotRow : List ℕ → ℕ → ℕ → Reads TypeRow
-slotRow types start i =
-    cond (ltb i (slots types)) (cond (eqb (unsignedIn 4 types (4 * i)) 0) nothing (descriptor (slotAddress types start i))) nothing
+slotRow types start i = readAt (slotDescriptor types start i) descriptor
 
 -- a row with the slot it was found in and the slot after it
 pub record Found : Type 0 where

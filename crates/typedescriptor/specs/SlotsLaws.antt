@@ -14,7 +14,7 @@ use lib.Seq.{take-all}
 use Rattle.runtime.specs.Reads.{run}
 use Rattle.typedescriptor.specs.Row.{TypeRow}
 use Rattle.typedescriptor.specs.Slots.{slots, slotRow, Found, found, firstRow, nextRow, rowsFrom, rows}
-use Rattle.typedescriptor.specs.RowLaws.{past-slots, rows-end}
+use Rattle.typedescriptor.specs.RowLaws.{past-slots, refers-nowhere, rows-end}
 
 -- the rows that at most `n` steps from slot `i` on give, each step from where the one before it left off
 unfoldable pub steppedRows : List ℕ → List ℕ → List ℕ → ℕ → ℕ → ℕ → List Found
@@ -145,7 +145,7 @@ module _ (image segments types : List ℕ) (start : ℕ) where
       elim (decLt i (slots types)) [
         | yes h ↦ rows-hold (slots types) 0 i r (omega arith) (omega arith) e
         | no h ↦
-            let f : none ≡ some r = past-slots image segments types start i (omega arith) ∙ e in
+            let f : none ≡ some r = refers-nowhere image segments types start i (past-slots types start i (omega arith)) ∙ e in
             let z : _≡_ {A = ℕ} 0 1 = cc in
             absurd (omega arith)
       ]

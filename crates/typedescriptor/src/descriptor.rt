@@ -19,8 +19,8 @@ pub enum Descriptor {
     Nothing,
 }
 
-// The row of the type descriptor at an address. The mapping is tried before the segments; a true mapping changes no answer.
-pub fn decode_type_descriptor_near(
+// The row of the type descriptor at an address. The mapping is asked before the segments: one that is true of them changes no answer.
+pub fn decode_type_descriptor(
     image: &[u8],
     segments: &[u64],
     mapping: Mapping,
@@ -28,7 +28,7 @@ pub fn decode_type_descriptor_near(
 ) -> Descriptor
     ensures { λ r. ⌜ descriptorOf (now (image .entry)) r ≡ run (now (image .entry)) (withMapping mapping (now (segments .entry))) (descriptor «descriptor_va») ⌝ }
 {
-    let header = runtime::read_bytes_near(image, segments, mapping, descriptor_va, 20);
+    let header = runtime::read_bytes(image, segments, mapping, descriptor_va, 20);
     if header.len() < 20 {
         return Descriptor::Nothing;
     }
@@ -36,7 +36,7 @@ pub fn decode_type_descriptor_near(
         return Descriptor::Nothing;
     }
     let name_va = util::pointer_in(header, 8, descriptor_va + 8);
-    match runtime::read_cstr_near(image, segments, mapping, name_va) {
+    match runtime::read_cstr(image, segments, mapping, name_va) {
         Text::At { place, length } => Descriptor::Row(Row {
             address: descriptor_va,
             flags: util::u32_at(header, 0),

@@ -1,14 +1,16 @@
 ghost use mathlib.Core.Path.{_≡_};
 ghost use Rattle.segment.specs.Mapping.{withMapping};
+ghost use Rattle.segment.specs.VmAddress.{addressOf};
 ghost use Rattle.runtime.specs.Reads.{run};
 ghost use Rattle.typedescriptor.specs.Moving.{RowMoved};
 ghost use Rattle.typedescriptor.specs.Row.{descriptorOf};
-ghost use Rattle.typedescriptor.specs.Slots.{slotRow, nextRow, typeStepOf};
+ghost use Rattle.typedescriptor.specs.Slots.{slotDescriptor, slotRow, nextRow, typeStepOf};
 use crate::descriptor::Descriptor;
 use crate::descriptor::Row;
-use crate::descriptor::decode_type_descriptor_near;
+use crate::descriptor::decode_type_descriptor;
 use segment::Around;
 use segment::Mapping;
+use segment::VmAddress;
 
 // A walk over the types section: the number of the next slot to read.
 pub struct TypeIter {
@@ -25,8 +27,25 @@ pub enum TypeStep {
     End,
 }
 
-// The row of one slot of a types section whose first byte is at `vmaddr`.
-fn slot_row_near(
+// The address of the descriptor that a slot of a types section refers to, whose first byte is at `vmaddr`: none for offset 0, nor past the
+// section.
+pub fn slot_descriptor(types: &[u8], vmaddr: u64, slot: usize) -> VmAddress
+    ensures { λ r. ⌜ addressOf r ≡ slotDescriptor (now (types .entry)) vmaddr slot ⌝ }
+{
+    if types.len() / 4 <= slot {
+        return VmAddress::Nothing;
+    }
+    let off = 4 * slot;
+    let pointer = &types[off..off + 4];
+    if util::u32_at(pointer, 0) == 0 {
+        return VmAddress::Nothing;
+    }
+    let slot_va = std::num::wrapping_add_u64(vmaddr, off as u64);
+    VmAddress::At(util::pointer_in(pointer, 0, slot_va))
+}
+
+// The row of one slot. The mapping is asked before the segments.
+pub fn slot_row(
     image: &[u8],
     segments: &[u64],
     mapping: Mapping,
@@ -36,21 +55,10 @@ fn slot_row_near(
 ) -> Descriptor
     ensures { λ r. ⌜ descriptorOf (now (image .entry)) r ≡ run (now (image .entry)) (withMapping mapping (now (segments .entry))) (slotRow (now (types .entry)) vmaddr slot) ⌝ }
 {
-    if types.len() / 4 <= slot {
-        return Descriptor::Nothing;
+    match slot_descriptor(types, vmaddr, slot) {
+        VmAddress::At(address) => decode_type_descriptor(image, segments, mapping, address),
+        VmAddress::Nothing => Descriptor::Nothing,
     }
-    let off = 4 * slot;
-    let pointer = &types[off..off + 4];
-    if util::u32_at(pointer, 0) == 0 {
-        return Descriptor::Nothing;
-    }
-    let slot_va = std::num::wrapping_add_u64(vmaddr, off as u64);
-    decode_type_descriptor_near(
-        image,
-        segments,
-        mapping,
-        util::pointer_in(pointer, 0, slot_va),
-    )
 }
 
 // The row of a slot, and the mapping around its descriptor for what is read next.
@@ -70,25 +78,15 @@ pub fn slot_row_moving(
 ) -> SlotRow
     ensures { λ r. ⌜ RowMoved (now (image .entry)) (now (segments .entry)) mapping (now (types .entry)) vmaddr slot (r .found) (r .mapping) ⌝ }
 {
-    if types.len() / 4 <= slot {
+    let VmAddress::At(address) = slot_descriptor(types, vmaddr, slot) else {
         return SlotRow {
             found: Descriptor::Nothing,
             mapping,
         };
-    }
-    let off = 4 * slot;
-    let pointer = &types[off..off + 4];
-    if util::u32_at(pointer, 0) == 0 {
-        return SlotRow {
-            found: Descriptor::Nothing,
-            mapping,
-        };
-    }
-    let slot_va = std::num::wrapping_add_u64(vmaddr, off as u64);
-    let address = util::pointer_in(pointer, 0, slot_va);
+    };
     match segment::locate_near(segments, mapping, address) {
         Around::Mapping(near) => SlotRow {
-            found: decode_type_descriptor_near(image, segments, near, address),
+            found: decode_type_descriptor(image, segments, near, address),
             mapping: near,
         },
         Around::Nothing => SlotRow {
@@ -96,19 +94,6 @@ pub fn slot_row_moving(
             mapping,
         },
     }
-}
-
-// The same without a mapping.
-pub fn slot_row(
-    image: &[u8],
-    segments: &[u64],
-    types: &[u8],
-    vmaddr: u64,
-    slot: usize,
-) -> Descriptor
-    ensures { λ r. ⌜ descriptorOf (now (image .entry)) r ≡ run (now (image .entry)) (now (segments .entry)) (slotRow (now (types .entry)) vmaddr slot) ⌝ }
-{
-    slot_row_near(image, segments, Mapping::empty(), types, vmaddr, slot)
 }
 
 impl TypeIter {
@@ -125,7 +110,7 @@ impl TypeIter {
         let count = types.len() / 4;
         let mut slot = self.slot;
         while slot < count {
-            let found = slot_row(image, segments, types, vmaddr, slot);
+            let found = slot_row(image, segments, segment::NO_MAPPING, types, vmaddr, slot);
             match found {
                 Descriptor::Row(row) => {
                     return TypeStep::Row {

@@ -8,5 +8,6 @@ pub use descriptor::Row;
 pub use iter::SlotRow;
 pub use iter::TypeIter;
 pub use iter::TypeStep;
+pub use iter::slot_descriptor;
 pub use iter::slot_row;
 pub use iter::slot_row_moving;

@@ -17,7 +17,7 @@ use Rattle.segment.specs.Mapping.{withMapping, TrueMapping}
 use Rattle.segment.specs.declared.segment.Mapping.{Mapping}
 use Rattle.runtime.specs.Reads.{Reads, bytesPlace, run, done}
 use Rattle.runtime.specs.Bytes.{bytesFrom, bytesRead}
-use Rattle.runtime.specs.CallsLaws.{bytes-within, run-bytes, run-no-bytes, run-mapped, read-mapped}
+use Rattle.runtime.specs.CallsLaws.{bytes-within, run-bytes, run-no-bytes, run-mapped}
 use Rattle.vtable.specs.declared.entry.EntryKind.{EntryKind}
 use Rattle.vtable.specs.declared.entry.TableEntry.{TableEntry}
 use Rattle.vtable.specs.declared.iter.EntryIter.{EntryIter}
@@ -54,11 +54,6 @@ module _ (image segments : List ℕ) (size stride base k : ℕ) where
       → r ≡ entryBytes image segments size stride base k
   unfolding entryBytes
   below r h w e = simp (le-ltb size 4 h, lt-leb (2 ^ 64) (base + stride * k + (size - 4)) w) e
-
-  -- a true mapping changes none
-  pub bytes-mapped : (m : Mapping) → TrueMapping segments m → entryBytes image (withMapping m segments) size stride base k ≡ entryBytes image segments size stride base k
-  unfolding entryBytes
-  bytes-mapped m w = rw (read-mapped image segments m w (base + stride * k) size)
 
 -- ---- what its words say
 
@@ -181,9 +176,9 @@ module _ (image segments : List ℕ) (kind : EntryKind) (c : EntryIter) where
   pub kind-end : c .count ≤ c .next → EntryStep.End ≡ answer
   kind-end h = ap stepAnswer (step-end image segments (kindLayout kind) c h)
 
-  module _ (size : ℕ) (es : size ≡ entrySize (kindLayout kind)) (m : Mapping) (em : TrueMapping segments m) (h : List ℕ) (eh : h ≡ entryBytes image (withMapping m segments) size size (c .«base_va») (c .next)) where
+  module _ (size : ℕ) (es : size ≡ entrySize (kindLayout kind)) (h : List ℕ) (eh : h ≡ entryBytes image segments size size (c .«base_va») (c .next)) where
     bytes-sized : h ≡ entryBytes image segments (entrySize (kindLayout kind)) (entrySize (kindLayout kind)) (c .«base_va») (c .next)
-    bytes-sized = eh ∙ bytes-mapped image segments size size (c .«base_va») (c .next) m em ∙ ap (λ (s : ℕ). entryBytes image segments s s (c .«base_va») (c .next)) es
+    bytes-sized = eh ∙ ap (λ (s : ℕ). entryBytes image segments s s (c .«base_va») (c .next)) es
 
     at-sized : (a : ℕ) → a ≡ (c .«base_va» + size * c .next) % 2 ^ 64 → a ≡ entryAddress (kindLayout kind) (c .«base_va») (c .next) % 2 ^ 64
     at-sized a ea = ea ∙ ap (λ (s : ℕ). (c .«base_va» + s * c .next) % 2 ^ 64) es

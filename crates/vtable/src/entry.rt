@@ -66,5 +66,5 @@ pub fn entry_bytes<'a>(
     if 0xffff_ffff_ffff_ffff - address < (size - 4) as u64 {
         return &image[..0];
     }
-    runtime::read_bytes_near(image, segments, mapping, address, size as usize)
+    runtime::read_bytes(image, segments, mapping, address, size as usize)
 }

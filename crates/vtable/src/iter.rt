@@ -6,7 +6,6 @@ use crate::entry::EntryKind;
 use crate::entry::TableEntry;
 use crate::entry::entry_address;
 use crate::entry::entry_bytes;
-use segment::Mapping;
 
 // The table's address, how many entries it has, and the number of the next one.
 pub struct EntryIter {
@@ -90,7 +89,7 @@ impl EntryIter {
         let bytes = entry_bytes(
             image,
             segments,
-            Mapping::empty(),
+            segment::NO_MAPPING,
             self.base_va,
             size,
             size,

@@ -20,7 +20,7 @@ abbrev μ-loop : tie.MeasureT-loop
 μ-loop image segments types vmaddr start buffer₀ count mapping₀ slot₀ at₀ buffer mapping slot at = count - slot
 
 loop-holds : tie.Need-loop-holds Inv-loop μ-loop
-loop-holds c = start-going _ _ _ _ _ _ _ _ (empty-mapped _ _ (c .empty .ensures))
+loop-holds c = start-going _ _ _ _ _ _ _ _ (empty-mapped _)
 
 returns : tie.Need-returns Inv-loop μ-loop
 returns c =
@@ -35,7 +35,7 @@ returns c =
 
 add-slot : tie.Need-add-slot Inv-loop μ-loop
 add-slot c =
-    let s = c .before .before .before .before .before .before .before .before .before .before .before .before .before .before .before .before .before in
+    let s = c .before .before .before .before .before .before .before .before .before .before .before .before .before .before .before .before in
     record { fits = omega (arith, s .good .1 .1 .0, c .before .before .before .before .before .before .before .before .before .before .loop-test .taken) }
 
 loop-again : tie.Need-loop-again Inv-loop μ-loop
@@ -58,5 +58,5 @@ pub put-rows-spec : {M : Type 1} → statement M
 put-rows-spec =
     tie.close
     (tie.spec
-    Inv-loop μ-loop (λ c κs. search needs) loop-holds (λ c κs. search needs) (λ c. search needs) (λ c κs. search needs) (λ c. search needs) returns
+    Inv-loop μ-loop loop-holds (λ c κs. search needs) (λ c. search needs) (λ c κs. search needs) (λ c. search needs) returns
     add-slot (λ c. search needs) loop-again (λ c. search needs) (λ c. search needs) (λ c. search needs) loop-again-2 (λ c. search needs) returns-2)

@@ -1,34 +1,22 @@
--- `certainty::row::slot_certain` meets its contract: each `return` is a case of `slotRow`.
+-- `certainty::row::slot_certain` meets its contract.
 -- Assumes nothing.
-use native.Mathlib.Omega.{arith}
-use Prim.Native.Nat.{_*_}
-use denote.Ref.{now}
-use mathlib.Core.Path.{refl, sym, ap, _∙_}
-use Rattle.util.specs.LittleEndianLaws.{unsigned-part, signed-part}
-use Rattle.util.specs.Pointer.{relativePointer}
-use Rattle.certainty.specs.ReadLaws.{past-slots, zero-slot, slot-at}
+use mathlib.Core.Path.{_∙_}
+use Rattle.util.specs.AnswersLaws.{told}
+use Rattle.segment.specs.VmAddress.{addressOf}
+use Rattle.certainty.specs.Certain.{certain}
+use Rattle.certainty.specs.ReadLaws.{slot-reads}
 use borrow.Author.Needs.{needs}
 use Rattle.certainty.proofs.row.slot_certain.Statement.{statement}
 use Rattle.certainty.proofs.row.slot_certain.Tie as tie
 
 returns : tie.Need-returns
-returns c = sym (past-slots _ _ _ _ _ (omega arith))
+returns c = c .descriptor-certain .ensures ∙ slot-reads _ _ _ _ _ _ (told addressOf (c .before .before .before .before .slot-descriptor .ensures) (c .before .before .address .given .1))
 
 returns-2 : tie.Need-returns-2
-returns-2 c =
-    let p = c .before .before .before .before .before .before .before in
-    sym (zero-slot _ _ _ _ _ (sym (unsigned-part 4 (now (p .args .types)) (4 * p .args .slot) _ refl (omega arith)) ∙ sym (c .before .u32-at .ensures) ∙ c .if2 .taken) (omega arith))
-
-returns-3 : tie.Need-returns-3
-returns-3 c =
-    let p = c .before .before .before .before .before .before .before .before .before .before in
-    c .descriptor-certain .ensures
-    ∙ slot-at _ _ _ _ _ _ _ (λ z. c .before .before .before .if2 .left (c .before .before .before .before .u32-at .ensures ∙ unsigned-part 4 (now (p .args .types)) (4 * p .args .slot) _ refl (omega arith) ∙ z)) (c .before .before .wrapping-add-u64 .ensures)
-    (c .before .pointer-in .ensures ∙ ap (relativePointer (c .before .before .wrapping-add-u64 .result)) (signed-part 4 (now (p .args .types)) (4 * p .args .slot) _ refl (omega arith))) (omega arith)
+unfolding certain
+returns-2 c = slot-reads _ _ _ _ _ _ (told addressOf (c .before .before .slot-descriptor .ensures) (c .enum-told .given .1))
 
 pub slot-certain-spec : {M : Type 1} → statement M
 slot-certain-spec =
-    tie.close
-    (tie.spec
-    returns (λ c. search needs) (λ c. search needs) (λ c. search needs) (λ c. search needs) (λ c. search needs) (λ c κs. search needs) returns-2
-    (λ c κs. search needs) (λ c κs. search needs) (λ c κs. search needs) returns-3)
+    tie.close (tie.spec
+    (λ c κs. search needs) (λ c. search needs) (λ c κs. search needs) (λ c. search needs) returns returns-2)

@@ -10,11 +10,11 @@ use Rattle.classtrailers.proofs.decode.invertible_at.Tie as tie
 
 returns : tie.Need-returns
 unfolding rowAt
-returns c = no-header _ _ _ 1 _ (c .before .read-bytes-near .ensures) _ refl (omega arith)
+returns c = no-header _ _ _ 1 _ (c .before .read-bytes .ensures) _ refl (omega arith)
 
 returns-2 : tie.Need-returns-2
 unfolding rowAt
-returns-2 c = set-says _ _ _ 1 _ (c .before .before .before .read-bytes-near .ensures) _ refl (omega arith) refl _ (set-counted _ _ _ _ (c .before .u16-at .ensures) (omega arith) (c .unread .ensures))
+returns-2 c = set-says _ _ _ 1 _ (c .before .before .before .read-bytes .ensures) _ refl (omega arith) refl _ (set-counted _ _ _ _ (c .before .u16-at .ensures) (omega arith) (c .unread .ensures))
 
 pub invertible-at-spec : {M : Type 1} → statement M
 invertible-at-spec =

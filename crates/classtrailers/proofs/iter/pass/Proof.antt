@@ -11,13 +11,13 @@ returns : tie.Need-returns
 returns c = pass-none _ _ _ _ _ (told kindReadOf (c .before .before .kind-there .ensures) (c .enum-told .given .1))
 
 returns-2 : tie.Need-returns-2
-returns-2 c = pass-kind _ _ _ _ _ _ _ (told kindReadOf (c .before .before .before .before .before .before .before .kind-there .ensures) (c .before .before .before .before .before .kind .given .1)) (told blockAtOf (c .before .before .before .block-near .ensures) (c .before .end .given .1))
+returns-2 c = pass-kind _ _ _ _ _ _ _ (told kindReadOf (c .before .before .before .before .before .before .before .kind-there .ensures) (c .before .before .before .before .before .kind .given .1)) (told blockAtOf (c .before .before .before .block-at .ensures) (c .before .end .given .1))
 
 returns-3 : tie.Need-returns-3
-returns-3 c = pass-kind _ _ _ _ _ _ _ (told kindReadOf (c .before .before .before .before .before .before .kind-there .ensures) (c .before .before .before .before .kind .given .1)) (told blockAtOf (c .before .before .block-near .ensures) (c .enum-told2 .given .1))
+returns-3 c = pass-kind _ _ _ _ _ _ _ (told kindReadOf (c .before .before .before .before .before .before .kind-there .ensures) (c .before .before .before .before .kind .given .1)) (told blockAtOf (c .before .before .block-at .ensures) (c .enum-told2 .given .1))
 
 returns-4 : tie.Need-returns-4
-returns-4 c = pass-kind _ _ _ _ _ _ _ (told kindReadOf (c .before .before .before .before .before .before .kind-there .ensures) (c .before .before .before .before .kind .given .1)) (told blockAtOf (c .before .before .block-near .ensures) (c .enum-told3 .given .1))
+returns-4 c = pass-kind _ _ _ _ _ _ _ (told kindReadOf (c .before .before .before .before .before .before .kind-there .ensures) (c .before .before .before .before .kind .given .1)) (told blockAtOf (c .before .before .block-at .ensures) (c .enum-told3 .given .1))
 
 pub pass-spec : {M : Type 1} → statement M
 pass-spec =

@@ -27,7 +27,7 @@ put-block-requires : tie.Need-put-block-requires Inv-loop μ-loop
 put-block-requires c κs = omega (arith, c .before .before .before .before .before .before .before .before .before .before .before .before .before .before .pre, c .before .before .before .before .before .before .before .before .before .before .loop .inv .long, c .before .before .before .before .before .before .before .before .before .loop-test .taken)
 
 loop-again : tie.Need-loop-again Inv-loop μ-loop
-loop-again c = there-put _ _ _ _ _ _ (c .before .before .before .before .before .before .before .before .before .before .before .before .before .before .before .before .before .pre) _ _ _ (c .before .before .before .before .before .before .before .before .before .before .before .before .before .loop .inv) (omega arith) _ (told kindReadOf (c .before .before .before .before .before .before .before .before .before .before .before .kind-there .ensures) (c .before .before .before .before .before .before .before .before .before .kind .given .1)) _ _ _ (told blockAtOf (c .before .before .before .before .before .before .before .block-near .ensures) (c .before .before .before .before .before .found .given .1)) (c .before .before .put-block .ensures)
+loop-again c = there-put _ _ _ _ _ _ (c .before .before .before .before .before .before .before .before .before .before .before .before .before .before .before .before .before .pre) _ _ _ (c .before .before .before .before .before .before .before .before .before .before .before .before .before .loop .inv) (omega arith) _ (told kindReadOf (c .before .before .before .before .before .before .before .before .before .before .before .kind-there .ensures) (c .before .before .before .before .before .before .before .before .before .kind .given .1)) _ _ _ (told blockAtOf (c .before .before .before .before .before .before .before .block-at .ensures) (c .before .before .before .before .before .found .given .1)) (c .before .before .put-block .ensures)
 
 put-block-requires-2 : tie.Need-put-block-requires-2 Inv-loop μ-loop
 put-block-requires-2 c κs = omega (arith, c .before .before .before .before .before .before .before .before .before .before .before .before .before .before .pre, c .before .before .before .before .before .before .before .before .before .before .loop .inv .long, c .before .before .before .before .before .before .before .before .before .loop-test .taken)
@@ -39,13 +39,13 @@ put-zeros-requires c κs = let s = c .before .before .before .before .before .be
     omega (arith, s .pre, l .inv .long, c .before .before .before .before .before .before .before .before .before .before .before .before .before .loop-test .taken, same)
 
 returns : tie.Need-returns Inv-loop μ-loop
-returns c = last-put _ _ _ _ _ _ (c .before .before .before .before .before .before .before .before .before .before .before .before .before .before .before .before .before .before .before .before .before .pre) _ _ _ (c .before .before .before .before .before .before .before .before .before .before .before .before .before .before .before .before .before .loop .inv) (omega arith) _ (told kindReadOf (c .before .before .before .before .before .before .before .before .before .before .before .before .before .before .before .kind-there .ensures) (c .before .before .before .before .before .before .before .before .before .before .before .before .before .kind .given .1)) _ _ _ _ _ (told blockAtOf (c .before .before .before .before .before .before .before .before .before .before .before .block-near .ensures) (c .before .before .before .before .before .before .before .before .before .found2 .given .1)) (c .before .before .before .before .before .before .put-block2 .ensures) refl refl (c .before .before .put-zeros .ensures)
+returns c = last-put _ _ _ _ _ _ (c .before .before .before .before .before .before .before .before .before .before .before .before .before .before .before .before .before .before .before .before .before .pre) _ _ _ (c .before .before .before .before .before .before .before .before .before .before .before .before .before .before .before .before .before .loop .inv) (omega arith) _ (told kindReadOf (c .before .before .before .before .before .before .before .before .before .before .before .before .before .before .before .kind-there .ensures) (c .before .before .before .before .before .before .before .before .before .before .before .before .before .kind .given .1)) _ _ _ _ _ (told blockAtOf (c .before .before .before .before .before .before .before .before .before .before .before .block-at .ensures) (c .before .before .before .before .before .before .before .before .before .found2 .given .1)) (c .before .before .before .before .before .before .put-block2 .ensures) refl refl (c .before .before .put-zeros .ensures)
 
 put-zeros-requires-2 : tie.Need-put-zeros-requires-2 Inv-loop μ-loop
 put-zeros-requires-2 c κs = omega (arith, c .before .before .before .before .before .before .before .before .before .before .before .before .before .pre, c .before .before .before .before .before .before .before .before .before .loop .inv .long, c .before .before .before .before .before .before .before .before .loop-test .taken)
 
 returns-2 : tie.Need-returns-2 Inv-loop μ-loop
-returns-2 c = fails-put _ _ _ _ _ _ (c .before .before .before .before .before .before .before .before .before .before .before .before .before .before .before .before .pre) _ _ _ (c .before .before .before .before .before .before .before .before .before .before .before .before .loop .inv) (omega arith) _ (told kindReadOf (c .before .before .before .before .before .before .before .before .before .before .kind-there .ensures) (c .before .before .before .before .before .before .before .before .kind .given .1)) _ _ (told blockAtOf (c .before .before .before .before .before .before .block-near .ensures) (c .before .before .before .before .enum-told .given .1)) refl (c .before .before .put-zeros2 .ensures)
+returns-2 c = fails-put _ _ _ _ _ _ (c .before .before .before .before .before .before .before .before .before .before .before .before .before .before .before .before .pre) _ _ _ (c .before .before .before .before .before .before .before .before .before .before .before .before .loop .inv) (omega arith) _ (told kindReadOf (c .before .before .before .before .before .before .before .before .before .before .kind-there .ensures) (c .before .before .before .before .before .before .before .before .kind .given .1)) _ _ (told blockAtOf (c .before .before .before .before .before .before .block-at .ensures) (c .before .before .before .before .enum-told .given .1)) refl (c .before .before .put-zeros2 .ensures)
 
 put-four-requires : tie.Need-put-four-requires Inv-loop μ-loop
 put-four-requires c κs = omega (arith, c .before .before .before .before .before .before .before .before .before .pre, c .before .before .before .before .before .loop .inv .long, c .before .before .before .before .loop-test .taken)

@@ -14,13 +14,13 @@ use Rattle.full_rows.proofs.rows.put_record.Tie as tie
 returns : tie.Need-returns
 returns c =
     let a = c .before .before .before .before .before .before .before .before .before .before .before .before .before .before .before .before .before .before .before .before .args in
-    parts-put _ _ (a .slot) (rowOf (a .image .now) (a .row)) _ (a .buffer .now) _ _ _ _ (a .at) (c .before .before .before .before .before .before .before .before .before .before .before .before .before .before .before .before .before .before .before .before .pre) (c .before .before .before .before .before .before .before .before .before .before .before .before .before .before .before .put-row .ensures) (c .before .before .before .before .before .before .before .before .before .before .before .before .decode-body-near .ensures) (c .before .before .before .before .before .before .before .before .before .before .put-body .ensures)
+    parts-put _ _ (a .slot) (rowOf (a .image .now) (a .row)) _ (a .buffer .now) _ _ _ _ (a .at) (c .before .before .before .before .before .before .before .before .before .before .before .before .before .before .before .before .before .before .before .before .pre) (c .before .before .before .before .before .before .before .before .before .before .before .before .before .before .before .put-row .ensures) (c .before .before .before .before .before .before .before .before .before .before .before .before .decode-body .ensures) (c .before .before .before .before .before .before .before .before .before .before .put-body .ensures)
     (ap (blockFours _ _) (told trailersOf (c .before .before .before .before .before .before .before .trailing .ensures) (c .before .before .before .before .before .trailing2 .given .1))) (c .before .before .put-blocks .ensures)
 
 returns-2 : tie.Need-returns-2
 returns-2 c =
     let a = c .before .before .before .before .before .before .before .before .before .before .before .before .before .before .before .before .before .before .before .args in
-    parts-put _ _ (a .slot) (rowOf (a .image .now) (a .row)) _ (a .buffer .now) _ _ _ _ (a .at) (c .before .before .before .before .before .before .before .before .before .before .before .before .before .before .before .before .before .before .before .pre) (c .before .before .before .before .before .before .before .before .before .before .before .before .before .before .put-row .ensures) (c .before .before .before .before .before .before .before .before .before .before .before .decode-body-near .ensures) (c .before .before .before .before .before .before .before .before .before .put-body .ensures)
+    parts-put _ _ (a .slot) (rowOf (a .image .now) (a .row)) _ (a .buffer .now) _ _ _ _ (a .at) (c .before .before .before .before .before .before .before .before .before .before .before .before .before .before .before .before .before .before .before .pre) (c .before .before .before .before .before .before .before .before .before .before .before .before .before .before .put-row .ensures) (c .before .before .before .before .before .before .before .before .before .before .before .decode-body .ensures) (c .before .before .before .before .before .before .before .before .before .put-body .ensures)
     (none-follow _ _ ∙ ap (blockFours _ _) (told trailersOf (c .before .before .before .before .before .before .trailing .ensures) (c .before .before .before .before .enum-told .given .1))) (c .before .before .put-zeros .ensures)
 
 pub put-record-spec : {M : Type 1} → statement M

@@ -19,7 +19,7 @@ abbrev μ-loop : tie.MeasureT-loop
 μ-loop image segments types vmaddr start buffer₀ count room mapping₀ slot₀ n₀ buffer mapping slot n = count - slot
 
 loop-holds : tie.Need-loop-holds Inv-loop μ-loop
-loop-holds c = start-going _ _ _ _ _ _ _ _ (empty-mapped _ _ (c .empty .ensures))
+loop-holds c = start-going _ _ _ _ _ _ _ _ (empty-mapped _)
 
 returns : tie.Need-returns Inv-loop μ-loop
 returns c =
@@ -38,17 +38,17 @@ put-record-requires c κs = omega (arith, c .before .before .before .before .bef
 
 add-n : tie.Need-add-n Inv-loop μ-loop
 add-n c =
-    let s = c .before .before .before .before .before .before .before .before .before .before .before .before .before .before .before .before .before in
+    let s = c .before .before .before .before .before .before .before .before .before .before .before .before .before .before .before .before in
     record { fits = omega (arith, s .good .1 .1 .1 .1 .1 .0 .0, c .before .before .before .before .if1 .left) }
 
 add-slot : tie.Need-add-slot Inv-loop μ-loop
 add-slot c =
-    let s = c .before .before .before .before .before .before .before .before .before .before .before .before .before .before .before .before .before in
+    let s = c .before .before .before .before .before .before .before .before .before .before .before .before .before .before .before .before in
     record { fits = omega (arith, s .good .1 .1 .0, c .before .before .before .before .before .before .before .before .before .before .loop-test .taken) }
 
 loop-again : tie.Need-loop-again Inv-loop μ-loop
 loop-again c =
-    let a = c .before .before .before .before .before .before .before .before .before .before .before .before .before .before .before .before .before .args in
+    let a = c .before .before .before .before .before .before .before .before .before .before .before .before .before .before .before .before .args in
     let l = c .before .before .before .before .before .before .before .before .before .before .before .loop in
     let step = c .before .before .before .before .before .before .before .before .before .slot-row-moving .ensures in
     let row = rowOf (a .image .now) (c .before .before .before .before .before .before .found .given .0 .0) in
@@ -65,6 +65,6 @@ pub put-rows-spec : {M : Type 1} → statement M
 put-rows-spec =
     tie.close
     (tie.spec
-    Inv-loop μ-loop (λ c κs. search needs) loop-holds (λ c κs. search needs) (λ c. search needs) (λ c. search needs) returns mul-put-record
+    Inv-loop μ-loop loop-holds (λ c κs. search needs) (λ c. search needs) (λ c. search needs) returns mul-put-record
     put-record-requires add-n add-slot (λ c. search needs) loop-again (λ c. search needs) (λ c. search needs) (λ c. search needs) loop-again-2
     (λ c. search needs) returns-2)

@@ -9,8 +9,8 @@ use Rattle.named_records.proofs.records.put_record.Lts as lts
 use Rattle.named_records.proofs.records.put_field_name.Reads as put-field-name-reads
 use Rattle.named_records.proofs.records.put_text.Reads as put-text-reads
 use Rattle.named_records.proofs.records.put_words.Reads as put-words-reads
-use Rattle.runtime.proofs.read_cstr_near.Reads as read-cstr-near-reads
-use Rattle.runtime.proofs.lookup_field_name_near.Reads as lookup-field-name-near-reads
+use Rattle.runtime.proofs.read_cstr.Reads as read-cstr-reads
+use Rattle.runtime.proofs.lookup_field_name.Reads as lookup-field-name-reads
 
 -- src/records.rt:98:5
 -- src/records.rt:99:9
@@ -24,7 +24,7 @@ use Rattle.runtime.proofs.lookup_field_name_near.Reads as lookup-field-name-nea
 returns : tie.Need-returns
 returns c =
     let s = c .before .before .before .before .before .before .before .before .before .before .before .before .before .before .before .before .before .before in
-    names-put _ _ _ _ (s .args .«record») _ _ (s .args .buffer .now) _ _ _ (s .args .at) (s .pre) (c .before .before .before .before .before .before .before .before .before .before .before .before .put-words .ensures) (c .before .before .before .before .before .before .before .before .before .read-cstr-near .ensures) (c .before .before .before .before .before .before .before .put-text .ensures) (c .before .before .before .before .lookup-field-name-near .ensures) (c .before .before .put-field-name .ensures)
+    names-put _ _ _ _ (s .args .«record») _ _ (s .args .buffer .now) _ _ _ (s .args .at) (s .pre) (c .before .before .before .before .before .before .before .before .before .before .before .before .put-words .ensures) (c .before .before .before .before .before .before .before .before .before .read-cstr .ensures) (c .before .before .before .before .before .before .before .put-text .ensures) (c .before .before .before .before .lookup-field-name .ensures) (c .before .before .put-field-name .ensures)
 
 pub put-record-spec : {M : Type 1} → statement M
 put-record-spec =

@@ -11,19 +11,19 @@ returns : tie.Need-returns
 returns c = (name-wraps _ _ _ (omega arith), tt)
 
 returns-2 : tie.Need-returns-2
-returns-2 c = (no-slot _ _ _ _ (c .before .read-bytes-near .ensures) (omega arith) (omega arith), tt)
+returns-2 c = (no-slot _ _ _ _ (c .before .read-bytes .ensures) (omega arith) (omega arith), tt)
 
 returns-3 : tie.Need-returns-3
 returns-3 c = (
-  no-offset _ _ _ _ (c .before .before .before .read-bytes-near .ensures) (sym (c .before .u32-at .ensures) ∙ c .if3 .taken) (omega arith) (omega arith),
+  no-offset _ _ _ _ (c .before .before .before .read-bytes .ensures) (sym (c .before .u32-at .ensures) ∙ c .if3 .taken) (omega arith) (omega arith),
   tt,
 )
 
 returns-4 : tie.Need-returns-4
 returns-4 c = (
-  name-at _ _ _ _ (c .before .before .before .before .before .read-bytes-near .ensures) _ (c .read-cstr-near .result) (λ z. c .before .before .if3 .left (c .before .before .before .u32-at .ensures ∙ z)) (c .before .pointer-in .ensures)
-      (c .read-cstr-near .ensures) (omega arith) (omega arith),
-  inside _ _ _ (c .read-cstr-near .result) (c .read-cstr-near .ensures),
+  name-at _ _ _ _ (c .before .before .before .before .before .read-bytes .ensures) _ (c .read-cstr .result) (λ z. c .before .before .if3 .left (c .before .before .before .u32-at .ensures ∙ z)) (c .before .pointer-in .ensures)
+      (c .read-cstr .ensures) (omega arith) (omega arith),
+  inside _ _ _ (c .read-cstr .result) (c .read-cstr .ensures),
 )
 
 pub read-context-name-spec : {M : Type 1} → statement M

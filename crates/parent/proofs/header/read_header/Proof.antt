@@ -10,14 +10,14 @@ returns : tie.Need-returns
 returns c = zero-header _ _ _ (c .if1 .taken)
 
 returns-2 : tie.Need-returns-2
-returns-2 c = no-header _ _ _ (c .before .before .if1 .left) _ (c .before .read-bytes-near .ensures) (omega arith)
+returns-2 c = no-header _ _ _ (c .before .before .if1 .left) _ (c .before .read-bytes .ensures) (omega arith)
 
 returns-3 : tie.Need-returns-3
-returns-3 c = parent-wraps _ _ _ (c .before .before .before .if1 .left) _ (c .before .before .read-bytes-near .ensures) (omega arith) (omega arith)
+returns-3 c = parent-wraps _ _ _ (c .before .before .before .if1 .left) _ (c .before .before .read-bytes .ensures) (omega arith) (omega arith)
 
 returns-4 : tie.Need-returns-4
 returns-4 c =
-    header-at _ _ _ (c .before .before .before .before .before .if1 .left) _ (c .before .before .before .before .read-bytes-near .ensures) _ _ (c .before .u32-at .ensures) (c .address-in .ensures)
+    header-at _ _ _ (c .before .before .before .before .before .if1 .left) _ (c .before .before .before .before .read-bytes .ensures) _ _ (c .before .u32-at .ensures) (c .address-in .ensures)
     (omega arith) (omega arith)
 
 pub read-header-spec : {M : Type 1} → statement M

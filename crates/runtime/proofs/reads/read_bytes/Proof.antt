@@ -1,15 +1,20 @@
--- `runtime::reads::read_bytes` meets its contract: an empty mapping says nothing.
+-- `runtime::reads::read_bytes` meets its contract.
 -- Assumes nothing.
-use mathlib.Core.Path.{_∙_}
-use Rattle.segment.specs.MappingLaws.{empty-mapped}
-use Rattle.runtime.specs.CallsLaws.{read-mapped}
+use Rattle.util.specs.AnswersLaws.{told}
+use Rattle.runtime.specs.Bytes.{bytesPlaceOf}
+use Rattle.runtime.specs.CallsLaws.{read-at, read-nothing}
 use borrow.Author.Needs.{needs}
 use Rattle.runtime.proofs.reads.read_bytes.Statement.{statement}
 use Rattle.runtime.proofs.reads.read_bytes.Tie as tie
 
 returns : tie.Need-returns
-returns c = c .read-bytes-near .ensures ∙ read-mapped _ _ _ (empty-mapped _ _ (c .before .empty .ensures)) _ _
+returns c = read-at _ _ _ _ _ _ (told bytesPlaceOf (c .before .before .before .before .find-bytes .ensures) (c .before .before .off .given .1)) (c .part .ensures)
+
+returns-2 : tie.Need-returns-2
+returns-2 c = read-nothing _ _ _ _ (told bytesPlaceOf (c .before .before .before .find-bytes .ensures) (c .before .enum-told .given .1))
 
 pub read-bytes-spec : {M : Type 1} → statement M
-read-bytes-spec = tie.close (tie.spec
-    (λ c κs. search needs) (λ c κs. search needs) returns)
+read-bytes-spec =
+    tie.close
+    (tie.spec
+    (λ c κs. search needs) (λ c. search needs) (λ c κs. search needs) (λ c. search needs) (λ c. search needs) returns returns-2)

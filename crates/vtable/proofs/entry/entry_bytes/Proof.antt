@@ -19,7 +19,7 @@ returns-3 : tie.Need-returns-3
 returns-3 c = wraps _ _ _ _ _ _ (omega arith) (omega arith)
 
 returns-4 : tie.Need-returns-4
-returns-4 c = below _ _ _ _ _ _ _ (omega arith) (omega arith) (c .read-bytes-near .ensures)
+returns-4 c = below _ _ _ _ _ _ _ (omega arith) (omega arith) (c .read-bytes .ensures)
 
 pub entry-bytes-spec : {M : Type 1} → statement M
 entry-bytes-spec =

@@ -12,10 +12,10 @@ returns : tie.Need-returns
 returns c = case (Located (now (c .before .before .before .before .before .args .segments)) (c .before .before .before .before .before .args .self .«base_va»)) (c .before .before .before .locate .ensures) (c .before .mapping .given .1) .0
 
 returns-2 : tie.Need-returns-2
-returns-2 c = empty-mapped _ _ (c .empty .ensures)
+returns-2 c = empty-mapped _
 
 pub locate-spec : {M : Type 1} → statement M
 locate-spec =
     tie.close
     (tie.spec
-    (λ c κs. search needs) (λ c. search needs) (λ c. search needs) (λ c κs. search needs) returns returns-2)
+    (λ c κs. search needs) (λ c. search needs) (λ c. search needs) returns returns-2)

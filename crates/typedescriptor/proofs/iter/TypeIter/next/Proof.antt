@@ -21,8 +21,8 @@ abbrev μ-loop : tie.MeasureT-loop
 loop-holds : tie.Need-loop-holds Inv-loop μ-loop
 loop-holds c = (refl, refl)
 
-add-t12 : tie.Need-add-t12 Inv-loop μ-loop
-add-t12 c = search needs
+add-t13 : tie.Need-add-t13 Inv-loop μ-loop
+add-t13 c = search needs
 
 returns : tie.Need-returns Inv-loop μ-loop
 returns c =
@@ -39,5 +39,5 @@ pub next-spec : {M : Type 1} → statement M
 next-spec =
     tie.close
     (tie.spec
-    Inv-loop μ-loop loop-holds (λ c κs. search needs) (λ c. search needs) add-t12 returns (λ c. search needs) (λ c. search needs) (λ c. search needs)
+    Inv-loop μ-loop loop-holds (λ c κs. search needs) (λ c. search needs) add-t13 returns (λ c. search needs) (λ c. search needs) (λ c. search needs)
     loop-again returns-2)

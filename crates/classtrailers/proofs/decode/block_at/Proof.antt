@@ -1,11 +1,11 @@
--- `classtrailers::decode::block_near` meets its contract: each arm is a row of the table.
+-- `classtrailers::decode::block_at` meets its contract: each arm is a row of the table.
 -- Assumes nothing.
 use Rattle.classtrailers.specs.CallsLaws.{kind-says}
 use Rattle.classtrailers.specs.Blocks.{rowAt, blockAt}
 use Rattle.runtime.specs.Reads.{run}
 use borrow.Author.Needs.{needs}
-use Rattle.classtrailers.proofs.decode.block_near.Statement.{statement}
-use Rattle.classtrailers.proofs.decode.block_near.Tie as tie
+use Rattle.classtrailers.proofs.decode.block_at.Statement.{statement}
+use Rattle.classtrailers.proofs.decode.block_at.Tie as tie
 
 returns : tie.Need-returns
 returns c = kind-says _ _ (c .before .enum-told .given .1) _ _ _ _ (c .generic-at .ensures)
@@ -48,8 +48,8 @@ returns-11 : tie.Need-returns-11
 unfolding rowAt blockAt run
 returns-11 c = kind-says _ _ (c .before .enum-told11 .given .1) _ _ _ _ (c .entries-at3 .ensures)
 
-pub block-near-spec : {M : Type 1} → statement M
-block-near-spec =
+pub block-at-spec : {M : Type 1} → statement M
+block-at-spec =
     tie.close
     (tie.spec
     (λ c. search needs) (λ c κs. search needs) (λ c. search needs) (λ c κs. search needs) (λ c. search needs) (λ c κs. search needs)
