@@ -24,7 +24,7 @@ loop-holds c = start-going _ _ _ _ _ _ _ _ (empty-mapped _)
 
 returns : tie.Need-returns Inv-loop μ-loop
 returns c =
-    let a = c .before .before .before .before .before .before .before .before .before .before .before .before .before .before .before .before .before .args in
+    let a = c .before .before .before .before .before .before .before .before .before .before .before .before .before .before .before .before .args in
     let l = c .before .before .before .before .before .before .before .before .before .before .before .loop in
     let found = c .before .before .before .before .before .before .found .given in
     let long = row-long (a .image .now) (a .segments .now) (l .slot) (rowOf (a .image .now) (found .0 .0)) in
@@ -40,7 +40,7 @@ add-slot c =
 
 loop-again : tie.Need-loop-again Inv-loop μ-loop
 loop-again c =
-    let a = c .before .before .before .before .before .before .before .before .before .before .before .before .before .before .before .before .before .args in
+    let a = c .before .before .before .before .before .before .before .before .before .before .before .before .before .before .before .before .args in
     let l = c .before .before .before .before .before .before .before .before .before .before .before .loop in
     let found = c .before .before .before .before .before .before .found .given in
     let long = row-long (a .image .now) (a .segments .now) (l .slot) (rowOf (a .image .now) (found .0 .0)) in

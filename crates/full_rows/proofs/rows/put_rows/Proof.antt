@@ -23,14 +23,14 @@ loop-holds c = start-going _ _ _ _ _ _ _ _ (empty-mapped _)
 
 returns : tie.Need-returns Inv-loop μ-loop
 returns c =
-    let a = c .before .before .before .before .before .before .before .before .before .before .before .before .before .args in
+    let a = c .before .before .before .before .before .before .before .before .before .before .before .before .args in
     let l = c .before .before .before .before .before .before .before .loop in
     let long = full-row-long (a .image .now) (a .segments .now) (l .slot) (rowOf (a .image .now) (c .before .before .found .given .0 .0)) in
     records-told _ _ _ _ _ _ _ _ _ _ (full _ _ _ _ _ _ _ _ _ _ _ (l .inv) (c .before .before .before .before .before .before .loop-test .taken) _ _ (c .before .before .before .before .before .slot-row-moving .ensures) _ (c .before .before .found .given .1) (omega (arith, long, l .inv .long, c .if1 .taken)))
 
 mul-put-record : tie.Need-mul-put-record Inv-loop μ-loop
 mul-put-record c =
-    let s = c .before .before .before .before .before .before .before .before .before .before .before .before .before .before in
+    let s = c .before .before .before .before .before .before .before .before .before .before .before .before .before in
     record { fits = omega (arith, s .good .1 .1 .1 .1 .1 .0 .0, c .before .if1 .left) }
 
 put-record-requires : tie.Need-put-record-requires Inv-loop μ-loop
