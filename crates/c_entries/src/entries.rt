@@ -28,21 +28,21 @@ fn put_numbers(
     first: u64,
     second: u64,
     third: u64,
-    count: usize,
+    numbers: usize,
     out: &mut [u64],
 )
-    requires { ⌜ (count ≡ length (now out)) × ((4 ≤ count) × (count ≤ 6)) ⌝ }
-    ensures { λ _. ⌜ now (out .exit) ≡ take count (told ∷ (next ∷ (address ∷ (first ∷ (second ∷ (third ∷ [])))))) ⌝ }
+    requires { ⌜ (numbers ≡ length (now out)) × ((4 ≤ numbers) × (numbers ≤ 6)) ⌝ }
+    ensures { λ _. ⌜ now (out .exit) ≡ take numbers (told ∷ (next ∷ (address ∷ (first ∷ (second ∷ (third ∷ [])))))) ⌝ }
 {
     out[0] = told;
     out[1] = next;
     out[2] = address;
     out[3] = first;
-    if count == 4 {
+    if numbers == 4 {
         return;
     }
     out[4] = second;
-    if count == 5 {
+    if numbers == 5 {
         return;
     }
     out[5] = third;
@@ -50,9 +50,9 @@ fn put_numbers(
 
 // What a step gives, in the caller's array. It goes there number by number: copied two at a time right after they were written, they would keep the
 // processor waiting.
-fn put_step(step: EntryStep, count: usize, out: &mut [u64])
-    requires { ⌜ (count ≡ length (now out)) × ((4 ≤ count) × (count ≤ 6)) ⌝ }
-    ensures { λ _. ⌜ now (out .exit) ≡ numbersIn count step ⌝ }
+fn put_step(step: EntryStep, numbers: usize, out: &mut [u64])
+    requires { ⌜ (numbers ≡ length (now out)) × ((4 ≤ numbers) × (numbers ≤ 6)) ⌝ }
+    ensures { λ _. ⌜ now (out .exit) ≡ numbersIn numbers step ⌝ }
 {
     match step {
         EntryStep::Entry { entry, next } => {
@@ -63,15 +63,15 @@ fn put_step(step: EntryStep, count: usize, out: &mut [u64])
                 entry.first,
                 entry.second,
                 entry.third,
-                count,
+                numbers,
                 out,
             );
         }
         EntryStep::Unreadable { next } => {
-            put_numbers(UNREADABLE, next.next as u64, 0, 0, 0, 0, count, out);
+            put_numbers(UNREADABLE, next.next as u64, 0, 0, 0, 0, numbers, out);
         }
         EntryStep::End => {
-            put_numbers(0, 0, 0, 0, 0, 0, count, out);
+            put_numbers(0, 0, 0, 0, 0, 0, numbers, out);
         }
     }
 }
@@ -80,18 +80,25 @@ fn put_step(step: EntryStep, count: usize, out: &mut [u64])
 fn step_into(
     image: &[u8],
     segments: &[u64],
-    cursor: EntryIter,
+    base_va: u64,
+    count: u32,
+    next: u32,
     kind: EntryKind,
-    count: usize,
+    numbers: usize,
     out: &mut [u64],
 ) -> u64
-    requires { ⌜ (count ≡ length (now out)) × ((4 ≤ count) × (count ≤ 6)) ⌝ }
-    ensures { λ r. ⌜ Tells (mapped (numbersIn count) (guarded (now (segments .entry)) (answered (stepAnswer (entryStep (now (image .entry)) (now (segments .entry)) (kindLayout kind) cursor))))) (now (out .entry)) r (now (out .exit)) ⌝ }
+    requires { ⌜ (numbers ≡ length (now out)) × ((4 ≤ numbers) × (numbers ≤ 6)) ⌝ }
+    ensures { λ r. ⌜ Tells (mapped (numbersIn numbers) (guarded (now (segments .entry)) (answered (stepAnswer (entryStep (now (image .entry)) (now (segments .entry)) (kindLayout kind) (cursorAt «base_va» count next)))))) (now (out .entry)) r (now (out .exit)) ⌝ }
 {
     if segments.len() % 4 != 0 {
         return refusal::number(Refusal::RaggedSegments);
     }
-    put_step(cursor.next(image, segments, kind), count, out);
+    let cursor = EntryIter {
+        base_va,
+        count,
+        next,
+    };
+    put_step(cursor.next(image, segments, kind), numbers, out);
     ANSWERED
 }
 
@@ -107,8 +114,16 @@ pub extern "C" fn hodrupec_next_override(
 ) -> u64
     ensures { λ r. ⌜ Tells (mapped (entryStepNumbers 3) (guarded (now (segments .entry)) (answered (stepAnswer (entryStep (now (image .entry)) (now (segments .entry)) override (cursorAt «base_va» count next)))))) (now (out .entry)) r (now (out .exit)) ⌝ }
 {
-    let cursor = c_tables::cursor_at(base_va, count, next);
-    step_into(image, segments, cursor, EntryKind::Override, 6, out)
+    step_into(
+        image,
+        segments,
+        base_va,
+        count,
+        next,
+        EntryKind::Override,
+        6,
+        out,
+    )
 }
 
 // Method and implementation.
@@ -123,8 +138,16 @@ pub extern "C" fn hodrupec_next_default_override(
 ) -> u64
     ensures { λ r. ⌜ Tells (mapped (entryStepNumbers 2) (guarded (now (segments .entry)) (answered (stepAnswer (entryStep (now (image .entry)) (now (segments .entry)) defaultOverride (cursorAt «base_va» count next)))))) (now (out .entry)) r (now (out .exit)) ⌝ }
 {
-    let cursor = c_tables::cursor_at(base_va, count, next);
-    step_into(image, segments, cursor, EntryKind::DefaultOverride, 5, out)
+    step_into(
+        image,
+        segments,
+        base_va,
+        count,
+        next,
+        EntryKind::DefaultOverride,
+        5,
+        out,
+    )
 }
 
 // The metadata.
@@ -139,11 +162,12 @@ pub extern "C" fn hodrupec_next_prespecialization(
 ) -> u64
     ensures { λ r. ⌜ Tells (mapped (entryStepNumbers 1) (guarded (now (segments .entry)) (answered (stepAnswer (entryStep (now (image .entry)) (now (segments .entry)) prespecialization (cursorAt «base_va» count next)))))) (now (out .entry)) r (now (out .exit)) ⌝ }
 {
-    let cursor = c_tables::cursor_at(base_va, count, next);
     step_into(
         image,
         segments,
-        cursor,
+        base_va,
+        count,
+        next,
         EntryKind::Prespecialization,
         4,
         out,

@@ -11,6 +11,7 @@ ghost use Rattle.c_entries.specs.Entries.{entryStepNumbers};
 use c_rows::ANSWERED;
 use c_rows::THERE;
 use steps::NextEntry;
+use vtable::EntryIter;
 use vtable::EntryStep;
 
 // The first number of an entry that cannot be read.
@@ -44,7 +45,11 @@ pub extern "C" fn hodrupec_next_method(
 ) -> u64
     ensures { λ r. ⌜ Tells (mapped (entryStepNumbers 2) (guarded (now (segments .entry)) (answered (stepAnswer (entryStep (now (image .entry)) (now (segments .entry)) method (cursorAt «base_va» count next)))))) (now (out .entry)) r (now (out .exit)) ⌝ }
 {
-    let cursor = c_tables::cursor_at(base_va, count, next);
+    let cursor = EntryIter {
+        base_va,
+        count,
+        next,
+    };
     match steps::next_method(image, segments, cursor) {
         NextEntry::Step(step) => {
             *out = method_numbers(step);
@@ -68,6 +73,10 @@ pub extern "C" fn hodrupec_methods(
 ) -> u64
     ensures { λ r. ⌜ TellsTable (guardedTable (now (image .entry)) (now (segments .entry)) method (cursorAt «base_va» count next) (now (buffer .entry))) (now (out .entry)) (now (buffer .entry)) r (now (out .exit)) (now (buffer .exit)) ⌝ }
 {
-    let walk = c_tables::cursor_at(base_va, count, next);
+    let walk = EntryIter {
+        base_va,
+        count,
+        next,
+    };
     c_tables::tell_counts(entry_tables::methods(image, segments, walk, buffer), out)
 }

@@ -28,7 +28,7 @@ pub fn tell_counts(answer: TableAnswer, out: &mut [u64; 2]) -> u64
 }
 
 // The walk over a table of `count` entries that stands at entry `next`.
-pub fn cursor_at(base_va: u64, count: u32, next: u32) -> EntryIter
+fn cursor_at(base_va: u64, count: u32, next: u32) -> EntryIter
     ensures { λ r. ⌜ r ≡ cursorAt «base_va» count next ⌝ }
 {
     EntryIter {

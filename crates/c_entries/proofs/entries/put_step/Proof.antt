@@ -20,17 +20,17 @@ use Rattle.c_entries.proofs.entries.put_numbers.Reads as put-numbers-re
 -- src/entries.rt:53:1
 -- src/entries.rt:53:1
 returns : tie.Need-returns
-returns c = c .before .before .put-numbers .ensures ∙ ap (numbersIn (c .before .before .before .before .before .before .before .before .before .args .count)) (sym (c .before .before .before .before .before .before .step .given .1))
+returns c = c .before .before .put-numbers .ensures ∙ ap (numbersIn (c .before .before .before .before .before .before .before .before .before .args .numbers)) (sym (c .before .before .before .before .before .before .step .given .1))
 
 -- src/entries.rt:53:1
 -- src/entries.rt:53:1
 returns-2 : tie.Need-returns-2
-returns-2 c = c .before .before .put-numbers2 .ensures ∙ ap (numbersIn (c .before .before .before .before .before .before .before .before .before .args .count)) (sym (c .before .before .before .before .before .before .step2 .given .1))
+returns-2 c = c .before .before .put-numbers2 .ensures ∙ ap (numbersIn (c .before .before .before .before .before .before .before .before .before .args .numbers)) (sym (c .before .before .before .before .before .before .step2 .given .1))
 
 -- src/entries.rt:53:1
 -- src/entries.rt:53:1
 returns-3 : tie.Need-returns-3
-returns-3 c = c .before .before .put-numbers3 .ensures ∙ ap (numbersIn (c .before .before .before .before .before .before .before .args .count)) (sym (c .before .before .before .before .enum-told .given .1))
+returns-3 c = c .before .before .put-numbers3 .ensures ∙ ap (numbersIn (c .before .before .before .before .before .before .before .args .numbers)) (sym (c .before .before .before .before .enum-told .given .1))
 
 pub put-step-spec : {M : Type 1} → statement M
 put-step-spec =
