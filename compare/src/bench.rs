@@ -479,8 +479,8 @@ fn methods(input: &Input, count: usize, steps: bool) -> Times {
 /// How many entries a table of another kind has.
 const OTHERS: usize = 16;
 
-/// All entries of tables of another kind, by a call for each: `rust` gives what both sides make of a table, `step` the next entry's number and what they
-/// make of an entry.
+/// All entries of tables of another kind, by a call for each entry. `rust` returns the sum over a table, `step` the next entry's number and
+/// the sum over an entry.
 fn other_entries(
     size: usize,
     rust: impl Fn(u64) -> usize,
@@ -593,11 +593,11 @@ fn classes(count: usize, segments: usize) -> Input {
     input
 }
 
-/// Where the block of a vtable lies in a record of full rows: 1 if there is one, an offset, how many methods it has and the address of the first.
+/// Where a full row has the block of a vtable: 1 if there is one, its offset, how many methods it has, and the address of the first.
 const VTABLE: usize = 14 + 4 * 4;
 
-/// The methods of all classes of a section: rows, bodies and all blocks, and each vtable's entries; the proved side in as many calls for full rows as a
-/// buffer of `RECORDS` asks for, and a call for each class's table.
+/// The methods of all classes of a section: rows, bodies, all blocks, and the entries of each vtable. The proved side makes as many calls
+/// for full rows as a buffer of `RECORDS` needs, and a call for the table of each class.
 fn class_methods(input: &Input, count: usize) -> Times {
     let rt = runtime(input);
     let image = Image::of(input);

@@ -1,4 +1,4 @@
-//! The proved side of rows with body and all blocks, the function of crates/c_full_rows, which writes into a lent buffer of numbers.
+//! The proved side of rows with body and all blocks, the function of crates/c_full_rows, which writes into the caller's buffer of numbers.
 
 use crate::input::Input;
 use crate::proved::{Answer, UNWRITTEN, refusal};

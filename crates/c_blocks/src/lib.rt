@@ -1,6 +1,6 @@
-// The walk over the blocks that trail a descriptor for programs in C or Rust, by the rules of the crate `c_rows`, in an archive of its own: a
-// reader that one call uses is compiled into it. A kind is its number in the order in which blocks follow each other, and a block's three numbers are
-// those of a full row.
+// The walk over the blocks that trail a descriptor, for programs in C or Rust, by the rules of the crate `c_rows`, in an archive of its
+// own: a reader that only one call uses is compiled into that call. A kind is its number in the order in which blocks follow each other,
+// and a block's three numbers are those of a full row.
 ghost use mathlib.Core.Path.{_≡_};
 ghost use Rattle.refusal.specs.Refusal.{answered, mapped};
 ghost use Rattle.classtrailers.specs.Blocks.{nextBlock};

@@ -20,7 +20,7 @@ use vtable::EntryStep;
 // The first number of an entry that cannot be read.
 const UNREADABLE: u64 = 2;
 
-// The first four, five or six of these numbers, as many as the array has.
+// Writes the first four, five or six of these numbers, as many as the array has.
 fn put_numbers(
     told: u64,
     next: u64,
@@ -48,8 +48,8 @@ fn put_numbers(
     out[5] = third;
 }
 
-// What a step gives, in the caller's array. It goes there number by number: copied two at a time right after they were written, they would keep the
-// processor waiting.
+// Writes what a step returns into the caller's array, number by number: numbers that are copied two at a time right after they were written
+// one by one make the processor wait.
 fn put_step(step: EntryStep, numbers: usize, out: &mut [u64])
     requires { ⌜ (numbers ≡ length (now out)) × ((4 ≤ numbers) × (numbers ≤ 6)) ⌝ }
     ensures { λ _. ⌜ now (out .exit) ≡ numbersIn numbers step ⌝ }
@@ -76,7 +76,7 @@ fn put_step(step: EntryStep, numbers: usize, out: &mut [u64])
     }
 }
 
-// A step over a table of a kind, into an array of so many numbers.
+// A step over a table of a kind, into an array of `count` numbers.
 fn step_into(
     image: &[u8],
     segments: &[u64],

@@ -1,4 +1,5 @@
-// The block of a kind. A kind is its number in the order in which blocks follow each other, and a block's three numbers are those of a full row.
+// The block of a kind. A kind is its number in the order in which blocks follow each other, and a block's three numbers are those of a full
+// row.
 ghost use mathlib.Core.Path.{_≡_};
 ghost use Rattle.refusal.specs.Refusal.{answered, mapped};
 ghost use Rattle.refusal.specs.Guarded.{guarded};

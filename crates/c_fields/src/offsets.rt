@@ -14,7 +14,7 @@ use field_offsets::FieldOffset;
 use field_offsets::FieldOffsets;
 use steps::OffsetsAnswer;
 
-// What a call over a struct's offsets returns, and writes of its answer.
+// Writes the answer of a call over a struct's offsets, and returns the status.
 fn tell_offsets(answer: OffsetsAnswer, out: &mut [u64; 3]) -> u64
     ensures { λ r. ⌜ Tells (mapped offsetsNumbers (offsetsAnswer answer)) (now (out .entry)) r (now (out .exit)) ⌝ }
 {

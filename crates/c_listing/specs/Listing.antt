@@ -1,6 +1,5 @@
--- docs/SPECIFICATION.md, "Calls for C".
--- The rows from a slot on in a fixed layout: for each row its slot, its address, its flags and the length of its joined name, eight bytes each,
--- the lowest first, and the name. Records are given as long as they fit into the room that there is.
+-- docs/SPECIFICATION.md, "Calls for C". The rows from a slot on in a fixed layout: for each row its slot, its address, its flags and the
+-- length of its joined name, eight bytes each, the lowest first, and the name. Records are given as long as they fit into the room.
 use Prim.Native.Nat.{ℕ, _-_, _/_, _%_, _^_}
 use mathlib.Core.List.{List, [], _∷_, _++_}
 use mathlib.Core.Bool.{cond}

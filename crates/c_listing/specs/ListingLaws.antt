@@ -1,4 +1,5 @@
--- What the writing of a record and the end of the loop say of the listing; what the loop needs, and going on, is in `GivenLaws` of `typedescriptor`.
+-- What the writing of a record, and the end of the loop, say of the listing. What the loop needs, and that a call goes on where another
+-- stopped, is in `GivenLaws` of `typedescriptor`.
 use Prim.Native.Nat.{ℕ, _+_, _-_, _*_, _/_, _%_, _^_, _≤_, _<_}
 use native.Mathlib.Nat.{div-add-mod, div-div-eq-div-mul}
 use native.Mathlib.Decide.{decLt}
@@ -125,7 +126,7 @@ part-long a b = ap length (take-all (length b - a) (drop a b) (simp length-drop 
 
 -- ---- the listing
 
--- where a piece ends tells whether it was put
+-- where a piece ends says whether it was put
 module _ (b p b′ : List ℕ) (at n : ℕ) (en : n ≡ putEnd b at p) (eb : b′ ≡ putInto b at p) (there : 0 < length p) where
   pub not-put : n ≡ at → (length b < at + length p) × (b′ ≡ b)
   not-put z =

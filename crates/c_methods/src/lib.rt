@@ -1,5 +1,6 @@
-// Methods for programs in C or Rust, by the rules of the crate `c_rows`, step by step and whole tables: those from an entry on up to the first that
-// cannot be read, as many as the caller's buffer holds. With one kind of table in an archive, the compiler makes the loop for that kind.
+// Methods for programs in C or Rust, by the rules of the crate `c_rows`, one at a time and as whole tables: the methods from one on up to
+// the first that cannot be read, as many as the caller's buffer holds. With one kind of table in an archive, the compiler makes the loop
+// for that kind.
 ghost use mathlib.Core.Path.{_≡_};
 ghost use Rattle.refusal.specs.Refusal.{answered, mapped};
 ghost use Rattle.refusal.specs.Guarded.{guarded};

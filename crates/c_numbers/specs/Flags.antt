@@ -77,12 +77,13 @@ typeFlagNumbers w =
     1 ∷ initializationNumber (initializationOf (low 2 w)) ∷ flagsAt w (2 ∷ 3 ∷ [])
     ++ flagNumber (hasCanonicalMetadataPrespecializations w) ∷ flagNumber (hasSingletonMetadataPointer w) ∷ flagsAt w (4 ∷ [])
 
--- default overrides, actor, default actor at 6 to 8; the reference's kind in the three bits from 9 on; negative members, resilient superclass, overrides, vtable at 12 to 15
+-- default overrides, actor, default actor at 6 to 8; the reference's kind in the three bits from 9 on; negative members, resilient
+-- superclass, overrides, vtable at 12 to 15
 unfoldable pub classFlagNumbers : ℕ → List ℕ
 classFlagNumbers w = 1 ∷ flagsAt w (6 ∷ 7 ∷ 8 ∷ []) ++ referenceNumber (referenceOf (bits 9 3 w)) ∷ flagsAt w (12 ∷ 13 ∷ 14 ∷ 15 ∷ [])
 
--- the reference's kind in the three bits from 3 on; retroactive, synthesized at 6 and 7; eight bits of conditional requirements; resilient witnesses, generic witness table, of a
--- protocol, global actor isolation at 16 to 19; eight bits of conditional pack descriptors
+-- the reference's kind in the three bits from 3 on; retroactive, synthesized at 6 and 7; eight bits of conditional requirements; resilient
+-- witnesses, generic witness table, of a protocol, global actor isolation at 16 to 19; eight bits of conditional pack descriptors
 unfoldable pub conformanceFlagNumbers : ℕ → List ℕ
 conformanceFlagNumbers w =
     1 ∷ referenceNumber (referenceOf (bits 3 3 w)) ∷ flagsAt w (6 ∷ 7 ∷ []) ++ bits 8 8 w ∷ flagsAt w (16 ∷ 17 ∷ 18 ∷ 19 ∷ []) ++ bits 24 8 w ∷ []

@@ -38,7 +38,7 @@ fn cursor_at(base_va: u64, count: u32, next: u32) -> EntryIter
     }
 }
 
-// Four for each override: its address, the class, the method, the implementation.
+// Writes four numbers for each override: its address, the class, the method, the implementation.
 #[no_mangle]
 pub extern "C" fn hodrupec_overrides(
     image: &[u8],

@@ -1,4 +1,4 @@
--- What the readers' answers say of certainty, as the calls' tests leave the cases.
+-- What the readers' answers say about certainty, in the cases that the calls' tests leave.
 use Prim.Native.Nat.{ℕ, zero, suc, _+_, _-_, _^_, _≤_, _<_}
 use native.Mathlib.Decide.{decLe}
 use native.Mathlib.Numerals.{add-one}

@@ -42,7 +42,7 @@ named a = nameCertain (a .bytes) (a .segments) (a .sections .types) (a .sections
 abbrev joined : Arrived → Option (Guarded (List ℕ))
 joined a = joinedName (a .bytes) (a .segments) (a .sections .types) (a .sections .typesStart) 0 16
 
--- as `Clue` and as `Oak` are laid out
+-- the layouts of `Clue` and `Oak`
 abbrev asClue : List ℕ → Arrived
 asClue bytes = record { bytes = bytes; segments = Clue.clueSegments; sections = Clue.clueSections }
 
@@ -64,18 +64,18 @@ further =
 
 pub record CertaintyWorked : Type 0 where
   pub rows : Table row
-      -- the name without its NUL is not certain, though the row is there
+      -- the name without its NUL is not certain, though the row is present
       ((clue 28, false)
       ∷ (clue 29, false)
       ∷ (clue 30, false)
       ∷ (clue 31, false)
       ∷ (clue 32, false)
       ∷ (clue 33, true)
-      -- a slot without a row: its 20 bytes did not arrive; its name is ill-formed, and the NUL is there, or not yet
+      -- a slot without a row: its 20 bytes did not arrive; its name is ill-formed, and its NUL arrived, or not yet
       ∷ (clue 19, false)
       ∷ (asClue Clue.broken, true)
       ∷ (asClue (take 31 Clue.broken), false)
-      -- `Oak`'s own name stands first
+      -- `Oak`'s own name comes first
       ∷ (oak 23, false)
       ∷ (oak 24, true)
       ∷ (further, true)
@@ -96,7 +96,7 @@ pub record CertaintyWorked : Type 0 where
       ∷ (asClue outside, true)
       ∷ (further, false)
       ∷ [])
-  -- in the name, where the joined name reads `Wo.Oak`
+  -- cut in the name of the module, the joined name is `Wo.Oak`
   pub joined-110 : joined (oak 110) ≡ some (answered (letters "Wo.Oak"))
 
 pub certainty-worked : CertaintyWorked

@@ -157,7 +157,7 @@ fn invertible_at(image: &[u8], segments: &[u64], mapping: Mapping, at: u64) -> B
     unread(set, at, 4)
 }
 
-// The block of a kind at an address. The mapping is asked before the segments: one that is true of them changes no answer.
+// The block of a kind at an address. The mapping is tried before the segments; a true mapping changes no answer.
 pub fn block_at(
     image: &[u8],
     segments: &[u64],

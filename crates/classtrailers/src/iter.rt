@@ -125,7 +125,7 @@ fn pass(
     }
 }
 
-// The block of a kind, of a descriptor whose blocks start at an address: of those before it only the headers are read.
+// The block of a kind, for a descriptor whose blocks start at an address. Only the headers of the blocks before it are read.
 pub fn block_of_kind(
     image: &[u8],
     segments: &[u64],

@@ -24,8 +24,8 @@ references = numbered 0 (DirectTypeDescriptor ∷ IndirectTypeDescriptor ∷ Dir
 unfoldable pub referenceOf : ℕ → TypeReferenceKind
 referenceOf n = valueOf references (TypeReferenceKind.Other n) n
 
--- The meanings of bit 3 as darwinscope tells them apart: by the initialization, 1 being `Singleton`.
--- The header does it by whether the type is generic.
+-- The two meanings of bit 3, as darwinscope separates them: by the initialization, where 1 is `Singleton`. The header separates them by
+-- whether the type is generic.
 abbrev pub hasSingletonMetadataPointer : ℕ → Bool
 hasSingletonMetadataPointer w = bit 3 w && eqb (low 2 w) 1
 

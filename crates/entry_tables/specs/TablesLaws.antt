@@ -170,7 +170,7 @@ words-long : (ws : List Word) (a o : ℕ) (h : List ℕ) → length (wordsFrom w
 words-long [] a o h = refl
 words-long (w ∷ ws) a o h = ap suc (words-long ws a (o + 4) h)
 
--- the last word of an entry lies below 2^64, also of one that starts so much further on
+-- the last word of an entry lies below 2^64, and so does that of an entry further on
 pub below-word : (a x more last : ℕ) → a ≡ x % 2 ^ 64 → x + last + (4 + 4 * more - 4) < 2 ^ 64 → a + last + 4 * more < 2 ^ 64
 below-word a x more last e h =
     let f : a ≡ x = e ∙ mod-eq-of-lt (omega arith) in
@@ -424,7 +424,7 @@ module _ (say : Entry → List ℕ) (image segments : List ℕ) (l : Layout) (ba
       go (yes h) = enough n count k f h
       go (no h) = sym (enough count n k (λ z. omega (arith, full-all count k z .1)) (omega arith))
 
-  -- so many of each
+  -- how many numbers each entry has
   module _ (each : ℕ) (b₀ : List ℕ) (k₀ : ℕ) where
     abbrev most : ℕ
     most = length b₀ / each

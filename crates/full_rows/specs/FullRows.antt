@@ -1,4 +1,5 @@
--- The rows of a types section with body and all trailing blocks, as records of a fixed count of numbers in the caller's list: docs/SPECIFICATION.md, "Full rows".
+-- The rows of a types section with body and all trailing blocks, as records of a fixed number of numbers in the caller's list:
+-- docs/SPECIFICATION.md, "Full rows".
 use Prim.Native.Nat.{ℕ, _/_}
 use mathlib.Core.List.{List, [], _∷_, _++_, map}
 use mathlib.Core.Bool.{cond}
@@ -75,7 +76,7 @@ fullRow image segments slot r =
 abbrev pub fullRowsIn : List ℕ → List ℕ → List ℕ → ℕ → ℕ → ℕ → RowsGiven
 fullRowsIn image segments types start i n = rowsGiven (fullRow image segments) image segments types start i n
 
--- ---- the call's answer: the counts, a record having 58 numbers; the other numbers are in the caller's list
+-- ---- the call's answer: the counts, with 58 numbers to a record; the other numbers are in the caller's list
 
 abbrev pub givenOf : RowsGiven → Given
 givenOf l = record { records = length (l .written) / 58; next = l .next; all = l .all }

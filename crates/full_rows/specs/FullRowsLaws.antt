@@ -1,5 +1,6 @@
--- What the code writes of a row is the definition's record (`parts-put`), whatever true mapping it goes by (`row-mapped`); the rows given are those that
--- stepping gives (`listed-stepped`). What the loop over the rows needs, and going on, is in `GivenLaws` of `typedescriptor`.
+-- What the code writes of a row is the definition's record (`parts-put`), with any true mapping (`row-mapped`). The rows given are those
+-- that stepping gives (`listed-stepped`). What the loop over the rows needs, and that a call goes on where another stopped, is in
+-- `GivenLaws` of `typedescriptor`.
 use Prim.Native.Nat.{ℕ, suc, _+_, _-_, _*_, _/_, _≤_, max}
 use native.Mathlib.Decide.{decLt}
 use native.Mathlib.Omega.{arith}
@@ -132,7 +133,7 @@ module _ (image segments types : List ℕ) (start : ℕ) where
             rw (row-fits (fullRow image segments) past f fs n (omega arith), one-more, long) (ap (λ (l : List ℕ). fullRow image segments (f .slot) (f .row) ++ l) (rows-fit past fs (n - 58)))
       ]
 
-  -- the rows given are those that as many steps give as there is room
+  -- the rows given are those that stepping gives, in as many steps as there is room for
   pub listed-stepped : (i n : ℕ)
       → (fullRowsIn image segments types start i n .written ≡ fullRows (steppedRows image segments types start (n / 58) i))
       × (givenOf (fullRowsIn image segments types start i n) .records ≡ length (steppedRows image segments types start (n / 58) i))

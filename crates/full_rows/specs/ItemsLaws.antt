@@ -1,5 +1,5 @@
--- What full rows tell are items of the listing: the block of a kind is the slot's (`kind-listed`), and the methods of the vtable that a record tells of,
--- as a walk over it or a whole table gives them (`table-listed` of `entry_tables`), are the slot's (`row-methods`, `no-row-methods`).
+-- What full rows give are items of the listing: the block of a kind is the slot's (`kind-listed`), and the methods of a record's vtable, as
+-- a walk over it or a whole table gives them (`table-listed` of `entry_tables`), are the slot's (`row-methods`, `no-row-methods`).
 use Prim.Native.Nat.{ℕ}
 use native.Mathlib.Omega.{arith}
 use mathlib.Core.Path.{_≡_, refl, sym, ap, _∙_}

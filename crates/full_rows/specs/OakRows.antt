@@ -1,5 +1,5 @@
--- The rows of `Oak` (crate `items`) worked through: the record of its class in lists of several lengths, of a section that refers to the class twice, and of
--- an image that is cut in the vtable's header; and the methods of the vtable that the record tells of.
+-- The rows of `Oak` (crate `items`) worked through: the record of its class in lists of several lengths, of a section that refers to the
+-- class twice, and of an image that is cut in the vtable's header; and the methods of the record's vtable.
 use Prim.Native.Nat.{ℕ}
 use mathlib.Core.Path.{_≡_, refl}
 use mathlib.Core.List.{List, [], _∷_, _++_}

@@ -54,7 +54,8 @@ sections = oneSlot 4
 abbrev told : Key → Option Answer
 told = toldBy image segments sections
 
--- the row's, the body's 24 bytes, and the generic header's 16, which every other block here reads first; then those of the prespecializations'
+-- the row's, the body's 24 bytes, and the generic header's 16, which every other block here reads first; then those of the
+-- prespecializations'
 abbrev genericReads : List Range
 genericReads = rowReads ++ (bytesTo 24 48 ∷ bytesTo 48 64 ∷ [])
 
@@ -97,7 +98,8 @@ pub record AshWorked : Type 0 where
       ∷ (Key.block 0 BlockKind.DefaultOverrideTable, some (Answer.block (defaultOverridesFrom 2 0x106c)))
       ∷ (Key.entry 0 EntryKind.prespecializations 1, some (Answer.entry (record { address = 0x1058; words = 0x1110 ∷ [] })))
       ∷ (Key.entry 0 EntryKind.defaultOverrides 1, some (Answer.entry (record { address = 0x1074; words = 0x1100 ∷ 0x1110 ∷ [] })))
-      -- what it does not have: a third entry, a vtable, singleton records (bit 3 of its type flags is the prespecializations'), offsets, which are a struct's
+      -- what it does not have: a third entry, a vtable, singleton records (bit 3 of its type flags is the prespecializations'), offsets,
+      -- which are a struct's
       ∷ (Key.entry 0 EntryKind.prespecializations 2, none)
       ∷ (Key.block 0 BlockKind.VTable, none)
       ∷ (Key.initialization 0, none)

@@ -42,7 +42,7 @@ clueSections = oneSlot 0
 abbrev told : List ℕ → Option Answer
 told i = toldBy i clueSegments clueSections (Key.row 0)
 
--- what is read of it, whole
+-- what its row reads in the whole image
 abbrev rowReads : List Range
 rowReads = readBy clueImage clueSegments clueSections (Key.row 0)
 
@@ -57,7 +57,8 @@ pub record ClueWorked : Type 0 where
       ((clueImage, named (letters "Clue") 4)
       -- cut before the name starts, the row is gone
       ∷ (take 27 clueImage, none)
-      -- cut where it starts, there is a row with an empty name; then one with a piece of the name; the whole name without its NUL is a text too
+      -- cut where it starts, there is a row with an empty name; then one with a piece of the name; the whole name without its NUL is a text
+      -- too
       ∷ (take 28 clueImage, named [] 0)
       ∷ (take 30 clueImage, named (letters "Cl") 2)
       ∷ (take 32 clueImage, named (letters "Clue") 4)
@@ -69,7 +70,7 @@ pub record ClueWorked : Type 0 where
   pub clear-below : (c : ℕ) → c < 28 → All (Clear c) rowReads
   pub clear-above : (c : ℕ) → 33 ≤ c → All (Clear c) rowReads
   pub not-clear : (c : ℕ) → 28 ≤ c → c < 33 → All (Clear c) rowReads → ⊥
-  -- by the name's address as well
+  -- the same in terms of the name's address
   pub name-not-clear : (c : ℕ) → 28 ≤ c → c < 33 → ClearOf clueImage clueSegments clueSections c (NameKey.descriptor 0) → ⊥
 
 pub clue-worked : ClueWorked

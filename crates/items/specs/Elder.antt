@@ -69,7 +69,7 @@ pub record ElderWorked : Type 0 where
   pub descriptors : (i : ℕ) → ClearOf elderImage elderSegments elderSections 49 (NameKey.descriptor i)
   pub contexts : (i k : ℕ) → ClearOf elderImage elderSegments elderSections 49 (NameKey.context i k)
   pub fields : (j k : ℕ) → ClearOf elderImage elderSegments elderSections 49 (NameKey.field j k)
-  -- the body is there, and a piece of the superclass's name, which the whole image does not tell
+  -- the body is present, and so is a piece of the superclass's name, which the whole image does not have
   pub cut-body : toldBy (take 49 elderImage) elderSegments elderSections (Key.body 0) ≡ toldBy elderImage elderSegments elderSections (Key.body 0)
   pub cut-name : superclass (take 49 elderImage) ≡ named (83 ∷ []) 1
   -- the premise for the name itself leaves out the cuts from 48 to 50, and no others

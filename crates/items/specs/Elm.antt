@@ -73,7 +73,7 @@ elmImage =
 abbrev pub elmSegments : List ℕ
 elmSegments = laid 163
 
--- one slot, which leads to 0x1004; fields at 0x1048
+-- one slot, which refers to 0x1004; fields at 0x1048
 abbrev pub elmSections : Sections
 elmSections = record { types = oneSlot 4 .types; typesStart = 0x2000; fields = fieldBytes; fieldsStart = 0x1048 }
 
@@ -98,7 +98,7 @@ pub record ElmWorked : Type 0 where
       -- two blocks without a header: there is nothing to read, neither of their own nor of the one before
       ∷ (Key.block 0 BlockKind.SingletonMetadataInit, bodyReads)
       ∷ (Key.block 0 BlockKind.SingletonMetadataPointer, bodyReads)
-      -- the records that they tell of: 12 bytes, and 4
+      -- their records: 12 bytes, and 4
       ∷ (Key.initialization 0, bodyReads ++ (bytesTo 32 44 ∷ []))
       ∷ (Key.pointer 0, bodyReads ++ (bytesTo 44 48 ∷ []))
       -- the vector of metadata at 0x1030: two numbers of four bytes, two words of 8 behind it

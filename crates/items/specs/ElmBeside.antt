@@ -78,14 +78,14 @@ pub record ElmBesideWorked : Type 0 where
       ∷ (NameKey.descriptorSuperclass 0, text 160 2 (letters "Si"))
       ∷ (NameKey.superclass 0, none)
       ∷ [])
-  -- cut to 152: the module's name is whole; the names of fields and types are lost, and one of them the string section has
+  -- cut to 152: the module's name is whole; the names of fields and types are lost, but the string section has one of them
   pub cut-152 : Table (told (take 152 elmImage))
       ((NameKey.context 0 1, told elmImage (NameKey.context 0 1))
       ∷ (NameKey.field 0 0, some (record { place = inStrings (place 0 3); bytes = letters "old" }))
       ∷ (NameKey.field 0 1, none)
       ∷ (NameKey.fieldType 0 1, none)
       ∷ [])
-  -- cut to 143: the module is there without its name, though its offset arrived; cut to 115: field 1 and its name are gone
+  -- cut to 143: the module is present without its name, though its offset arrived; cut to 115: field 1 and its name are lost
   pub lost-name : told (take 143 elmImage) (NameKey.context 0 1) ≡ none
   pub lost-field : told (take 115 elmImage) (NameKey.field 0 1) ≡ none
   -- the premise over all texts

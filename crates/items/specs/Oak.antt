@@ -82,9 +82,10 @@ pub record OakWorked : Type 0 where
       ∷ (Key.entry 0 EntryKind.methods 1, some (Answer.entry (record { address = 0x1040; words = 17 ∷ 0 ∷ [] })))
       ∷ (Key.context 0 1, some (Answer.context (record { address = 0x1060; flags = 0; parent = 0 })))
       ∷ [])
-  -- the name is the only text, and stands first
+  -- the name is the only text, and comes first
   pub clear : (c : ℕ) → 4 ≤ c → All (Clear c) (readBy oakImage oakSegments oakSections (Key.row 0))
-  -- method 1 ends at 72: a cut there keeps it, and one a byte before does not; the claim says so of both; the override table's header is behind it
+  -- method 1 ends at 72: a cut there keeps it, and one a byte before does not; the claim says so of both; the override table's header lies
+  -- after it
   pub cuts : Table (cutTo oakImage oakSegments oakSections)
       (((72, Key.entry 0 EntryKind.methods 1), told (Key.entry 0 EntryKind.methods 1))
       ∷ ((71, Key.entry 0 EntryKind.methods 1), none)

@@ -1,5 +1,5 @@
--- The texts that a listing looks up, by the addresses of names: docs/SPECIFICATION.md, "Items, paths and the cut". The premise of the cut speaks of them
--- (`ClearOf`), and what the calls tell of them is `Beside`.
+-- The texts that a listing looks up, by the addresses of names: docs/SPECIFICATION.md, "Items, paths and the cut". The premise of the cut
+-- speaks of them (`ClearOf`); what the calls return for them is `Beside`.
 use Prim.Native.Nat.{ℕ, _+_, _^_}
 use mathlib.Core.List.{List}
 use mathlib.Core.Path.{_≡_}

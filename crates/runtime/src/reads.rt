@@ -20,8 +20,8 @@ pub fn vm_to_file_offset(segments: &[u64], vmaddr: u64) -> FileOffset
     segment::vm_to_file_offset_in(segments, vmaddr)
 }
 
-// Where `len` bytes at an address lie. Only the first address is translated: the rest follows in the image, which alone bounds it. This and
-// every reader above asks a mapping before the segments; a caller that has none passes `segment::NO_MAPPING`.
+// Where `len` bytes at an address lie. Only the first address is translated: the rest follows in the image, and only the image's end bounds
+// it. This reader and those above it try a mapping before the segments; a caller without one passes `segment::NO_MAPPING`.
 pub fn find_bytes(
     image: &[u8],
     segments: &[u64],
@@ -46,7 +46,7 @@ pub fn find_bytes(
     }
 }
 
-// The bytes themselves, as that part of the image: empty where there are none.
+// The bytes themselves, as that part of the image: empty if there are none.
 pub fn read_bytes<'a>(
     image: &'a [u8],
     segments: &[u64],

@@ -26,7 +26,7 @@ fn section_text(strings: &[u8], vmaddr: u64, target_va: u64) -> Text
     util::read_cstr_at(strings, off)
 }
 
-// The name at an address: by the image, else by the string section. A missing section is an empty one.
+// The name at an address: in the image, else in the string section. A missing section is an empty one.
 pub fn lookup_field_name(
     image: &[u8],
     segments: &[u64],
@@ -49,7 +49,7 @@ pub fn lookup_field_name(
     }
 }
 
-// The part of the image or of the string section that a name is: empty where there is none.
+// The part of the image or of the string section that a name is: empty if there is none.
 pub fn field_name_part<'a>(image: &'a [u8], strings: &'a [u8], name: FieldName) -> &'a [u8]
     ensures { λ r. ⌜ now r ≡ namePart (now (image .entry)) (now (strings .entry)) (fieldNameOf name) ⌝ }
 {

@@ -9,8 +9,8 @@ use Rattle.segment.specs.Segments.{Segment, segmentsOf, fileOffset}
 use Rattle.segment.specs.declared.segment.Mapping.{Mapping}
 use Rattle.segment.specs.declared.segment.Around.{Around}
 
--- the segments' numbers with a mapping as one more segment before them: what a call that takes a mapping goes by. One without addresses
--- adds nothing: with `NO_MAPPING` this computes to the segments.
+-- the segments' numbers with a mapping before them as one more segment: what a call that takes a mapping answers by. A mapping without
+-- addresses adds nothing: with `NO_MAPPING` this computes to the segments.
 abbrev pub withMapping : Mapping → List ℕ → List ℕ
 withMapping m segments = cond (eqb (m .size) 0) segments (m .vmaddr ∷ (m .size ∷ (m .fileoff ∷ (m .size ∷ segments))))
 

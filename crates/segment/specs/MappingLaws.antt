@@ -22,7 +22,7 @@ use Rattle.segment.specs.declared.segment.Lookup.the-variants.{Answer, N
 abbrev first : Mapping → Segment
 first m = record { vmaddr = m .vmaddr; vmsize = m .size; fileoff = m .fileoff; filesize = m .size }
 
--- which is asked before the segments: one without addresses says nothing
+-- it is tried before the segments; a mapping without addresses says nothing
 asked : (segments : List ℕ) (m : Mapping) (v : ℕ) → m .vmaddr < 2 ^ 64 → fileOffset (segmentsOf (withMapping m segments)) v ≡ fileOffset (first m ∷ segmentsOf segments) v
 unfolding fileOffset segmentsOf
 asked segments m v h =

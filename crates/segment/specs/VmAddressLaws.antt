@@ -12,7 +12,7 @@ use Rattle.segment.specs.VmAddress.{turned, vmAddress}
 use Rattle.segment.specs.declared.segment.FileOffset.{FileOffset}
 use Rattle.segment.specs.declared.segment.Lookup.{Lookup}
 
--- what a segment says that is turned round by hand, its `m` bytes in both
+-- what a segment that is turned round by hand says, with its `m` bytes in both
 pub by-hand : (s : Segment) (o m : ℕ) (y : Option (Option ℕ)) → m ≡ min (s .vmsize) (s .filesize)
     → y ≡ decides (record { vmaddr = s .fileoff; vmsize = m; fileoff = s .vmaddr; filesize = m }) o → y ≡ decides (turned s) o
 by-hand s o m y e d = rw e at d

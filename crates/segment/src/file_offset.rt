@@ -12,7 +12,7 @@ pub enum VmAddress {
     Nothing,
 }
 
-// What is an offset to a segment is an address to the segment turned round.
+// An offset in a segment that is turned round is an address.
 fn as_address(found: FileOffset) -> VmAddress
     ensures { λ r. ⌜ addressOf r ≡ offsetOf found ⌝ }
 {
@@ -22,7 +22,8 @@ fn as_address(found: FileOffset) -> VmAddress
     }
 }
 
-// The address of a file offset. A last piece of fewer than four numbers is not a segment. `mapped` is how many of a segment's file bytes have an address.
+// The address of a file offset. A last piece of fewer than four numbers is not a segment. `mapped` is how many of a segment's file bytes
+// have an address.
 pub fn file_offset_to_vm_in(segments: &[u64], offset: u64) -> VmAddress
     ensures { λ r. ⌜ addressOf r ≡ vmAddress (segmentsOf (now (segments .entry))) offset ⌝ }
 {

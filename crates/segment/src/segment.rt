@@ -73,7 +73,7 @@ pub struct Mapping {
     pub fileoff: u64,
 }
 
-// No address: a call that is handed it goes by the segments alone.
+// The mapping without addresses: a call that takes it answers by the segments alone.
 pub const NO_MAPPING: Mapping = Mapping {
     vmaddr: 0,
     size: 0,

@@ -81,7 +81,7 @@ numbersOfFields s from step zero = []
 numbersOfFields s from step (suc n) = elim (hexNumber (fieldOf s from)) [ none ↦ [] | some v ↦ v ∷ numbersOfFields s (from + step) step n ]
 
 -- a list's count is in the field `from`, and its numbers are in the fields after that: those that are written to a list of `room` numbers,
--- and their count, if all of them are there
+-- and their count, if all of them are present
 unfoldable pub listNumbers : List ℕ → ℕ → ℕ → List ℕ
 listNumbers s from room = elim (hexNumber (fieldOf s from)) [ none ↦ [] | some n ↦ cond (leb n room) (numbersOfFields s (from + 1) 1 n) [] ]
 

@@ -272,7 +272,7 @@ fn all_addresses(image: &[u8], segments: &[u64], strings: &[u8], section: u64, a
 
 // From a line to its answers.
 
-// How many bytes or numbers a field has; 0, and a line that stands in no expected answer, where it cannot be read.
+// How many bytes or numbers a field has; if it cannot be read, 0, and a line that no expected answer has.
 fn count(read: Count) -> usize {
     match read {
         Count::Of(n) => n,

@@ -19,7 +19,7 @@ use field::FieldRecordStep;
 use field::FieldStep;
 use runtime::FieldName;
 
-// The kind's number. The call for C has 256 before the number of a kind that has no name.
+// The kind's number. The call for C adds 256 to the number of a kind that has no name.
 fn kind_number(kind: FieldDescriptorKind) -> u64 {
     let number = c_numbers::field_kind_number(kind);
     if number < 256 { number } else { number - 256 }

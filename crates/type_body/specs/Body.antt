@@ -63,7 +63,7 @@ bodySize (ofEnum p w e) = 8
 unfoldable pub bodyBytes : ℕ → ℕ → (List ℕ → Body) → Reads Body
 bodyBytes a n k = cond (leb (2 ^ 64) (a + 20 + n)) nothing (bytes (a + 20) n (λ h. done (k h)))
 
--- these bytes, none unless all of them are there
+-- these bytes; none unless all of them are present
 unfoldable pub bodyPart : List ℕ → List ℕ → ℕ → ℕ → List ℕ
 bodyPart image segments a n = cond (leb (2 ^ 64) (a + 20 + n)) [] (bytesRead image segments (a + 20) n)
 

@@ -121,8 +121,8 @@ fn body_part<'a>(
     runtime::read_bytes(image, segments, mapping, address + 20, size)
 }
 
-// The body of the descriptor at an address, which has these flags: nothing where it is not a class, struct or enum, where its bytes are
-// not in the image, and where its end reaches 2^64. The mapping is asked before the segments: one that is true of them changes no answer.
+// The body of the descriptor with these flags at an address: nothing if it is not a class, struct or enum, if its bytes are not in the
+// image, or if its end reaches 2^64. The mapping is tried before the segments; a true mapping changes no answer.
 pub fn decode_body(
     image: &[u8],
     segments: &[u64],
@@ -163,7 +163,7 @@ pub fn decode_body(
     }
 }
 
-// The name of a class's superclass; `util::text_part` gives the part of the image. There is none beside another body.
+// The name of a class's superclass; `util::text_part` returns the part of the image. There is none for any other body.
 pub fn superclass_name(image: &[u8], segments: &[u64], body: TypeBody) -> Text
     ensures { λ r. ⌜ textOf r ≡ superclassName (now (image .entry)) (now (segments .entry)) (bodyOf body) ⌝ }
 {

@@ -20,8 +20,8 @@ pub enum SingletonMetadataPointer {
     Nothing,
 }
 
-// What the offset at `off` of the record at `address` refers to. An offset of 0 refers to address 0, wherever its slot lies; another
-// one has to lie below 2^64.
+// What the offset at `off` of the record at `address` refers to. An offset of 0 refers to address 0, wherever its slot lies; the slot of
+// any other offset must lie below 2^64.
 fn target_in(bytes: &[u8], off: usize, address: u64) -> VmAddress
     ensures { λ r. ⌜ addressOf r ≡ slotTarget address (now (bytes .entry)) off ⌝ }
 {

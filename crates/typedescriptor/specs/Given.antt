@@ -1,5 +1,5 @@
--- As many records of a section's rows as the caller's buffer has room for, and where to go on: docs/SPECIFICATION.md, "Lent buffers". The calls differ in what
--- a record has: numbers of a fixed count (crate `full_rows`), or bytes with a name (crate `c_listing`).
+-- As many records of a section's rows as the caller's buffer has room for, and where to go on: docs/SPECIFICATION.md, "The caller's
+-- buffers". The calls differ in what a record has: a fixed number of numbers (crate `full_rows`), or bytes with a name (crate `c_listing`).
 use Prim.Native.Nat.{ℕ, _-_, max}
 use mathlib.Core.List.{List, [], _∷_, _++_}
 use mathlib.Core.Bool.{Bool, true, false, cond}
@@ -24,7 +24,7 @@ stopsAt i all = record { written = []; next = i; all = all }
 abbrev pub recordThen : List ℕ → RowsGiven → RowsGiven
 recordThen t l = record { written = t ++ l .written; next = l .next; all = l .all }
 
--- the records of these rows up to the first that the room does not hold, whose slot is the one to go on from; `past` where all are given
+-- the records of these rows up to the first for which there is no room; its slot is the one to go on from, or `past` if all are given
 unfoldable pub givenIn : RowRecord → ℕ → List Found → ℕ → RowsGiven
 givenIn recordOf past [] room = stopsAt past true
 givenIn recordOf past (f ∷ fs) room =

@@ -1,5 +1,6 @@
--- What a loop over the slots needs that writes a record for each row (`Going`: `start-going`, `passes`, `goes-on`, and at its end `full` or `ended`), whatever a
--- record has; and that going on from the slot that a call tells gives what one call with more room gives (`going-on`), and then all rows (`all-given`).
+-- What a loop over the slots that writes a record for each row needs (`Going`: `start-going`, `passes`, `goes-on`, and at its end `full` or
+-- `ended`), whatever a record has; and that a call from the slot to go on from gives what one call with more room gives (`going-on`), and
+-- in the end all rows (`all-given`).
 use Prim.Native.Nat.{ℕ, zero, suc, _+_, _-_, _≤_, _<_, max}
 use native.Mathlib.Decide.{decLt}
 use native.Mathlib.Omega.{arith}
@@ -39,14 +40,14 @@ module _ (recordOf : RowRecord) (past : ℕ) (f : Found) (fs : List Found) (room
 -- ---- row after row, into the buffer `b₀`
 
 module _ (recordOf : RowRecord) (image segments types : List ℕ) (start i₀ : ℕ) (b₀ : List ℕ) where
-  -- all that the call gives, and what is left from a slot on in so much room
+  -- all that the call gives, and what the rows from a slot on give in the room that is left
   abbrev all : RowsGiven
   all = rowsGiven recordOf image segments types start i₀ (length b₀)
 
   abbrev left : ℕ → ℕ → RowsGiven
   left i n = givenIn recordOf (max (slots types) i₀) (rowsFrom image segments types start (slots types - i) i) n
 
-  -- the records of the rows before slot `i` are written and end at `at`; the mapping at hand is true
+  -- the records of the rows before slot `i` are written and end at `at`; the mapping that is kept is true
   pub record Going (i at : ℕ) (m : Mapping) (b : List ℕ) : Type 0 where
     pub mapped : TrueMapping segments m
     pub from : i₀ ≤ i
@@ -143,8 +144,8 @@ abbrev pub recordsOf : RowRecord → List Found → List ℕ
 recordsOf recordOf [] = []
 recordsOf recordOf (f ∷ fs) = recordOf (f .slot) (f .row) ++ recordsOf recordOf fs
 
--- a call that gives `l` of these rows, with the rows from each slot on: those from its slot to go on from are the others, none where it says that all are
--- given, and a call with more room gives them too
+-- a call that gives `l` of these rows, where `from` has the rows from each slot on: those from its slot to go on from are the others, none
+-- if it says that all are given, and a call with more room gives them too
 pub record Resumes (recordOf : RowRecord) (past i : ℕ) (rows : List Found) (l : RowsGiven) (from : ℕ → List Found) : Type 0 where
   pub together : recordsOf recordOf rows ≡ l .written ++ recordsOf recordOf (from (l .next))
   pub done : l .all ≡ true → from (l .next) ≡ []
@@ -207,13 +208,14 @@ module _ (recordOf : RowRecord) (image segments types : List ℕ) (start : ℕ) 
     both : Resumes recordOf (max (slots types) i) i (from i) given from
     both = resumed (max (slots types) i) (slots types - i) i n refl (omega arith) (omega arith)
 
-    -- what one call gives, and then one from where it ended, is what one gives with room for both
+    -- what one call gives, followed by what a call from where it ended gives, is what one call with room for both gives
     pub going-on : (m : ℕ)
         → rowsGiven recordOf image segments types start i (length (given .written) + m) ≡ recordThen (given .written) (rowsGiven recordOf image segments types start (given .next) m)
     going-on m =
         let past : max (slots types) i ≡ max (slots types) (given .next) = omega (arith, both .onward, both .to) in
         both .more m ∙ ap (λ (k : ℕ). recordThen (given .written) (givenIn recordOf k (from (given .next)) m)) past
 
-    -- what is written and the records of all rows from where it ended are those of all rows, and no row is left where all are given
+    -- what is written, followed by the records of all rows from where it ended, is the records of all rows; if all are given, no row is
+    -- left
     pub all-given : (recordsOf recordOf (from i) ≡ given .written ++ recordsOf recordOf (from (given .next))) × (given .all ≡ true → from (given .next) ≡ [])
     all-given = (both .together, both .done)

@@ -19,7 +19,7 @@ slots types = length types / 4
 abbrev pub slotAddress : List ℕ → ℕ → ℕ → ℕ
 slotAddress types start i = relativePointer ((start + 4 * i) % 2 ^ 64) (signedIn 4 types (4 * i))
 
--- if it refers to one: offset 0 does not
+-- that address, if the slot exists and its offset is not 0
 abbrev pub slotDescriptor : List ℕ → ℕ → ℕ → Option ℕ
 slotDescriptor types start i =
     cond (ltb i (slots types)) (cond (eqb (unsignedIn 4 types (4 * i)) 0) none (some (slotAddress types start i))) none

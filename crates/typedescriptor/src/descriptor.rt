@@ -19,7 +19,7 @@ pub enum Descriptor {
     Nothing,
 }
 
-// The row of the type descriptor at an address. The mapping is asked before the segments: one that is true of them changes no answer.
+// The row of the type descriptor at an address. The mapping is tried before the segments; a true mapping changes no answer.
 pub fn decode_type_descriptor(
     image: &[u8],
     segments: &[u64],

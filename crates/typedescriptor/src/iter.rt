@@ -27,8 +27,8 @@ pub enum TypeStep {
     End,
 }
 
-// The address of the descriptor that a slot of a types section refers to, whose first byte is at `vmaddr`: none for offset 0, nor past the
-// section.
+// The address of the descriptor that a slot refers to, in a types section whose first byte is at `vmaddr`. There is none for offset 0, nor
+// past the section's end.
 pub fn slot_descriptor(types: &[u8], vmaddr: u64, slot: usize) -> VmAddress
     ensures { λ r. ⌜ addressOf r ≡ slotDescriptor (now (types .entry)) vmaddr slot ⌝ }
 {
@@ -44,7 +44,8 @@ pub fn slot_descriptor(types: &[u8], vmaddr: u64, slot: usize) -> VmAddress
     VmAddress::At(util::pointer_in(pointer, 0, slot_va))
 }
 
-// The row of one slot. The mapping is asked before the segments.
+// The row of one slot of a types section whose first byte is at `vmaddr`. The mapping is tried before the segments; a true mapping changes
+// no answer.
 pub fn slot_row(
     image: &[u8],
     segments: &[u64],

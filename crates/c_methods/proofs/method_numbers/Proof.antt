@@ -8,20 +8,12 @@ use Rattle.c_methods.proofs.method_numbers.Tie as tie
 use Rattle.c_methods.proofs.method_numbers.Reads as reads
 use Rattle.c_methods.proofs.method_numbers.Lts as lts
 
--- src/lib.rt:24:28
--- src/lib.rt:26:13
--- src/lib.rt:31:33
--- src/lib.rt:31:56
--- src/lib.rt:32:27
--- src/lib.rt:20:1
 returns : tie.Need-returns
 returns c = ap (entryStepNumbers 2) (sym (c .before .before .step .given .1))
 
--- src/lib.rt:20:1
 returns-2 : tie.Need-returns-2
 returns-2 c = ap (entryStepNumbers 2) (sym (c .before .before .step2 .given .1))
 
--- src/lib.rt:20:1
 pub method-numbers-spec : {M : Type 1} → statement M
 method-numbers-spec =
     tie.close

@@ -1,4 +1,4 @@
--- The part of the buffer that is passed on is as long as it says.
+-- `test_refusals::try_buffer` is safe and ends: the part of the buffer that is passed on is as long as it says.
 use native.Mathlib.Omega.{arith}
 use mathlib.Core.Path.{sym}
 use lib.Seq.{length-take-le}

@@ -9,39 +9,27 @@ use Rattle.c_entries.proofs.entries.put_numbers.Tie as tie
 use Rattle.c_entries.proofs.entries.put_numbers.Reads as reads
 use Rattle.c_entries.proofs.entries.put_numbers.Lts as lts
 
--- src/entries.rt:37:5
--- src/entries.rt:38:5
 slice-write-out-2 : tie.Need-slice-write-out-2
 slice-write-out-2 c = simp length-set (omega arith)
 
--- src/entries.rt:39:5
 slice-write-out-3 : tie.Need-slice-write-out-3
 slice-write-out-3 c = simp length-set (omega arith)
 
--- src/entries.rt:40:5
 slice-write-out-4 : tie.Need-slice-write-out-4
 slice-write-out-4 c = simp length-set (omega arith)
 
--- src/entries.rt:42:9
--- src/entries.rt:42:9
 returns : tie.Need-returns
 returns c = four-set _ _ _ _ _ _ _ (c .before .args .out .now) (c .before .pre .0) (c .if1 .taken)
 
--- src/entries.rt:44:5
 slice-write-out-5 : tie.Need-slice-write-out-5
 slice-write-out-5 c = simp length-set (omega (arith, c .if1 .left))
 
--- src/entries.rt:46:9
--- src/entries.rt:46:9
 returns-2 : tie.Need-returns-2
 returns-2 c = five-set _ _ _ _ _ _ _ (c .before .before .args .out .now) (c .before .before .pre .0) (c .if2 .taken)
 
--- src/entries.rt:48:5
 slice-write-out-6 : tie.Need-slice-write-out-6
 slice-write-out-6 c = simp length-set (omega (arith, c .before .if1 .left, c .if2 .left))
 
--- src/entries.rt:24:1
--- src/entries.rt:24:1
 returns-3 : tie.Need-returns-3
 returns-3 c = six-set _ _ _ _ _ _ _ (c .before .before .args .out .now) (c .before .before .pre .0) (omega (arith, c .before .if1 .left, c .if2 .left))
 

@@ -9,26 +9,12 @@ use Rattle.c_entries.proofs.entries.put_step.Reads as reads
 use Rattle.c_entries.proofs.entries.put_step.Lts as lts
 use Rattle.c_entries.proofs.entries.put_numbers.Reads as put-numbers-reads
 
--- src/entries.rt:58:28
--- src/entries.rt:61:17
--- src/entries.rt:59:13
--- src/entries.rt:70:33
--- src/entries.rt:71:37
--- src/entries.rt:71:13
--- src/entries.rt:74:50
--- src/entries.rt:74:13
--- src/entries.rt:53:1
--- src/entries.rt:53:1
 returns : tie.Need-returns
 returns c = c .before .before .put-numbers .ensures ∙ ap (numbersIn (c .before .before .before .before .before .before .before .before .before .args .numbers)) (sym (c .before .before .before .before .before .before .step .given .1))
 
--- src/entries.rt:53:1
--- src/entries.rt:53:1
 returns-2 : tie.Need-returns-2
 returns-2 c = c .before .before .put-numbers2 .ensures ∙ ap (numbersIn (c .before .before .before .before .before .before .before .before .before .args .numbers)) (sym (c .before .before .before .before .before .before .step2 .given .1))
 
--- src/entries.rt:53:1
--- src/entries.rt:53:1
 returns-3 : tie.Need-returns-3
 returns-3 c = c .before .before .put-numbers3 .ensures ∙ ap (numbersIn (c .before .before .before .before .before .before .before .args .numbers)) (sym (c .before .before .before .before .enum-told .given .1))
 

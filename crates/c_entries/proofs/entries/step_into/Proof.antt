@@ -12,15 +12,9 @@ use Rattle.c_entries.proofs.entries.put_step.Reads as put-step-reads
 use Rattle.refusal.proofs.number.Reads as number-reads
 use Rattle.vtable.proofs.iter.EntryIter.next.Reads as next-reads
 
--- src/entries.rt:92:9
--- src/entries.rt:92:9
 returns : tie.Need-returns
 returns c = tells-ragged _ _ (numbersIn (c .before .before .before .before .before .args .numbers)) _ _ (c .before .if1 .taken) (c .number .ensures)
 
--- src/entries.rt:94:14
--- src/entries.rt:94:5
--- src/entries.rt:80:1
--- src/entries.rt:80:1
 returns-2 : tie.Need-returns-2
 returns-2 c = tells-whole _ _ (numbersIn (c .before .before .before .before .before .before .before .before .before .args .numbers)) _ _ (c .before .before .put-step .ensures ∙ ap (numbersIn (c .before .before .before .before .before .before .before .before .before .args .numbers)) (c .before .before .before .before .next .ensures)) (c .before .before .before .before .before .if1 .left)
 

@@ -9,28 +9,16 @@ use Rattle.named_records.proofs.records.put_field_name.Reads as reads
 use Rattle.named_records.proofs.records.put_field_name.Lts as lts
 use Rattle.named_records.proofs.records.put_three.Reads as put-three-reads
 
--- src/records.rt:59:28
--- src/records.rt:60:13
--- src/records.rt:62:30
--- src/records.rt:63:13
--- src/records.rt:66:32
--- src/records.rt:66:13
--- src/records.rt:54:1
--- src/records.rt:54:1
 returns : tie.Need-returns
 returns c =
     let a = c .before .before .before .before .before .before .before .before .args in
     pasted-as (a .buffer .now) _ _ _ (a .at) (c .before .before .put-three .ensures) (name-known _ _ (c .before .before .before .before .before .name .given .1))
 
--- src/records.rt:54:1
--- src/records.rt:54:1
 returns-2 : tie.Need-returns-2
 returns-2 c =
     let a = c .before .before .before .before .before .before .before .before .args in
     pasted-as (a .buffer .now) _ _ _ (a .at) (c .before .before .put-three2 .ensures) (name-known _ _ (c .before .before .before .before .before .name2 .given .1))
 
--- src/records.rt:54:1
--- src/records.rt:54:1
 returns-3 : tie.Need-returns-3
 returns-3 c =
     let a = c .before .before .before .before .before .before .before .args in

@@ -12,15 +12,6 @@ use Rattle.named_records.proofs.records.put_words.Reads as put-words-re
 use Rattle.runtime.proofs.read_cstr.Reads as read-cstr-reads
 use Rattle.runtime.proofs.lookup_field_name.Reads as lookup-field-name-reads
 
--- src/records.rt:98:5
--- src/records.rt:99:9
--- src/records.rt:100:33
--- src/records.rt:100:5
--- src/records.rt:101:9
--- src/records.rt:104:34
--- src/records.rt:104:5
--- src/records.rt:83:1
--- src/records.rt:83:1
 returns : tie.Need-returns
 returns c =
     let s = c .before .before .before .before .before .before .before .before .before .before .before .before .before .before .before .before .before .before in

@@ -9,19 +9,11 @@ use Rattle.named_records.proofs.records.put_text.Reads as reads
 use Rattle.named_records.proofs.records.put_text.Lts as lts
 use Rattle.named_records.proofs.records.put_three.Reads as put-three-reads
 
--- src/records.rt:45:20
--- src/records.rt:46:13
--- src/records.rt:49:32
--- src/records.rt:49:13
--- src/records.rt:40:1
--- src/records.rt:40:1
 returns : tie.Need-returns
 returns c =
     let a = c .before .before .before .before .before .before .before .before .args in
     pasted-as (a .buffer .now) _ _ _ (a .at) (c .before .before .put-three .ensures) (text-known _ _ (c .before .before .before .before .before .text .given .1))
 
--- src/records.rt:40:1
--- src/records.rt:40:1
 returns-2 : tie.Need-returns-2
 returns-2 c =
     let a = c .before .before .before .before .before .before .before .args in

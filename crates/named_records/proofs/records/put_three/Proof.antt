@@ -9,22 +9,12 @@ use Rattle.named_records.proofs.records.put_three.Tie as tie
 use Rattle.named_records.proofs.records.put_three.Reads as reads
 use Rattle.named_records.proofs.records.put_three.Lts as lts
 
--- src/records.rt:35:5
--- src/records.rt:35:5
--- src/records.rt:36:12
--- src/records.rt:36:5
--- src/records.rt:36:5
 slice-write-buffer-2 : tie.Need-slice-write-buffer-2
 slice-write-buffer-2 c = simp length-set (omega arith)
 
--- src/records.rt:37:12
--- src/records.rt:37:5
--- src/records.rt:37:5
 slice-write-buffer-3 : tie.Need-slice-write-buffer-3
 slice-write-buffer-3 c = simp length-set (omega arith)
 
--- src/records.rt:31:1
--- src/records.rt:31:1
 returns : tie.Need-returns
 returns c = three-put _ _ _ _ _ (c .pre)
 
