@@ -490,7 +490,11 @@ fn other_entries(
     let items = starts.clone().count() * OTHERS;
     both(
         items,
-        || starts.clone().fold(0usize, |s, va| s.wrapping_add(rust(va))),
+        || {
+            starts
+                .clone()
+                .fold(0usize, |s, va| s.wrapping_add(rust(va)))
+        },
         || {
             starts.clone().fold(0usize, |mut s, va| {
                 let mut next = 0;
@@ -513,9 +517,9 @@ fn other_tables(segments: usize) {
     let image = Image::of(&input);
     let n = OTHERS as u32;
     let added = |all: &mut dyn Iterator<Item = usize>| all.fold(0usize, usize::wrapping_add);
-    let case = |kind: &str, times| line(&format!("{kind:15} | {n:5} | {segments:8}"), times);
+    let case = |kind: &str, times| line(&format!("{kind:17} | {n:5} | {segments:8}"), times);
     case(
-        "overrides",
+        "override",
         other_entries(
             12,
             |va| {
@@ -530,7 +534,7 @@ fn other_tables(segments: usize) {
         ),
     );
     case(
-        "default overr.",
+        "default override",
         other_entries(
             8,
             |va| {
@@ -545,7 +549,7 @@ fn other_tables(segments: usize) {
         ),
     );
     case(
-        "prespecial.",
+        "prespecialization",
         other_entries(
             4,
             |va| {
@@ -747,7 +751,7 @@ fn rows_and_names() {
         "{ROWS} rows; both sides in one run on the same warm inputs, the buffer for names warm too and not cleared; of {ROUNDS} rounds the shortest, and the middle ratio."
     );
     println!(
-        "The Rust makes a String for each joined name; the proved side writes into one lent buffer."
+        "The Rust makes a String for each joined name; the proved side writes into one buffer."
     );
     println!(
         "Every name, the type's and each context's, has the bytes given; depth counts contexts. Nanoseconds per row."
@@ -876,7 +880,7 @@ fn full() {
     }
     println!();
     println!(
-        "Entries of tables, nanoseconds per entry: `list` one call for each table into a lent buffer, `steps` one for each entry."
+        "Entries of tables, nanoseconds per entry: `table` one call for each table, `steps` one for each entry."
     );
     println!(
         "Records with type name and name, of 8 bytes each, which both sides look up for each record."
@@ -887,7 +891,7 @@ fn full() {
             let case = format!("{count:5} | {segments:8}");
             let input = method_tables(count, segments);
             line(
-                &format!("methods, list   | {case}"),
+                &format!("methods, table  | {case}"),
                 methods(&input, count, false),
             );
             line(
@@ -896,7 +900,7 @@ fn full() {
             );
             let input = record_tables(count, segments);
             line(
-                &format!("records, list   | {case}"),
+                &format!("records, table  | {case}"),
                 records::<false>(&input, count),
             );
             line(
@@ -907,7 +911,7 @@ fn full() {
     }
     println!();
     println!("Entries of the other kinds of tables, nanoseconds per entry, by a call for each.");
-    println!("entries         | count | segments |      Rust |    proved | ratio");
+    println!("steps             | count | segments |      Rust |    proved | ratio");
     for segments in [2, 40] {
         other_tables(segments);
     }
