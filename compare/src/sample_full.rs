@@ -12,7 +12,7 @@ use std::fmt::Write;
 
 const HEAD: &str = "\
 # The Rust's answers, made by `compare sample-full` (compare/build, compare/src/sample_full.rs): replayed without the Rust by
-# crates/test_replay_full, whose head says how to read the lines. `#` tells what an input is for.
+# crates/test_replay_full, whose head says how to read the lines. `#` says what an input is for.
 ";
 
 /// How many entries of a table, records of a descriptor and offsets of a struct are written out.
