@@ -6,11 +6,11 @@ use native.Mathlib.Decide.{decLt}
 use native.Mathlib.Omega.{arith}
 use native.Mathlib.Nat.{mul-suc}
 use mathlib.Core.Path.{_≡_, refl, sym, _∙_, ap}
-use mathlib.Core.List.{List, [], _∷_, _++_, map, append-assoc}
+use mathlib.Core.List.{List, [], _∷_, _++_, map, append-assoc, append-nil}
 use mathlib.Core.Bool.{Bool}
 use mathlib.Core.Option.{Option, some, none}
-use lib.ListN.{length, take, length-append}
-use lib.Seq.{take-nil}
+use lib.ListN.{length, take, drop, length-append}
+use lib.Seq.{take-nil, drop-length}
 use Rattle.util.specs.Buffer.{pasted, atStart}
 use Rattle.steps.specs.Blocks.{kindFrom}
 use Rattle.segment.specs.Mapping.{withMapping, TrueMapping}
@@ -41,6 +41,12 @@ body-long (some (ofClass s (fixed n p) m f v)) = refl
 body-long (some (ofClass s (resilient b e) m f v)) = refl
 body-long (some (ofStruct f v)) = refl
 body-long (some (ofEnum p w e)) = refl
+
+-- a body's numbers in an array of their own
+pub body-alone : (b b′ : List ℕ) (x : Option Body) → length b ≡ 8 → b′ ≡ pasted b 0 (bodyNumbers x) → b′ ≡ bodyNumbers x
+body-alone b b′ x h e =
+    let all : 0 + length (bodyNumbers x) ≡ length b = omega (arith, body-long x, h) in
+    e ∙ ap (λ (n : ℕ). bodyNumbers x ++ drop n b) all ∙ ap (λ (q : List ℕ). bodyNumbers x ++ q) (drop-length b) ∙ append-nil (bodyNumbers x)
 
 module _ (image segments : List ℕ) where
   kinds-long : (s : Option Start) (ks : List BlockKind) → length (kindFours image segments s ks) ≡ 4 * length ks

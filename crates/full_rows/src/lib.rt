@@ -8,3 +8,4 @@ pub use calls::full_rows;
 pub use rows::Given;
 pub use rows::Recorded;
 pub use rows::numbers_of;
+pub use rows::write_body;

@@ -174,6 +174,13 @@ fn put_body(body: TypeBody, buffer: &mut [u64], at: usize)
     }
 }
 
+// The numbers of a body by themselves.
+pub fn write_body(body: TypeBody, out: &mut [u64; 8])
+    ensures { λ _. ⌜ now (out .exit) ≡ bodyNumbers (bodyOf body) ⌝ }
+{
+    put_body(body, out, 0);
+}
+
 // How many kinds of blocks there are.
 const KINDS: u32 = 11;
 

@@ -9,7 +9,7 @@ use Rattle.c_bodies.proofs.bodies.hodrupec_body.Statement.{statement}
 use Rattle.c_bodies.proofs.bodies.hodrupec_body.Tie as tie
 
 returns : tie.Need-returns
-returns c = tells-as bodyNumbers _ _ _ _ (told bodyAnswer (c .before .before .before .before .row-body .ensures) (c .before .before .body .given .1)) (c .body-numbers .ensures)
+returns c = tells-as bodyNumbers _ _ _ _ (told bodyAnswer (c .before .before .before .before .before .row-body .ensures) (c .before .before .before .body .given .1)) (c .write-body .ensures)
 
 returns-2 : tie.Need-returns-2
 returns-2 c = refuses bodyNumbers _ _ _ _ (told bodyAnswer (c .before .before .before .before .row-body .ensures) (c .before .before .refusal .given .1)) (c .number .ensures)
