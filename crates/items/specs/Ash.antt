@@ -25,7 +25,7 @@ use Rattle.field_offsets.specs.Offsets.{vector, fieldOffsets, slotOffsets}
 use Rattle.vtable.specs.Entries.{entryAt, upTo, entry}
 use Rattle.items.specs.Keys.{Sections, EntryKind, Key, Answer}
 use Rattle.items.specs.Items.{mapReads, entryOfSlot, item}
-use Rattle.items.specs.Worked.{Table, word, laid, oneSlot, bytesTo, rowReads, readBy, toldBy, cutTo}
+use Rattle.items.specs.Worked.{Table, smallU32, laid, oneSlot, bytesTo, rowReads, readBy, toldBy, cutTo}
 
 -- 124 bytes, each line from the offset that it names
 abbrev image : List ℕ
@@ -33,17 +33,17 @@ image =
     -- 0: `Ash` and a NUL
     letters "Ash" ++ 0 ∷
     -- 4: the descriptor: a class, generic (0x80), with an invertible set (0x20); type flags: prespecializations (8), default overrides (0x40); no parent; the name's offset -12 at 12
-    0xb0 ∷ 0 ∷ 0x48 ∷ 0 ∷ word 0 ++ 0xf4 ∷ 0xff ∷ 0xff ∷ 0xff ∷ word 0 ++ word 0
+    0xb0 ∷ 0 ∷ 0x48 ∷ 0 ∷ smallU32 0 ++ 0xf4 ∷ 0xff ∷ 0xff ∷ 0xff ∷ smallU32 0 ++ smallU32 0
     -- 24: the body
-    ++ word 0 ++ word 2 ++ word 13 ++ word 3 ++ word 0 ++ word 10
+    ++ smallU32 0 ++ smallU32 2 ++ smallU32 13 ++ smallU32 3 ++ smallU32 0 ++ smallU32 10
     -- 48: the generic header: one parameter at 56, one requirement at 58; 64 the parameter, padded to four bytes, and 68 the requirement's 12
-    ++ word 0 ++ word 0 ++ 1 ∷ 0 ∷ 1 ∷ 0 ∷ 1 ∷ 0 ∷ 0 ∷ 0 ∷ word 0x80 ++ word 0 ++ word 0 ++ word 0
+    ++ smallU32 0 ++ smallU32 0 ++ 1 ∷ 0 ∷ 1 ∷ 0 ∷ 1 ∷ 0 ∷ 0 ∷ 0 ∷ smallU32 0x80 ++ smallU32 0 ++ smallU32 0 ++ smallU32 0
     -- 80: two prespecializations, 84 to 84 + 172 and 88 to 88 + 184; each counts eight bytes, so the block ends at 100
-    ++ word 2 ++ word 172 ++ word 184 ++ word 0 ++ word 0
+    ++ smallU32 2 ++ smallU32 172 ++ smallU32 184 ++ smallU32 0 ++ smallU32 0
     -- 100: the invertible set, bits 0 and 2; two bytes are read, and the next block starts four bytes on
     ++ 5 ∷ 0 ∷ 0xff ∷ 0xff ∷
     -- 104: two default overrides: 108, and 116 to 116 + 140 and 120 + 152
-    word 2 ++ word 0 ++ word 0 ++ word 140 ++ word 152
+    smallU32 2 ++ smallU32 0 ++ smallU32 0 ++ smallU32 140 ++ smallU32 152
 
 abbrev segments : List ℕ
 segments = laid 124

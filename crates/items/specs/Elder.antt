@@ -34,7 +34,7 @@ use Rattle.items.specs.ClearLaws.{nowhere, there, asked}
 use Rattle.items.specs.PremiseLaws.{no-slot-name}
 use Rattle.items.specs.TextsLaws.{no-item}
 use Rattle.items.specs.ListedLaws.{no-slot, no-row, no-record}
-use Rattle.items.specs.Worked.{word, laid, oneSlot, toldBy}
+use Rattle.items.specs.Worked.{smallU32, laid, oneSlot, toldBy}
 
 -- each line from the offset that it names
 abbrev pub elderImage : List ℕ
@@ -42,9 +42,9 @@ elderImage =
     -- 0: `A` and a NUL, and two bytes that nothing reads
     65 ∷ 0 ∷ 0 ∷ 0
     -- 4: the descriptor: a class; no parent; the name's offset -12 at 12
-    ∷ (word 16 ++ (word 0 ++ (0xf4 ∷ 0xff ∷ 0xff ∷ 0xff ∷ (word 0 ++ (word 0
+    ∷ (smallU32 16 ++ (smallU32 0 ++ (0xf4 ∷ 0xff ∷ 0xff ∷ 0xff ∷ (smallU32 0 ++ (smallU32 0
     -- 24: the body: the offset 24 of the superclass's name
-    ++ (word 24 ++ (word 0 ++ (word 0 ++ (word 0 ++ (word 0 ++ (word 0
+    ++ (smallU32 24 ++ (smallU32 0 ++ (smallU32 0 ++ (smallU32 0 ++ (smallU32 0 ++ (smallU32 0
     -- 48: `Su` and a NUL
     ++ (letters "Su" ++ 0 ∷ []))))))))))))
 

@@ -33,17 +33,17 @@ use Rattle.parent.specs.Context.{headerIn, header}
 use Rattle.parent.specs.Chain.{headerAt}
 use Rattle.items.specs.Keys.{Sections, Key, Answer}
 use Rattle.items.specs.Items.{mapReads, contextOfSlot, item}
-use Rattle.items.specs.Worked.{Table, word, laid, oneSlot, bytesTo, rowReads, readBy, toldBy, cutTo}
+use Rattle.items.specs.Worked.{Table, smallU32, laid, oneSlot, bytesTo, rowReads, readBy, toldBy, cutTo}
 
 -- the fields section is a part of the image: 48 bytes from 72 on
 abbrev fieldBytes : List ℕ
 fieldBytes =
     -- 72: no type's name, no superclass's; 80: kind 0, records of 16 bytes; 84: two of them
-    word 0 ++ word 0 ++ 0 ∷ 0 ∷ 16 ∷ 0 ∷ word 2
+    smallU32 0 ++ smallU32 0 ++ 0 ∷ 0 ∷ 16 ∷ 0 ∷ smallU32 2
     -- 88: record 0: flags, the type name's offset to 160 at 92, the name's to 153 at 96; four bytes that no record has
-    ++ word 0 ++ word 68 ++ word 57 ++ word 0
+    ++ smallU32 0 ++ smallU32 68 ++ smallU32 57 ++ smallU32 0
     -- 104: record 1: a `var`, the type name's offset to 160 at 108, the name's to 157 at 112
-    ++ word 2 ++ word 52 ++ word 45 ++ word 0
+    ++ smallU32 2 ++ smallU32 52 ++ smallU32 45 ++ smallU32 0
 
 -- 163 bytes, each line from the offset that it names
 abbrev pub elmImage : List ℕ
@@ -51,22 +51,22 @@ elmImage =
     -- 0: `Elm` and a NUL
     letters "Elm" ++ 0 ∷
     -- 4: the descriptor: a struct with a singleton initialization (type flags 1) and a singleton pointer (8); the parent's offset to 120 at 8, the name's -12 at 12
-    17 ∷ 0 ∷ 9 ∷ 0 ∷ word 112 ++ 0xf4 ∷ 0xff ∷ 0xff ∷ 0xff ∷ word 0 ++ word 52
-    -- 24: the body: two fields, whose offsets start at word 2 of the metadata
-    ++ word 2 ++ word 2
+    17 ∷ 0 ∷ 9 ∷ 0 ∷ smallU32 112 ++ 0xf4 ∷ 0xff ∷ 0xff ∷ 0xff ∷ smallU32 0 ++ smallU32 52
+    -- 24: the body: two fields, whose offsets start at smallU32 2 of the metadata
+    ++ smallU32 2 ++ smallU32 2
     -- 32: the singleton initialization: no cache, metadata at 36 + 12, a function at 40 + 216
-    ++ word 0 ++ word 12 ++ word 216
+    ++ smallU32 0 ++ smallU32 12 ++ smallU32 216
     -- 44: the singleton pointer, to 44 + 4
-    ++ word 4
+    ++ smallU32 4
     -- 48: the metadata: two words of 8 bytes, and 64 its vector: 0 and 8
-    ++ 0 ∷ 2 ∷ 0 ∷ 0 ∷ word 0 ++ 4 ∷ 0x10 ∷ 0 ∷ 0 ∷ word 0 ++ word 0 ++ word 8
+    ++ 0 ∷ 2 ∷ 0 ∷ 0 ∷ smallU32 0 ++ 4 ∷ 0x10 ∷ 0 ∷ 0 ∷ smallU32 0 ++ smallU32 0 ++ smallU32 8
     -- 72: the fields section
     ++ fieldBytes
     -- 120: an anonymous context, the parent's offset to 132 at 124; the word after its 8 bytes, which is not the offset of a name, leads to
     -- 149
-    ++ word 2 ++ word 8 ++ word 21
+    ++ smallU32 2 ++ smallU32 8 ++ smallU32 21
     -- 132: a module; no parent; the name's offset to 144 at 140
-    ++ word 0 ++ word 0 ++ word 4
+    ++ smallU32 0 ++ smallU32 0 ++ smallU32 4
     -- 144: `Park`; 149: `ivy`, which no name leads to; 153: `age`; 157: `id`; 160: `Si`, the name of a type; each with a NUL
     ++ letters "Park" ++ 0 ∷ letters "ivy" ++ 0 ∷ letters "age" ++ 0 ∷ letters "id" ++ 0 ∷ letters "Si" ++ 0 ∷ []
 

@@ -27,7 +27,7 @@ use Rattle.parent.specs.Chain.{headerAt}
 use Rattle.items.specs.Keys.{Sections, EntryKind, Key, Answer}
 use Rattle.items.specs.Items.{mapReads, entryOfSlot, contextOfSlot, item}
 use Rattle.items.specs.CutLaws.{Claim}
-use Rattle.items.specs.Worked.{Table, word, laid, oneSlot, bytesTo, rowReads, readBy, toldBy, cutTo}
+use Rattle.items.specs.Worked.{Table, smallU32, laid, oneSlot, bytesTo, rowReads, readBy, toldBy, cutTo}
 
 -- 113 bytes, each line from the offset that it names
 abbrev pub oakImage : List ℕ
@@ -35,17 +35,17 @@ oakImage =
     -- 0: `Oak` and a NUL
     letters "Oak" ++ 0 ∷
     -- 4: the descriptor: a class with a vtable and an override table; the parent's offset 80 at 8, the name's -12 at 12
-    16 ∷ 0 ∷ 0 ∷ 0xc0 ∷ (word 80 ++ (0xf4 ∷ 0xff ∷ 0xff ∷ 0xff ∷ (word 0 ++ (word 0
+    16 ∷ 0 ∷ 0 ∷ 0xc0 ∷ (smallU32 80 ++ (0xf4 ∷ 0xff ∷ 0xff ∷ 0xff ∷ (smallU32 0 ++ (smallU32 0
     -- 24: the body
-    ++ (word 0 ++ (word 0 ++ (word 0 ++ (word 0 ++ (word 0 ++ (word 0
+    ++ (smallU32 0 ++ (smallU32 0 ++ (smallU32 0 ++ (smallU32 0 ++ (smallU32 0 ++ (smallU32 0
     -- 48: the vtable's header: two methods, 56 and 64
-    ++ (word 0 ++ (word 2 ++ (word 16 ++ (word 0 ++ (word 17 ++ (word 0
+    ++ (smallU32 0 ++ (smallU32 2 ++ (smallU32 16 ++ (smallU32 0 ++ (smallU32 17 ++ (smallU32 0
     -- 72: the override table's header, and 76 its one entry
-    ++ (word 1 ++ (word 0 ++ (word 0 ++ (word 0
+    ++ (smallU32 1 ++ (smallU32 0 ++ (smallU32 0 ++ (smallU32 0
     -- 88: an anonymous context; the parent's offset 4 at 92
-    ++ (word 2 ++ (word 4
+    ++ (smallU32 2 ++ (smallU32 4
     -- 96: a module; no parent; the name's offset 4 at 104
-    ++ (word 0 ++ (word 0 ++ (word 4
+    ++ (smallU32 0 ++ (smallU32 0 ++ (smallU32 4
     -- 108: `Wood` and a NUL
     ++ (letters "Wood" ++ 0 ∷ []))))))))))))))))))))))))))
 

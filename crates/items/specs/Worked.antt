@@ -14,8 +14,8 @@ abbrev pub Table : {A B : Type 0} → (A → B) → List (A × B) → Type 0
 Table f rows = map (λ r. f (r .0)) rows ≡ map (λ r. r .1) rows
 
 -- a u32 of one byte
-abbrev pub word : ℕ → List ℕ
-word n = n ∷ 0 ∷ 0 ∷ 0 ∷ []
+abbrev pub smallU32 : ℕ → List ℕ
+smallU32 n = n ∷ 0 ∷ 0 ∷ 0 ∷ []
 
 -- a file of n bytes, laid at 0x1000
 abbrev pub laid : ℕ → List ℕ
