@@ -1,5 +1,5 @@
-//! The proved side of the full level, functions of crates/c_bodies, c_blocks, c_entries and c_methods: bodies, trailing
-//! blocks, entries, singleton records. Each call returns its array of numbers.
+//! The proved side of the full level, functions of crates/c_bodies, c_blocks, c_block_of_kind and the four crates of tables:
+//! bodies, trailing blocks, entries, singleton records. Each call returns its array of numbers.
 
 use crate::input::Input;
 use crate::proved::{Answer, UNWRITTEN, refusal};
@@ -71,14 +71,26 @@ calls! {
 }
 
 calls! {
-    "c_entries":
+    "c_block_of_kind":
     block_of_kind = hodrupec_block_of_kind(address: u64, flags: u32, kind: u32) -> 5;
-    next_override = hodrupec_next_override(base_va: u64, count: u32, next: u32) -> 6;
-    next_default_override = hodrupec_next_default_override(base_va: u64, count: u32, next: u32) -> 5;
-    next_prespecialization = hodrupec_next_prespecialization(base_va: u64, count: u32, next: u32) -> 4;
 }
 
 calls! {
     "c_methods":
     next_method = hodrupec_next_method(base_va: u64, count: u32, next: u32) -> 5;
+}
+
+calls! {
+    "c_overrides":
+    next_override = hodrupec_next_override(base_va: u64, count: u32, next: u32) -> 6;
+}
+
+calls! {
+    "c_default_overrides":
+    next_default_override = hodrupec_next_default_override(base_va: u64, count: u32, next: u32) -> 5;
+}
+
+calls! {
+    "c_prespecializations":
+    next_prespecialization = hodrupec_next_prespecialization(base_va: u64, count: u32, next: u32) -> 4;
 }

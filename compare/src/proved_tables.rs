@@ -1,12 +1,11 @@
-//! The proved side of whole tables, functions of crates/c_methods, c_fields and c_tables: entries and field records into
-//! the caller's buffer of numbers.
+//! The proved side of whole tables: entries and field records into the caller's buffer of numbers. The archives are those of
+//! the single steps, which proved_full.rs and proved_archive.rs link.
 
 use crate::proved::{Answer, UNWRITTEN, refusal};
 use crate::proved_full::Image;
 
 macro_rules! tables {
     ($($name:ident = $export:ident($($arg:ident: $type:ty),*);)*) => {
-        #[link(name = "c_tables", kind = "static")]
         unsafe extern "C" {
             $(fn $export(
                 image: *const u8,

@@ -1,20 +1,75 @@
-// Whole tables for programs in C or Rust, by the rules of the crate `c_rows`: the entries from one on up to the first that cannot be read,
-// as many as the caller's buffer holds. The call for methods is in `c_methods` and that for field records in `c_fields`: with one kind of
-// table in an archive, the compiler makes the loop for that kind. `out` says how many entries were written, and why no more: 0 the table's
-// end, 1 the buffer is full, 2 an entry that cannot be read.
+// What the calls for C over tables share. Each kind of table has an archive of its own, by the rules of the crate `c_rows`: with one kind
+// in an archive, the compiler makes the step and the loop for that kind.
 ghost use mathlib.Core.Path.{_≡_};
 ghost use Rattle.refusal.specs.Refusal.{mapped};
-ghost use Rattle.vtable.specs.Entries.{override, defaultOverride, prespecialization};
-ghost use Rattle.entry_tables.specs.Tables.{tableAnswer, guardedTable};
+ghost use Rattle.entry_tables.specs.Tables.{tableAnswer};
 ghost use Rattle.c_rows.specs.Numbers.{Tells};
-ghost use Rattle.c_tables.specs.Tables.{cursorAt, countNumbers, TellsTable};
+ghost use Rattle.c_tables.specs.Tables.{cursorAt, stepNumbers, listOf, countNumbers};
+use c_rows::ANSWERED;
+use c_rows::THERE;
 use entry_tables::TableAnswer;
 use vtable::EntryIter;
+use vtable::EntryStep;
 
-// The status of a call that answers.
-const ANSWERED: u64 = 0;
+// The first number of an entry that cannot be read.
+const UNREADABLE: u64 = 2;
 
-// Writes the counts of a table's answer, and returns the status.
+// The numbers of a step. A call writes as many of them as its kind has.
+pub struct StepNumbers {
+    pub told: u64,
+    pub next: u64,
+    pub address: u64,
+    pub first: u64,
+    pub second: u64,
+    pub third: u64,
+}
+
+// The walk over a table of `count` entries that stands at entry `next`.
+pub fn cursor_at(base_va: u64, count: u32, next: u32) -> EntryIter
+    ensures { λ r. ⌜ r ≡ cursorAt «base_va» count next ⌝ }
+{
+    EntryIter {
+        base_va,
+        count,
+        next,
+    }
+}
+
+// 1, the next entry's number, the entry's address and what its words say; 2, the next entry's number and zeros for an entry that cannot be
+// read; zeros at the end.
+pub fn step_numbers(step: EntryStep) -> StepNumbers
+    ensures { λ r. ⌜ listOf r ≡ stepNumbers step ⌝ }
+{
+    match step {
+        EntryStep::Entry { entry, next } => StepNumbers {
+            told: THERE,
+            next: next.next as u64,
+            address: entry.address,
+            first: entry.first,
+            second: entry.second,
+            third: entry.third,
+        },
+        EntryStep::Unreadable { next } => StepNumbers {
+            told: UNREADABLE,
+            next: next.next as u64,
+            address: 0,
+            first: 0,
+            second: 0,
+            third: 0,
+        },
+        EntryStep::End => StepNumbers {
+            told: 0,
+            next: 0,
+            address: 0,
+            first: 0,
+            second: 0,
+            third: 0,
+        },
+    }
+}
+
+// Writes the counts of a whole table's answer, and returns the status: how many entries were written, and why no more, 0 the table's end,
+// 1 the buffer is full, 2 an entry that cannot be read.
 pub fn tell_counts(answer: TableAnswer, out: &mut [u64; 2]) -> u64
     ensures { λ r. ⌜ Tells (mapped countNumbers (tableAnswer answer)) (now (out .entry)) r (now (out .exit)) ⌝ }
 {
@@ -25,72 +80,4 @@ pub fn tell_counts(answer: TableAnswer, out: &mut [u64; 2]) -> u64
         }
         TableAnswer::Refused(refusal) => refusal::number(refusal),
     }
-}
-
-// The walk over a table of `count` entries that stands at entry `next`.
-fn cursor_at(base_va: u64, count: u32, next: u32) -> EntryIter
-    ensures { λ r. ⌜ r ≡ cursorAt «base_va» count next ⌝ }
-{
-    EntryIter {
-        base_va,
-        count,
-        next,
-    }
-}
-
-// Writes four numbers for each override: its address, the class, the method, the implementation.
-#[no_mangle]
-pub extern "C" fn hodrupec_overrides(
-    image: &[u8],
-    segments: &[u64],
-    base_va: u64,
-    count: u32,
-    next: u32,
-    buffer: &mut [u64],
-    out: &mut [u64; 2],
-) -> u64
-    ensures { λ r. ⌜ TellsTable (guardedTable (now (image .entry)) (now (segments .entry)) override (cursorAt «base_va» count next) (now (buffer .entry))) (now (out .entry)) (now (buffer .entry)) r (now (out .exit)) (now (buffer .exit)) ⌝ }
-{
-    let walk = cursor_at(base_va, count, next);
-    tell_counts(entry_tables::overrides(image, segments, walk, buffer), out)
-}
-
-// Writes three numbers for each default override: its address, the method, the implementation.
-#[no_mangle]
-pub extern "C" fn hodrupec_default_overrides(
-    image: &[u8],
-    segments: &[u64],
-    base_va: u64,
-    count: u32,
-    next: u32,
-    buffer: &mut [u64],
-    out: &mut [u64; 2],
-) -> u64
-    ensures { λ r. ⌜ TellsTable (guardedTable (now (image .entry)) (now (segments .entry)) defaultOverride (cursorAt «base_va» count next) (now (buffer .entry))) (now (out .entry)) (now (buffer .entry)) r (now (out .exit)) (now (buffer .exit)) ⌝ }
-{
-    let walk = cursor_at(base_va, count, next);
-    tell_counts(
-        entry_tables::default_overrides(image, segments, walk, buffer),
-        out,
-    )
-}
-
-// Writes two numbers for each prespecialization: its address, the metadata.
-#[no_mangle]
-pub extern "C" fn hodrupec_prespecializations(
-    image: &[u8],
-    segments: &[u64],
-    base_va: u64,
-    count: u32,
-    next: u32,
-    buffer: &mut [u64],
-    out: &mut [u64; 2],
-) -> u64
-    ensures { λ r. ⌜ TellsTable (guardedTable (now (image .entry)) (now (segments .entry)) prespecialization (cursorAt «base_va» count next) (now (buffer .entry))) (now (out .entry)) (now (buffer .entry)) r (now (out .exit)) (now (buffer .exit)) ⌝ }
-{
-    let walk = cursor_at(base_va, count, next);
-    tell_counts(
-        entry_tables::prespecializations(image, segments, walk, buffer),
-        out,
-    )
 }
