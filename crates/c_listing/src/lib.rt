@@ -4,13 +4,16 @@ ghost use Prim.Native.Nat.{_+_, _≤_};
 ghost use mathlib.Core.Path.{_≡_};
 ghost use lib.ListN.{length};
 ghost use Rattle.refusal.specs.Refusal.{answered, mapped, answerOf};
+ghost use Rattle.segment.specs.Mapping.{TrueMapping};
 ghost use Rattle.util.specs.Buffer.{Put, putEnd, putInto, atStart, overwritten};
 ghost use Rattle.typedescriptor.specs.Row.{rowOf};
+ghost use Rattle.qualified_name.specs.Name.{nameAnswer, lengthOf};
 ghost use Rattle.refusal.specs.Guarded.{guarded};
 ghost use Rattle.c_rows.specs.Numbers.{Tells};
 ghost use Rattle.c_listing.specs.Listing.{twoNumbers, headBytes, rowBytes, listingFrom, listingNumbers, listingBytes};
 use qualified_name::QualifiedName;
 use refusal::Refusal;
+use segment::Mapping;
 use typedescriptor::Descriptor;
 use typedescriptor::Row;
 
@@ -65,15 +68,28 @@ fn put_head(slot: usize, row: Row, name_length: u64, buffer: &mut [u8], at: usiz
     util::put(&second, buffer, middle)
 }
 
+// Writes the joined name of a row at the start of `name`. The mapping that the row was read with finds its parents too, unless they lie
+// elsewhere.
+fn joined(image: &[u8], segments: &[u64], near: Mapping, row: Row, name: &mut [u8]) -> QualifiedName
+    requires { ⌜ TrueMapping (now segments) near ⌝ }
+    ensures { λ r. ⌜ lengthOf r ≡ mapped length (nameAnswer (now (image .entry)) (now (segments .entry)) (rowOf (now (image .entry)) row) (length (now (name .entry)))) ⌝ }
+    ensures { λ _. ⌜ now (name .exit) ≡ overwritten (now (name .entry)) (answerOf (nameAnswer (now (image .entry)) (now (segments .entry)) (rowOf (now (image .entry)) row) (length (now (name .entry))))) ⌝ }
+{
+    let mapping = qualified_name::around_parent(segments, near, row.parent);
+    qualified_name::qualified_name_near(image, segments, mapping, row, name)
+}
+
 // Puts a row's record at a place, and returns where it ends, or its start if it does not fit.
 fn put_record(
     image: &[u8],
     segments: &[u64],
+    mapping: Mapping,
     slot: usize,
     row: Row,
     buffer: &mut [u8],
     at: usize,
 ) -> usize
+    requires { ⌜ TrueMapping (now segments) mapping ⌝ }
     ensures { λ r. ⌜ r ≡ putEnd (now (buffer .entry)) at (rowBytes (now (image .entry)) (now (segments .entry)) slot (rowOf (now (image .entry)) row)) ⌝ }
     ensures { λ _. ⌜ now (buffer .exit) ≡ putInto (now (buffer .entry)) at (rowBytes (now (image .entry)) (now (segments .entry)) slot (rowOf (now (image .entry)) row)) ⌝ }
 {
@@ -83,7 +99,7 @@ fn put_record(
     if buffer.len() - at < HEAD {
         return at;
     }
-    match qualified_name::qualified_name(image, segments, row, &mut buffer[at + HEAD..]) {
+    match joined(image, segments, mapping, row, &mut buffer[at + HEAD..]) {
         QualifiedName::Length(length) => { put_head(slot, row, length as u64, buffer, at) + length }
         QualifiedName::Refused(refusal) => {
             if refusal::number(refusal) != DEEP_CONTEXTS {
@@ -117,7 +133,7 @@ fn put_rows(
         let found = step.found;
         match found {
             Descriptor::Row(row) => {
-                let end = put_record(image, segments, slot, row, buffer, at);
+                let end = put_record(image, segments, mapping, slot, row, buffer, at);
                 if end == at {
                     return [at as u64, slot as u64, BUFFER_FULL];
                 }

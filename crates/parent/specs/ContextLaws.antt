@@ -1,10 +1,10 @@
 -- What the tests on a context and on its name say about their programs, and what a context says about a chain.
 use Prim.Native.Nat.{ℕ, _+_, _^_, _≤_, _<_}
 use native.Mathlib.Omega.{arith}
-use mathlib.Core.Path.{_≡_, sym, _∙_}
-use mathlib.Core.List.{List, []}
+use mathlib.Core.Path.{_≡_, refl, sym, _∙_}
+use mathlib.Core.List.{List}
 use mathlib.Core.Bool.{Bool, true, false}
-use mathlib.Core.Option.{Option, some, none}
+use mathlib.Core.Option.{Option, some, none, Option·map}
 use lib.ListN.{length}
 use borrow.Author.Tests.{le-leb, lt-leb, eq-eqb, ne-eqb}
 use Rattle.util.specs.LittleEndian.{unsignedIn, signedIn}
@@ -13,10 +13,9 @@ use Rattle.util.specs.Cstr.{place, textOf}
 use Rattle.util.specs.declared.cstr.Text.{Text}
 use Rattle.runtime.specs.Reads.{done, bytes, run, textPlace}
 use Rattle.runtime.specs.Bytes.{bytesRead}
-use Rattle.segment.specs.Segments.{segmentsOf, fileOffset}
 use Rattle.segment.specs.Mapping.{withMapping, TrueMapping}
 use Rattle.segment.specs.declared.segment.Mapping.{Mapping}
-use Rattle.runtime.specs.CallsLaws.{text-within, bytes-nowhere, read-nothing, run-bytes, run-no-bytes, run-text, run-no-text, run-mapped}
+use Rattle.runtime.specs.CallsLaws.{text-within, run-bytes, run-no-bytes, run-text, run-no-text, run-mapped}
 use Rattle.context.specs.Context.{contextKind, hasName}
 use Rattle.parent.specs.Context.{Name, Header, headerIn, header, slotName, nameAt, name, contextName, Context, withName, contextRead, nameRead, Inside}
 use Rattle.parent.specs.Chain.{chainStep}
@@ -90,24 +89,21 @@ module _ (image segments : List ℕ) (a : ℕ) where
   unfolding contextRead
   no-context e = rw (← e)
 
-  -- a context that no segment has in the file
-  pub nowhere : (a ≡ 0 → ⊥) → none ≡ fileOffset (segmentsOf segments) a → none ≡ contextRead image segments a
-  nowhere z e = no-context (no-header z [] (read-nothing image segments a 8 (bytes-nowhere image segments a 8 e)) (omega arith))
-
   pub context-at : (h : Header) (n : Option Name) → some h ≡ run image segments (header a) → n ≡ contextName image segments (h .address) (h .flags)
       → some (record { header = h; name = n }) ≡ contextRead image segments a
   unfolding contextRead withName
   context-at h n e en = rw (← e, en)
 
-  -- the same, read with a true mapping
+  -- a true mapping changes no context
   module _ (m : Mapping) (w : TrueMapping segments m) where
-    pub no-context-near : none ≡ run image (withMapping m segments) (header a) → none ≡ contextRead image segments a
-    no-context-near e = no-context (e ∙ run-mapped image segments m w (header a))
+    named-mapped : (h : Option Header) → Option·map (withName image (withMapping m segments)) h ≡ Option·map (withName image segments) h
+    unfolding withName contextName
+    named-mapped none = refl
+    named-mapped (some h) = rw (run-mapped image segments m w (name (h .address) (h .flags)))
 
-    pub context-near : (h : Header) (n : Option Name) → some h ≡ run image (withMapping m segments) (header a) → n ≡ contextName image (withMapping m segments) (h .address) (h .flags)
-        → some (record { header = h; name = n }) ≡ contextRead image segments a
-    unfolding contextName
-    context-near h n e en = context-at h n (e ∙ run-mapped image segments m w (header a)) (en ∙ run-mapped image segments m w (name (h .address) (h .flags)))
+    pub context-mapped : contextRead image (withMapping m segments) a ≡ contextRead image segments a
+    unfolding contextRead
+    context-mapped = rw (run-mapped image segments m w (header a)) (named-mapped (run image segments (header a)))
 
   -- ---- the chain
   module _ (given : ℕ) where

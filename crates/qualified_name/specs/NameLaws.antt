@@ -1,18 +1,24 @@
 -- What a written answer says about the buffer and its length, and what the hops say about the joined name.
-use Prim.Native.Nat.{ℕ, _+_, _-_, _^_, _≤_, _<_, min}
+use Prim.Native.Nat.{ℕ, zero, suc, _+_, _-_, _^_, _≤_, _<_, min}
 use native.Mathlib.Nat.{add-comm, zero-add}
 use native.Mathlib.Decide.{decLt}
 use native.Mathlib.Omega.{arith}
 use mathlib.Core.Path.{_≡_, refl, sym, _∙_, ap}
-use mathlib.Core.List.{List, _++_}
+use mathlib.Core.List.{List, [], _∷_, _++_}
 use mathlib.Core.Bool.{Bool, true, false, cond}
+use mathlib.Core.Option.{Option, some, none}
 use lib.ListN.{length, drop, length-append}
 use lib.Dec.{ltb}
 use borrow.Author.Tests.{lt-ltb, le-ltb}
 use Rattle.refusal.specs.Refusal.{Guarded, answered, refused, mapped, answerOf}
 use Rattle.util.specs.Buffer.{Put, overwritten}
 use Rattle.util.specs.BufferLaws.{put-then}
-use Rattle.parent.specs.Chain.{contextsMost, chain}
+use Rattle.segment.specs.Mapping.{withMapping, TrueMapping}
+use Rattle.segment.specs.declared.segment.Mapping.{Mapping}
+use Rattle.runtime.specs.CallsLaws.{run-mapped}
+use Rattle.parent.specs.Context.{Context, contextRead}
+use Rattle.parent.specs.ContextLaws.{context-mapped}
+use Rattle.parent.specs.Chain.{contextsMost, headerAt, chain}
 use Rattle.qualified_name.specs.DeeperLaws.{deeper-is, not-deeper}
 use Rattle.qualified_name.specs.Name.{hops, tooDeep, qualifiedName, nameAnswer}
 use Rattle.qualified_name.specs.Walk.{deeper, before, hopsAnswer, filled}
@@ -150,3 +156,28 @@ name-length image segments row size n e = go (tooDeep image segments (row .paren
               let g : n ≡ length t = cc in
               (rw (le-ltb size (length t) (omega arith)), (g, omega arith))
         ]
+
+-- ---- with a true mapping
+
+module _ (image segments : List ℕ) (m : Mapping) (w : TrueMapping segments m) where
+  further-mapped : (n a : ℕ) → ((b : ℕ) → chain image (withMapping m segments) n b ≡ chain image segments n b) → (c : Option Context)
+      → c ≡ contextRead image (withMapping m segments) a → c ≡ contextRead image segments a
+      → chain image (withMapping m segments) (suc n) a ≡ chain image segments (suc n) a
+  unfolding chain
+  further-mapped n a f none d e = rw (chain, ← d) (sym (rw (chain, ← e)))
+  further-mapped n a f (some c) d e = rw (chain, ← d) (sym (rw (chain, ← e) (ap (λ (cs : List Context). c ∷ cs) (sym (f (c .header .parent))))))
+
+  chain-mapped : (n a : ℕ) → chain image (withMapping m segments) n a ≡ chain image segments n a
+  unfolding chain
+  chain-mapped zero a = refl
+  chain-mapped (suc n) a = further-mapped n a (chain-mapped n) (contextRead image segments a) (sym (context-mapped image segments a m w)) refl
+
+  name-mapped : (row : TypeRow) (size : ℕ) → nameAnswer image (withMapping m segments) row size ≡ nameAnswer image segments row size
+  unfolding nameAnswer tooDeep qualifiedName
+  name-mapped row size = rw (chain-mapped contextsMost (row .parent), run-mapped image segments m w (headerAt contextsMost (row .parent)))
+
+  -- so what is answered and written with it is the name
+  pub name-near : (row : TypeRow) (size : ℕ) (r : Guarded ℕ) (b b′ : List ℕ)
+      → r ≡ mapped length (nameAnswer image (withMapping m segments) row size) → b′ ≡ overwritten b (answerOf (nameAnswer image (withMapping m segments) row size))
+      → (r ≡ mapped length (nameAnswer image segments row size)) × (b′ ≡ overwritten b (answerOf (nameAnswer image segments row size)))
+  name-near row size r b b′ e f = (e ∙ ap (mapped length) (name-mapped row size), f ∙ ap (λ (x : Guarded (List ℕ)). overwritten b (answerOf x)) (name-mapped row size))

@@ -4,24 +4,15 @@ use Prim.Native.Nat.{ℕ, zero, suc, _+_, _-_, _^_, _≤_, min}
 use mathlib.Core.Path.{_≡_}
 use mathlib.Core.List.{List, [], _∷_, _++_}
 use mathlib.Core.Bool.{Bool, true, false, cond}
-use mathlib.Core.Option.{none}
 use lib.ListN.{length, getD}
 use lib.Dec.{leb, ltb}
 use Rattle.refusal.specs.Refusal.{Guarded, answered, refused, refusalNumber}
 use Rattle.util.specs.Buffer.{atStart}
 use Rattle.util.specs.Cstr.{place, partOf}
-use Rattle.segment.specs.Mapping.{TrueMapping}
-use Rattle.segment.specs.declared.segment.Around.{Around}
-use Rattle.parent.specs.Context.{contextRead}
 use Rattle.parent.specs.Chain.{chain}
 use Rattle.qualified_name.specs.Name.{hops}
 use Rattle.qualified_name.specs.declared.name.Hops.{Hops}
 use Rattle.qualified_name.specs.declared.name.Walk.{Walk}
-
--- what is in the file around a context
-abbrev pub ContextLocated : List ℕ → ℕ → Around → Type 0
-ContextLocated segments a (Around.Mapping m) = TrueMapping segments m
-ContextLocated segments a Around.Nothing = (image : List ℕ) → none ≡ contextRead image segments a
 
 -- whether more than `left` contexts can be read from an address on, and the hops of those that are read to see it
 abbrev pub deeper : List ℕ → List ℕ → ℕ → ℕ → Bool

@@ -20,10 +20,7 @@ use Rattle.parent.specs.Chain.{chain}
 use Rattle.refusal.specs.Refusal.{answered, refused}
 use Rattle.qualified_name.specs.Name.{hop, hops}
 use Rattle.qualified_name.specs.NameLaws.{onward, measured, hops-written, at-start, from-start}
-use Rattle.qualified_name.specs.Walk.{ContextLocated, deeper, before, hopsAnswer, filled, gathered, Block, Last}
-use Rattle.parent.specs.ContextLaws.{nowhere}
-use Rattle.segment.specs.Mapping.{Located}
-use Rattle.segment.specs.declared.segment.Around.{Around}
+use Rattle.qualified_name.specs.Walk.{deeper, before, hopsAnswer, filled, gathered, Block, Last}
 
 -- ---- the names
 
@@ -89,10 +86,6 @@ pub no-block : (image segments : List ℕ) (left a rest : ℕ) (places lengths :
 unfolding gathered
 no-block image segments left a rest places lengths h =
     record { hops = sym (append-nil _); deep = refl; bytes = omega arith; few = omega arith; fewer = omega arith }
-
-pub context-located : (segments : List ℕ) (a : ℕ) (r : Around) → (a ≡ 0 → ⊥) → Located segments a r → ContextLocated segments a r
-context-located segments a (Around.Mapping m) z h = h .0
-context-located segments a Around.Nothing z h = λ image. nowhere image segments a z h
 
 module _ (image segments : List ℕ) (left a rest : ℕ) (places lengths : List ℕ) (count left′ a′ rest′ : ℕ) (b : Block image segments left a rest places lengths count left′ a′ rest′) where
   pub block-ends : none ≡ contextRead image segments a′ → Last image segments left a rest places lengths count rest′

@@ -2,4 +2,6 @@
 mod name;
 
 pub use name::QualifiedName;
+pub use name::around_parent;
 pub use name::qualified_name;
+pub use name::qualified_name_near;

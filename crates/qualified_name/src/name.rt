@@ -3,11 +3,11 @@ ghost use mathlib.Core.Path.{_≡_};
 ghost use Prim.Native.Nat.{_+_, _≤_, _^_, _-_, min};
 ghost use lib.ListN.{length};
 ghost use Rattle.refusal.specs.Refusal.{mapped, answerOf};
-ghost use Rattle.qualified_name.specs.Walk.{ContextLocated, gathered, Walked, hopsAnswer, hopsOf, filled, before};
+ghost use Rattle.qualified_name.specs.Walk.{gathered, Walked, hopsAnswer, hopsOf, filled, before};
 ghost use Rattle.qualified_name.specs.Name.{nameAnswer, lengthOf};
 ghost use Rattle.typedescriptor.specs.Row.{rowOf};
 ghost use Rattle.util.specs.Buffer.{Put, overwritten};
-ghost use Rattle.segment.specs.Mapping.{TrueMapping};
+ghost use Rattle.segment.specs.Mapping.{TrueMapping, withMapping};
 use parent::CONTEXTS;
 use parent::HeaderRead;
 use parent::has_name;
@@ -45,14 +45,17 @@ pub enum Walk {
     TooDeep,
 }
 
-// What is in the file around the context at an address. If that is nothing, there is no context.
-fn locate_context(segments: &[u64], descriptor_va: u64) -> Around
-    ensures { λ r. ⌜ ContextLocated (now (segments .entry)) «descriptor_va» r ⌝ }
+// The mapping to read a type's contexts with: the caller's, if it has the first of them, or the addresses around that one.
+pub fn around_parent(segments: &[u64], mapping: Mapping, parent: u64) -> Mapping
+    ensures { λ r. ⌜ (TrueMapping (now (segments .entry)) mapping → TrueMapping (now (segments .entry)) r) ⌝ }
 {
-    if descriptor_va == 0 {
-        return Around::Nothing;
+    if parent == 0 {
+        return mapping;
     }
-    segment::locate(segments, descriptor_va)
+    match segment::locate_near(segments, mapping, parent) {
+        Around::Mapping(near) => near,
+        Around::Nothing => mapping,
+    }
 }
 
 // A sum, or 2^64 - 1 if it would be more.
@@ -77,9 +80,8 @@ fn collect(
     places: &mut [usize],
     lengths: &mut [usize],
 ) -> Walk
-    requires { ⌜ TrueMapping (now segments) mapping ⌝ }
     requires { ⌜ (length (now places) ≡ 8) × (length (now lengths) ≡ 8) ⌝ }
-    ensures { λ r. ⌜ Walked (now (image .entry)) (now (segments .entry)) left «descriptor_va» rest (now (places .exit)) (now (lengths .exit)) r ⌝ }
+    ensures { λ r. ⌜ Walked (now (image .entry)) (withMapping mapping (now (segments .entry))) left «descriptor_va» rest (now (places .exit)) (now (lengths .exit)) r ⌝ }
 {
     let mut count = 0;
     let mut next = descriptor_va;
@@ -142,56 +144,100 @@ fn put_hops(
 
 // Writes the hops of the contexts from `descriptor_va` on into the buffer's start, the outermost first, if they and `rest` more bytes fit in.
 // On the way up the room is measured, on the way back the hops are written: every context is read once, and a call is made for every 8 names.
+// The mapping comes as its three numbers: a struct that was just put together would be copied two numbers at a time, which makes the
+// processor wait.
 fn write_hops(
     image: &[u8],
     segments: &[u64],
+    vmaddr: u64,
+    size: u64,
+    fileoff: u64,
     descriptor_va: u64,
     left: usize,
     rest: usize,
     buffer: &mut [u8],
 ) -> Hops
-    ensures { λ r. ⌜ hopsOf r ≡ hopsAnswer (now (image .entry)) (now (segments .entry)) left «descriptor_va» rest (length (now (buffer .entry))) ⌝ }
-    ensures { λ r. ⌜ now (buffer .exit) ≡ filled (hopsOf r) (before (now (image .entry)) (now (segments .entry)) left «descriptor_va») (now (buffer .entry)) ⌝ }
+    ensures { λ r. ⌜ hopsOf r ≡ hopsAnswer (now (image .entry)) (withMapping (record { vmaddr = vmaddr; size = size; fileoff = fileoff }) (now (segments .entry))) left «descriptor_va» rest (length (now (buffer .entry))) ⌝ }
+    ensures { λ r. ⌜ now (buffer .exit) ≡ filled (hopsOf r) (before (now (image .entry)) (withMapping (record { vmaddr = vmaddr; size = size; fileoff = fileoff }) (now (segments .entry))) left «descriptor_va») (now (buffer .entry)) ⌝ }
 {
-    match locate_context(segments, descriptor_va) {
-        Around::Mapping(mapping) => {
-            let mut places = [0usize; 8];
-            let mut lengths = [0usize; 8];
-            match collect(
-                image,
-                segments,
-                mapping,
-                descriptor_va,
-                left,
-                rest,
-                &mut places,
-                &mut lengths,
-            ) {
-                Walk::Ended { count, room } => {
-                    if buffer.len() < room {
-                        return Hops::Refused(Refusal::LongName);
-                    }
-                    Hops::Written(put_hops(image, &places, &lengths, count, buffer, 0))
-                }
-                Walk::Full {
-                    next,
-                    allowed,
-                    room,
-                } => match write_hops(image, segments, next, allowed, room, buffer) {
-                    Hops::Written(at) => {
-                        Hops::Written(put_hops(image, &places, &lengths, 8, buffer, at))
-                    }
-                    Hops::Refused(refusal) => Hops::Refused(refusal),
-                },
-                Walk::TooDeep => Hops::Refused(Refusal::DeepContexts),
-            }
+    if descriptor_va == 0 {
+        if buffer.len() < rest {
+            return Hops::Refused(Refusal::LongName);
         }
-        Around::Nothing => {
-            if buffer.len() < rest {
+        return Hops::Written(0);
+    }
+    let mapping = Mapping {
+        vmaddr,
+        size,
+        fileoff,
+    };
+    let mut places = [0usize; 8];
+    let mut lengths = [0usize; 8];
+    match collect(
+        image,
+        segments,
+        mapping,
+        descriptor_va,
+        left,
+        rest,
+        &mut places,
+        &mut lengths,
+    ) {
+        Walk::Ended { count, room } => {
+            if buffer.len() < room {
                 return Hops::Refused(Refusal::LongName);
             }
-            Hops::Written(0)
+            Hops::Written(put_hops(image, &places, &lengths, count, buffer, 0))
         }
+        Walk::Full {
+            next,
+            allowed,
+            room,
+        } => match write_hops(
+            image,
+            segments,
+            vmaddr,
+            size,
+            fileoff,
+            next,
+            allowed,
+            room,
+            buffer,
+        ) {
+            Hops::Written(at) => {
+                Hops::Written(put_hops(image, &places, &lengths, 8, buffer, at))
+            }
+            Hops::Refused(refusal) => Hops::Refused(refusal),
+        },
+        Walk::TooDeep => Hops::Refused(Refusal::DeepContexts),
+    }
+}
+
+// The joined name with the contexts read as if the mapping stood before the segments.
+pub fn qualified_name_near(
+    image: &[u8],
+    segments: &[u64],
+    mapping: Mapping,
+    row: Row,
+    buffer: &mut [u8],
+) -> QualifiedName
+    ensures { λ r. ⌜ lengthOf r ≡ mapped length (nameAnswer (now (image .entry)) (withMapping mapping (now (segments .entry))) (rowOf (now (image .entry)) row) (length (now (buffer .entry)))) ⌝ }
+    ensures { λ _. ⌜ now (buffer .exit) ≡ overwritten (now (buffer .entry)) (answerOf (nameAnswer (now (image .entry)) (withMapping mapping (now (segments .entry))) (rowOf (now (image .entry)) row) (length (now (buffer .entry))))) ⌝ }
+{
+    let own = util::part(image, row.name_place, row.name_length);
+    match write_hops(
+        image,
+        segments,
+        mapping.vmaddr,
+        mapping.size,
+        mapping.fileoff,
+        row.parent,
+        CONTEXTS,
+        own.len(),
+        buffer,
+    ) {
+        Hops::Written(at) => QualifiedName::Length(util::put(own, buffer, at)),
+        Hops::Refused(refusal) => QualifiedName::Refused(refusal),
     }
 }
 
@@ -199,9 +245,6 @@ pub fn qualified_name(image: &[u8], segments: &[u64], row: Row, buffer: &mut [u8
     ensures { λ r. ⌜ lengthOf r ≡ mapped length (nameAnswer (now (image .entry)) (now (segments .entry)) (rowOf (now (image .entry)) row) (length (now (buffer .entry)))) ⌝ }
     ensures { λ _. ⌜ now (buffer .exit) ≡ overwritten (now (buffer .entry)) (answerOf (nameAnswer (now (image .entry)) (now (segments .entry)) (rowOf (now (image .entry)) row) (length (now (buffer .entry))))) ⌝ }
 {
-    let own = util::part(image, row.name_place, row.name_length);
-    match write_hops(image, segments, row.parent, CONTEXTS, own.len(), buffer) {
-        Hops::Written(at) => QualifiedName::Length(util::put(own, buffer, at)),
-        Hops::Refused(refusal) => QualifiedName::Refused(refusal),
-    }
+    let near = around_parent(segments, segment::NO_MAPPING, row.parent);
+    qualified_name_near(image, segments, near, row, buffer)
 }

@@ -5,7 +5,7 @@ use mathlib.Core.Bool.{cond}
 use mathlib.Core.List.{List, _∷_}
 use mathlib.Core.Option.{some, none}
 use lib.Dec.{eqb}
-use Rattle.segment.specs.Segments.{Segment, segmentsOf, fileOffset}
+use Rattle.segment.specs.Segments.{Segment, segmentsOf, fileOffset, decides}
 use Rattle.segment.specs.declared.segment.Mapping.{Mapping}
 use Rattle.segment.specs.declared.segment.Around.{Around}
 
@@ -38,17 +38,22 @@ abbrev pub LocatedNear : List ℕ → Mapping → ℕ → Around → Type 0
 LocatedNear segments m v (Around.Mapping r) = (TrueMapping segments m → TrueMapping segments r) × Has r v
 LocatedNear segments m v Around.Nothing = none ≡ fileOffset (segmentsOf segments) v
 
--- a segment has an address in the file, between `low` and `high`
-pub record InFile (low high : ℕ) (s : Segment) (v : ℕ) : Type 0 where
+-- a segment covers an address that is one of those from `low` up to `high`; `high` is 2^64 - 1 where nothing bounds it
+pub record Inside (low high : ℕ) (s : Segment) (v : ℕ) : Type 0 where
   pub ends : s .vmaddr + s .vmsize < 2 ^ 64
   pub from : (low ≤ v) × (s .vmaddr ≤ v)
-  pub to : (v < high) × (v < s .vmaddr + s .vmsize) × (v < s .vmaddr + s .filesize)
-  pub offset : s .fileoff + (v - s .vmaddr) < 2 ^ 64
+  pub to : (high < 2 ^ 64 - 1 → v < high) × (v < s .vmaddr + s .vmsize)
+  pub bytes : 0 < s .filesize
 
 -- addresses of the segment around one, all in the file and between `low` and `high`
-pub record Clipped (low high : ℕ) (s : Segment) (v : ℕ) (m : Mapping) : Type 0 where
+pub record Part (low high : ℕ) (s : Segment) (v : ℕ) (m : Mapping) : Type 0 where
   pub fits : m .fileoff + m .size ≤ 2 ^ 64
   pub has : Has m v
   pub from : (low ≤ m .vmaddr) × (s .vmaddr ≤ m .vmaddr)
   pub to : (m .vmaddr + m .size ≤ high) × (m .vmaddr + m .size ≤ s .vmaddr + s .vmsize) × (m .vmaddr + m .size ≤ s .vmaddr + s .filesize)
   pub offset : m .fileoff + s .vmaddr ≡ s .fileoff + m .vmaddr
+
+-- or that the segment does not have the address in the file
+abbrev pub Clipped : ℕ → ℕ → Segment → ℕ → Around → Type 0
+Clipped low high s v (Around.Mapping m) = Part low high s v m
+Clipped low high s v Around.Nothing = some none ≡ decides s v

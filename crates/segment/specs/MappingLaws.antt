@@ -10,8 +10,8 @@ use lib.ListN.{length, drop, getD}
 use lib.Dec.{ltb}
 use borrow.Author.Tests.{ltb-true, eq-eqb, ne-eqb}
 use Rattle.segment.specs.Segments.{Segment, segmentsOf, fileOffset, decides, inFile, decided, offsetOf}
-use Rattle.segment.specs.SegmentsLaws.{wraps, below, above, no-bytes, held, past-file, offset-wraps, in-file, segmentAt, segments-step}
-use Rattle.segment.specs.Mapping.{LocatedNear, withMapping, TrueMapping, Has, Exact, Located, InFile, Clipped}
+use Rattle.segment.specs.SegmentsLaws.{below, above, empty, held, past-file, offset-wraps, in-file, segmentAt, told, left}
+use Rattle.segment.specs.Mapping.{LocatedNear, withMapping, TrueMapping, Has, Exact, Located, Inside, Part, Clipped}
 use Rattle.segment.specs.declared.segment.Mapping.{Mapping}
 use Rattle.segment.specs.declared.segment.Around.{Around}
 use Rattle.segment.specs.declared.segment.FileOffset.{FileOffset}
@@ -68,180 +68,105 @@ module _ (segments : List ℕ) (m : Mapping) (ends : m .vmaddr + m .size < 2 ^ 6
 pub empty-mapped : (segments : List ℕ) → TrueMapping segments (record { vmaddr = 0; size = 0; fileoff = 0 })
 empty-mapped segments = record { same = λ v. refl }
 
--- a part of a segment, from `start` up to `end`
-pub clipped : (low high : ℕ) (s : Segment) (v : ℕ) → InFile low high s v → (start end size : ℕ) → start ≡ max low (s .vmaddr) → end ≡ min high (s .vmaddr + size)
-    → size ≡ min (s .vmsize) (s .filesize) → s .fileoff + s .filesize < 2 ^ 64
-    → Clipped low high s v (record { vmaddr = start; size = end - start; fileoff = s .fileoff + (start - s .vmaddr) })
-clipped low high s v w start end size es ee ez h =
-    go (omega (arith, w .from)) (omega (arith, w .to)) (omega (arith, es)) (omega (arith, ee)) (omega (arith, ez))
-  where
-    go : start ≤ v → v < end → (low ≤ start) × (s .vmaddr ≤ start) → (end ≤ high) × (end ≤ s .vmaddr + size) → (size ≤ s .vmsize) × (size ≤ s .filesize)
-        → Clipped low high s v (record { vmaddr = start; size = end - start; fileoff = s .fileoff + (start - s .vmaddr) })
-    go a b f t z = record {
-      fits = omega arith;
-      has = record { from = a; to = omega arith };
-      from = f;
-      to = (omega arith, omega arith, omega arith);
-      offset = omega arith;
+-- what `clip` answers, of a segment that covers the address
+module _ (low high : ℕ) (s : Segment) (v : ℕ) (w : Inside low high s v) where
+  decided-none : none ≡ inFile s (v - s .vmaddr) → some none ≡ decides s v
+  decided-none = held s v (w .ends) (w .from .1) (w .to .1) none (w .bytes)
+
+  pub clip-past : s .filesize ≤ v - s .vmaddr → some none ≡ decides s v
+  clip-past h = decided-none (past-file s _ h)
+
+  pub clip-wraps : v - s .vmaddr < s .filesize → 2 ^ 64 ≤ s .fileoff + (v - s .vmaddr) → some none ≡ decides s v
+  clip-wraps h o = decided-none (offset-wraps s _ h o)
+
+  under : v < high
+  under = elim (decLt high (2 ^ 64 - 1)) [ yes g ↦ w .to .0 g | no g ↦ omega (arith, w .to .1, w .ends) ]
+
+  pub clip-one : v - s .vmaddr < s .filesize → s .fileoff + (v - s .vmaddr) < 2 ^ 64 → Part low high s v (record { vmaddr = v; size = 1; fileoff = s .fileoff + (v - s .vmaddr) })
+  clip-one h o = record {
+    fits = omega arith;
+    has = record { from = omega arith; to = omega arith };
+    from = w .from;
+    to = (omega (arith, under), omega (arith, w .to .1), omega (arith, w .from .1));
+    offset = omega (arith, w .from .1);
+  }
+
+  -- a part of the segment, from `start` up to `end`
+  module _ (i : v - s .vmaddr < s .filesize) (start end size : ℕ) (es : start ≡ max low (s .vmaddr)) (ee : end ≡ min high (s .vmaddr + size))
+      (ez : size ≡ min (s .vmsize) (s .filesize)) where
+    clip-has : (start ≤ v) × (v < end)
+    clip-has = (omega (arith, w .from), omega (arith, w .to .1, under, w .from))
+
+    pub clip-order : start ≤ end
+    clip-order = omega (arith, clip-has)
+
+    pub clip-part : s .fileoff + s .filesize < 2 ^ 64 → Part low high s v (record { vmaddr = start; size = end - start; fileoff = s .fileoff + (start - s .vmaddr) })
+    clip-part h = go (omega (arith, es)) (omega (arith, ee)) (omega (arith, ez))
+      where
+        go : (low ≤ start) × (s .vmaddr ≤ start) → (end ≤ high) × (end ≤ s .vmaddr + size) → (size ≤ s .vmsize) × (size ≤ s .filesize)
+            → Part low high s v (record { vmaddr = start; size = end - start; fileoff = s .fileoff + (start - s .vmaddr) })
+        go f t z = record {
+          fits = omega (arith, clip-has);
+          has = record { from = clip-has .0; to = omega (arith, clip-has) };
+          from = f;
+          to = (omega (arith, clip-has), omega (arith, clip-has), omega (arith, clip-has));
+          offset = omega (arith, clip-has);
+        }
+
+-- where a walk that looks for `a` stands at the `i`th number: of `a`, and of all addresses from `low` up to `high`, the numbers from there on
+-- say what the whole list says
+pub record Passed (l : List ℕ) (a low high i : ℕ) : Type 0 where
+  pub sought : fileOffset (segmentsOf l) a ≡ fileOffset (segmentsOf (drop i l)) a
+  pub around : (v : ℕ) → low ≤ v → v < high → fileOffset (segmentsOf l) v ≡ fileOffset (segmentsOf (drop i l)) v
+  pub from : low ≤ a
+  pub to : high < 2 ^ 64 - 1 → a < high
+
+pub passed-none : (l : List ℕ) (a : ℕ) → Passed l a 0 (2 ^ 64 - 1) 0
+passed-none l a = record { sought = refl; around = λ v x y. refl; from = omega arith; to = λ h. absurd (omega arith) }
+
+-- a turn of that walk
+module _ (l : List ℕ) (a low high i : ℕ) (p : Passed l a low high i) (ends : getD l i 0 + getD l (i + 1) 0 < 2 ^ 64) (h : i + 4 ≤ length l) where
+  -- the segment leaves `a`, and all addresses from `low′` up to `high′`, to the next
+  module _ (low′ high′ : ℕ) where
+    passed : none ≡ decides (segmentAt l i) a → ((v : ℕ) → low′ ≤ v → v < high′ → none ≡ decides (segmentAt l i) v)
+        → (low ≤ low′) × (low′ ≤ a) → (high′ ≤ high) × (high′ < 2 ^ 64 - 1 → a < high′) → Passed l a low′ high′ (i + 4)
+    passed e es f t = record {
+      sought = left l i a _ (p .sought) e h;
+      around = λ v x y. left l i v _ (p .around v (omega (arith, f)) (omega (arith, t .0))) (es v x y) h;
+      from = f .1;
+      to = t .1;
     }
 
--- what a segment that leaves an address to the next one, or finds it in the file, does not do
-module _ (s : Segment) (v : ℕ) where
-  fits : (x : Option (Option ℕ)) → x ≡ decides s v → (x ≡ some none → ⊥) → s .vmaddr + s .vmsize < 2 ^ 64
-  fits x e n =
-      elim (decLt (s .vmaddr + s .vmsize) (2 ^ 64)) [
-        | yes h ↦ h
-        | no h ↦ absurd (n (e ∙ sym (wraps s v (omega arith))))
-      ]
+    pub passed-above : a < getD l i 0 → low′ ≡ low → high′ ≡ min high (getD l i 0) → Passed l a low′ high′ (i + 4)
+    passed-above b el eh =
+        passed (below _ a ends b) (λ v x y. below _ v ends (omega arith)) (omega arith, omega (arith, p .from)) (omega arith, λ g. elim (decLt high (2 ^ 64 - 1)) [ yes k ↦ let z = p .to k in omega arith | no k ↦ omega arith ])
 
-  passed-fits : none ≡ decides s v → s .vmaddr + s .vmsize < 2 ^ 64
-  passed-fits e = fits none e (λ f. let z : _≡_ {A = ℕ} 0 1 = cc in absurd (omega arith))
+    pub passed-below : getD l i 0 + getD l (i + 1) 0 ≤ a → low′ ≡ max low (getD l i 0 + getD l (i + 1) 0) → high′ ≡ high → Passed l a low′ high′ (i + 4)
+    passed-below b el eh =
+        passed (above _ a ends (omega arith) b) (λ v x y. above _ v ends (omega arith) (omega arith)) (omega arith, omega (arith, p .from)) (omega arith, λ g. omega (arith, p .to (omega arith)))
 
-  module _ (r : Lookup) (e : decided r ≡ decides s v) where
-    pub next-fits : r ≡ Next → s .vmaddr + s .vmsize < 2 ^ 64
-    next-fits t = passed-fits (ap decided (sym t) ∙ e)
+    pub passed-empty : getD l (i + 3) 0 ≡ 0 → low′ ≡ low → high′ ≡ high → Passed l a low′ high′ (i + 4)
+    passed-empty z el eh =
+        passed (empty _ a ends z) (λ v x y. empty _ v ends z) (omega arith, omega (arith, p .from)) (omega arith, λ g. omega (arith, p .to (omega arith)))
 
-    module _ (x : FileOffset) (o : ℕ) (t : r ≡ Answer x) (u : x ≡ FileOffset.At o) where
-      found : some (some o) ≡ decides s v
-      found = sym (rw (t, u)) ∙ e
-
-      not : (y : Option (Option ℕ)) → y ≡ decides s v → (some (some o) ≡ y → ⊥) → ⊥
-      not y f n = n (found ∙ sym f)
-
-      ends : s .vmaddr + s .vmsize < 2 ^ 64
-      ends = fits (some (some o)) found (λ f. let z : _≡_ {A = ℕ} 0 1 = cc in absurd (omega arith))
-
-      passed : none ≡ decides s v → ⊥
-      passed f = not none f (λ g. let z : _≡_ {A = ℕ} 0 1 = cc in absurd (omega arith))
-
-      nothing : some none ≡ decides s v → ⊥
-      nothing f = not (some none) f (λ g. let z : _≡_ {A = ℕ} 0 1 = cc in absurd (omega arith))
-
-      from : s .vmaddr ≤ v
-      from = elim (decLt v (s .vmaddr)) [ yes h ↦ absurd (passed (below s v ends h)) | no h ↦ omega arith ]
-
-      to : v < s .vmaddr + s .vmsize
-      to = elim (decLt v (s .vmaddr + s .vmsize)) [ yes h ↦ h | no h ↦ absurd (passed (above s v ends from (omega arith))) ]
-
-      size : 0 < s .filesize
-      size = elim (decLt 0 (s .filesize)) [ yes h ↦ h | no h ↦ absurd (passed (no-bytes s v ends from to (omega arith))) ]
-
-      inside : v - s .vmaddr < s .filesize
-      inside =
-          elim (decLt (v - s .vmaddr) (s .filesize)) [
-            | yes h ↦ h
-            | no h ↦ absurd (nothing (held s v ends from to none size (past-file s (v - s .vmaddr) (omega arith))))
-          ]
-
-      offset : s .fileoff + (v - s .vmaddr) < 2 ^ 64
-      offset =
-          elim (decLt (s .fileoff + (v - s .vmaddr)) (2 ^ 64)) [
-            | yes h ↦ h
-            | no h ↦ absurd (nothing (held s v ends from to none size (offset-wraps s (v - s .vmaddr) inside (omega arith))))
-          ]
-
-      pub answer-in : (low high : ℕ) → low ≤ v → (high < 2 ^ 64 - 1 → v < high) → InFile low high s v
-      answer-in low high l h = record {
-        ends = ends;
-        from = (l, from);
-        to = (elim (decLt high (2 ^ 64 - 1)) [ yes g ↦ h g | no g ↦ omega (arith, to, ends) ], to, omega (arith, inside, from));
-        offset = offset;
-      }
-
--- a segment that leaves `a` to the next one leaves to it all addresses from `low` up to `high`
-module _ (s : Segment) (a low high : ℕ) (e : none ≡ decides s a)
-    (el : s .vmaddr + s .vmsize ≤ a → s .vmaddr + s .vmsize ≤ low) (eh : a < s .vmaddr → high ≤ s .vmaddr) where
-  no-file : s .vmaddr ≤ a → a < s .vmaddr + s .vmsize → s .filesize ≡ 0
-  no-file f t =
-      elim (decLt 0 (s .filesize)) [
-        | yes h ↦
-            let g : _≡_ {A = Option (Option ℕ)} none (some (inFile s (a - s .vmaddr))) = e ∙ sym (held s a (passed-fits s a e) f t _ h refl) in
-            let z : _≡_ {A = ℕ} 0 1 = cc in
-            absurd (omega arith)
-        | no h ↦ omega arith
-      ]
-
-  pub passes : (v : ℕ) → low ≤ v → v < high → none ≡ decides s v
-  passes v l h =
-      elim (decLt v (s .vmaddr)) [
-        | yes b ↦ below s v (passed-fits s a e) b
-        | no b ↦
-            elim (decLt v (s .vmaddr + s .vmsize)) [
-              | no t ↦ above s v (passed-fits s a e) (omega arith) (omega arith)
-              | yes t ↦
-                  elim (decLt a (s .vmaddr)) [
-                    | yes x ↦ let y : high ≤ s .vmaddr = eh x in absurd (omega arith)
-                    | no x ↦
-                        elim (decLt a (s .vmaddr + s .vmsize)) [
-                          | no y ↦ let z : s .vmaddr + s .vmsize ≤ low = el (omega arith) in absurd (omega arith)
-                          | yes y ↦ no-bytes s v (passed-fits s a e) (omega arith) t (no-file (omega arith) y)
-                        ]
-                  ]
-            ]
-      ]
-
--- a turn of the walk over the list, from its `i`th number: all addresses from `low` up to `high` are left to the numbers from there on
-module _ (l : List ℕ) (i low high : ℕ)
-    (inv : (v : ℕ) → low ≤ v → v < high → fileOffset (segmentsOf l) v ≡ fileOffset (segmentsOf (drop i l)) v) where
-  module _ (a low′ high′ : ℕ) (el : (getD l i 0 + getD l (i + 1) 0 ≤ a → low′ ≡ max low (getD l i 0 + getD l (i + 1) 0)) × (a < getD l i 0 + getD l (i + 1) 0 → low′ ≡ low))
-      (eh : (a < getD l i 0 → high′ ≡ min high (getD l i 0)) × (getD l i 0 ≤ a → high′ ≡ high)) where
-    pub low-next : low ≤ a → low′ ≤ a
-    low-next h =
-        elim (decLt a (getD l i 0 + getD l (i + 1) 0)) [
-          | yes g ↦ omega (arith, el .1 g)
-          | no g ↦ let e = el .0 (omega arith) in omega arith
-        ]
-
-    pub high-next : (high < 2 ^ 64 - 1 → a < high) → high′ < 2 ^ 64 - 1 → a < high′
-    high-next h t =
-        elim (decLt a (getD l i 0)) [
-          | yes g ↦
-              elim (decLt high (2 ^ 64 - 1)) [
-                | yes k ↦ let e = eh .0 g in let b = h k in omega arith
-                | no k ↦ let e = eh .0 g in omega arith
-              ]
-          | no g ↦ let e = eh .1 (omega arith) in omega (arith, h (omega arith))
-        ]
-
-    low-over : low ≤ low′
-    low-over =
-        elim (decLt a (getD l i 0 + getD l (i + 1) 0)) [
-          | yes g ↦ omega (arith, el .1 g)
-          | no g ↦ let e = el .0 (omega arith) in omega arith
-        ]
-
-    high-under : high′ ≤ high
-    high-under =
-        elim (decLt a (getD l i 0)) [
-          | yes g ↦ let e = eh .0 g in omega arith
-          | no g ↦ omega (arith, eh .1 (omega arith))
-        ]
-
-    pub around-next : (r : Lookup) → decided r ≡ decides (segmentAt l i) a → r ≡ Next → i + 4 ≤ length l
-        → (v : ℕ) → low′ ≤ v → v < high′ → fileOffset (segmentsOf l) v ≡ fileOffset (segmentsOf (drop (i + 4) l)) v
-    unfolding fileOffset
-    around-next r e n h v f t =
-        inv v (omega (arith, low-over)) (omega (arith, high-under))
-        ∙ rw (
-          segments-step l i 0 h,
-          ← passes (segmentAt l i) a low′ high′ (ap decided (sym n) ∙ e) (λ g. let x = el .0 g in omega arith) (λ g. let x = eh .0 g in omega arith) v f t,
-        )
-
-  module _ (a : ℕ) (m : Mapping) (w : Clipped low high (segmentAt l i) a m) (fits : getD l i 0 + getD l (i + 1) 0 < 2 ^ 64) (h : i + 4 ≤ length l) where
-    pub around-exact : Exact l m
-    unfolding fileOffset
+  module _ (m : Mapping) (w : Part low high (segmentAt l i) a m) where
+    around-exact : Exact l m
     around-exact = record { offset = at }
       where
         at : (v : ℕ) → Has m v → fileOffset (segmentsOf l) v ≡ some (m .fileoff + (v - m .vmaddr))
         at v u =
             let s = segmentAt l i in
             let d : some (some (m .fileoff + (v - m .vmaddr))) ≡ decides s v =
-            held s v fits (omega (arith, w .from, u .from)) (omega (arith, w .to, u .to)) _ (omega (arith, w .from, w .to, u .from, u .to))
+            held s v ends (omega (arith, w .from, u .from)) (omega (arith, w .to, u .to)) _ (omega (arith, w .from, w .to, u .from, u .to))
             (ap some (omega (arith, w .from, w .offset, u .from)) ∙ in-file s (v - s .vmaddr) (omega (arith, w .from, w .to, u .from, u .to)) (omega (arith, w .from, w .offset, w .fits, u .from, u .to))) in
-            inv v (omega (arith, w .from, u .from)) (omega (arith, w .to, u .to)) ∙ rw (segments-step l i 0 h, ← d)
+            sym (told l i v _ (p .around v (omega (arith, w .from, u .from)) (omega (arith, w .to, u .to))) _ d h)
 
-    pub around-mapped : TrueMapping l m
+    around-mapped : TrueMapping l m
     around-mapped = mapped l m (omega (arith, w .to)) (w .fits) (λ v f t. around-exact .offset v (record { from = f; to = t }))
+
+  pub located : (r : Around) → Clipped low high (segmentAt l i) a r → Located l a r
+  located (Around.Mapping m) w = (around-mapped m w, w .has, around-exact m w)
+  located Around.Nothing w = told l i a _ (p .sought) none w h
 
 -- ---- what `locate` promises fixes the address's offset, and the answer if it has none
 

@@ -1,8 +1,9 @@
 -- What the tests of a segment, one after the other, say about `decides`.
 use Prim.Native.Nat.{ℕ, _+_, _-_, _^_, _≤_, _<_}
 use native.Mathlib.Nat.{add-zero}
+use native.Mathlib.Decide.{decLt}
 use native.Mathlib.Omega.{arith}
-use mathlib.Core.Path.{_≡_, refl, ap, _∙_}
+use mathlib.Core.Path.{_≡_, refl, sym, ap, _∙_}
 use mathlib.Core.Option.{Option, some, none}
 use mathlib.Core.List.{List, [], _∷_}
 use lib.ListN.{length, drop, getD, length-drop}
@@ -47,6 +48,14 @@ module _ (s : Segment) (v : ℕ) where
             )
             (ap some e)
 
+    -- a segment without bytes in the file says nothing of any address
+    pub empty : s .filesize ≡ 0 → none ≡ decides s v
+    empty h =
+        elim (decLt v (s .vmaddr)) [
+          | yes b ↦ below b
+          | no b ↦ elim (decLt v (s .vmaddr + s .vmsize)) [ yes t ↦ no-bytes (omega arith) t h | no t ↦ above (omega arith) (omega arith) ]
+        ]
+
 module _ (s : Segment) (d : ℕ) where
   pub past-file : s .filesize ≤ d → none ≡ inFile s d
   unfolding inFile
@@ -90,13 +99,19 @@ module _ (l : List ℕ) (i v : ℕ) where
 
   -- `x`, what the numbers from `i` on say, is what the segment there says, or what those after it say
   module _ (x : Option ℕ) (inv : x ≡ fileOffset (segmentsOf (drop i l)) v) where
-    pub lookup-answer : (r : Lookup) (o : FileOffset) → decided r ≡ decides (segmentAt l i) v → r ≡ Answer o → i + 4 ≤ length l → offsetOf o ≡ x
+    pub told : (o : Option ℕ) → some o ≡ decides (segmentAt l i) v → i + 4 ≤ length l → o ≡ x
     unfolding fileOffset
-    lookup-answer r o e t h = rw (inv, segments-step h, ← e, t)
+    told o e h = rw (inv, segments-step h, ← e)
+
+    pub left : none ≡ decides (segmentAt l i) v → i + 4 ≤ length l → x ≡ fileOffset (segmentsOf (drop (i + 4) l)) v
+    unfolding fileOffset
+    left e h = inv ∙ rw (segments-step h, ← e)
+
+    pub lookup-answer : (r : Lookup) (o : FileOffset) → decided r ≡ decides (segmentAt l i) v → r ≡ Answer o → i + 4 ≤ length l → offsetOf o ≡ x
+    lookup-answer r o e t = told (offsetOf o) (ap decided (sym t) ∙ e)
 
     pub lookup-next : (r : Lookup) → decided r ≡ decides (segmentAt l i) v → r ≡ Next → i + 4 ≤ length l → x ≡ fileOffset (segmentsOf (drop (i + 4) l)) v
-    unfolding fileOffset
-    lookup-next r e t h = inv ∙ rw (segments-step h, ← e, t)
+    lookup-next r e t = left (ap decided (sym t) ∙ e)
 
     pub lookup-end : length l < i + 4 → none ≡ x
     unfolding fileOffset

@@ -3,7 +3,7 @@ ghost use mathlib.Core.Path.{_≡_};
 ghost use mathlib.Core.Bool.{true};
 ghost use Prim.Native.Nat.{_+_, _≤_, _<_, _^_, min, max};
 ghost use Rattle.segment.specs.Segments.{fileOffset, segmentsOf, decides, offsetOf, decided};
-ghost use Rattle.segment.specs.Mapping.{LocatedNear, Has, InFile, Clipped, Located, withMapping};
+ghost use Rattle.segment.specs.Mapping.{LocatedNear, Has, Inside, Clipped, Located, withMapping};
 
 pub enum FileOffset {
     At(u64),
@@ -99,30 +99,7 @@ fn higher(a: u64, b: u64) -> u64
     if a < b { b } else { a }
 }
 
-// Where the addresses around `address` begin, once a segment that may lie below it is passed.
-fn low_past(low: u64, vmaddr: u64, vmsize: u64, address: u64) -> u64
-    requires { ⌜ vmaddr + vmsize < 2 ^ 64 ⌝ }
-    ensures { λ r. ⌜ (vmaddr + vmsize ≤ address → r ≡ max low (vmaddr + vmsize)) × (address < vmaddr + vmsize → r ≡ low) ⌝ }
-{
-    if vmaddr + vmsize <= address {
-        higher(low, vmaddr + vmsize)
-    } else {
-        low
-    }
-}
-
-// Where they end, once a segment that may lie above it is passed.
-fn high_before(high: u64, vmaddr: u64, address: u64) -> u64
-    ensures { λ r. ⌜ (address < vmaddr → r ≡ min high vmaddr) × (vmaddr ≤ address → r ≡ high) ⌝ }
-{
-    if address < vmaddr {
-        lower(high, vmaddr)
-    } else {
-        high
-    }
-}
-
-// What a segment has in the file around one of its addresses, among the addresses from `low` up to but not including `high`: only the
+// What a segment that covers an address has in the file around it, among the addresses from `low` up to but not including `high`: only the
 // address itself, if the segment's end would lie past the last offset.
 fn clip(
     low: u64,
@@ -132,27 +109,35 @@ fn clip(
     fileoff: u64,
     filesize: u64,
     address: u64,
-) -> Mapping
-    requires { ⌜ InFile low high (record { vmaddr = vmaddr; vmsize = vmsize; fileoff = fileoff; filesize = filesize }) address ⌝ }
+) -> Around
+    requires { ⌜ Inside low high (record { vmaddr = vmaddr; vmsize = vmsize; fileoff = fileoff; filesize = filesize }) address ⌝ }
     ensures { λ r. ⌜ Clipped low high (record { vmaddr = vmaddr; vmsize = vmsize; fileoff = fileoff; filesize = filesize }) address r ⌝ }
 {
+    let delta = address - vmaddr;
+    if delta >= filesize {
+        return Around::Nothing;
+    }
+    if delta > u64::MAX - fileoff {
+        return Around::Nothing;
+    }
     if filesize > u64::MAX - fileoff {
-        return Mapping {
+        return Around::Mapping(Mapping {
             vmaddr: address,
             size: 1,
-            fileoff: fileoff + (address - vmaddr),
-        };
+            fileoff: fileoff + delta,
+        });
     }
     let start = higher(low, vmaddr);
     let end = lower(high, vmaddr + lower(vmsize, filesize));
-    Mapping {
+    Around::Mapping(Mapping {
         vmaddr: start,
         size: end - start,
         fileoff: fileoff + (start - vmaddr),
-    }
+    })
 }
 
-// What is in the file around an address: those addresses of its segment about which no earlier segment decides.
+// What is in the file around an address: those addresses of its segment about which no earlier segment decides. The tests are those of
+// `look_up`; on each way past a segment one bound moves at most.
 pub fn locate(segments: &[u64], address: u64) -> Around
     ensures { λ r. ⌜ Located (now (segments .entry)) address r ⌝ }
 {
@@ -162,32 +147,31 @@ pub fn locate(segments: &[u64], address: u64) -> Around
     while 4 <= segments.len() - i {
         let vmaddr = segments[i];
         let vmsize = segments[i + 1];
-        let fileoff = segments[i + 2];
-        let filesize = segments[i + 3];
-        let found = look_up(vmaddr, vmsize, fileoff, filesize, address);
-        match found {
-            Lookup::Answer(offset) => match offset {
-                FileOffset::At(_) => {
-                    return Around::Mapping(clip(
+        if u64::MAX - vmaddr < vmsize {
+            return Around::Nothing;
+        }
+        if address < vmaddr {
+            high = lower(high, vmaddr);
+        } else {
+            let end = vmaddr + vmsize;
+            if end <= address {
+                low = higher(low, end);
+            } else {
+                let filesize = segments[i + 3];
+                if filesize != 0 {
+                    return clip(
                         low,
                         high,
                         vmaddr,
                         vmsize,
-                        fileoff,
+                        segments[i + 2],
                         filesize,
                         address,
-                    ));
+                    );
                 }
-                FileOffset::Nothing => {
-                    return Around::Nothing;
-                }
-            },
-            Lookup::Next => {
-                low = low_past(low, vmaddr, vmsize, address);
-                high = high_before(high, vmaddr, address);
-                i += 4;
             }
         }
+        i += 4;
     }
     Around::Nothing
 }

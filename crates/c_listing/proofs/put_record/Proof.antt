@@ -27,32 +27,32 @@ returns-2 c =
 add-result : tie.Need-add-result
 add-result c =
     let a = c .before .before .before .before .before .before .before .before .before .before .before .before .before .before .before .before .args in
-    let f = told lengthOf (c .before .before .before .before .before .before .before .before .before .qualified-name .ensures .0) (c .before .before .before .before .before .length .given .1) in
+    let f = told lengthOf (c .before .before .before .before .before .before .before .before .before .joined .ensures .0) (c .before .before .before .before .before .length .given .1) in
     let k = name-length _ _ _ _ _ f in
-    let w = record-put (now (a .buffer)) _ _ _ _ _ (a .at) _ _ _ (c .before .before .before .before .before .before .before .before .before .qualified-name .ensures .1) (k .0) (k .1 .0) (head-long _ _ _ _) (c .before .before .put-head .ensures) (omega (arith, k .1 .1, part-long (a .at + 32) (now (a .buffer)))) (written-bytes _ _ (a .slot) _ _ _ f) in
+    let w = record-put (now (a .buffer)) _ _ _ _ _ (a .at) _ _ _ (c .before .before .before .before .before .before .before .before .before .joined .ensures .1) (k .0) (k .1 .0) (head-long _ _ _ _) (c .before .before .put-head .ensures) (omega (arith, k .1 .1, part-long (a .at + 32) (now (a .buffer)))) (written-bytes _ _ (a .slot) _ _ _ f) in
     omega (arith, w .0)
 
 returns-3 : tie.Need-returns-3
 returns-3 c =
     let a = c .before .before .before .before .before .before .before .before .before .before .before .before .before .before .args in
-    let f = told lengthOf (c .before .before .before .before .before .before .before .qualified-name .ensures .0) (c .before .before .before .refusal .given .1) in
+    let f = told lengthOf (c .before .before .before .before .before .before .before .joined .ensures .0) (c .before .before .before .refusal .given .1) in
     let l = refused-bytes _ _ (a .slot) _ _ _ f .1 (λ z. c .if3 .taken (c .before .number .ensures ∙ z)) in
     let p = part-long (a .at + 32) (now (a .buffer)) in
-    (past-end _ _ _ (omega (arith, l, p)), kept-part (a .at + 32) (length (now (a .buffer)) - (a .at + 32)) (now (a .buffer)) _ _ _ _ _ _ (c .before .before .before .before .before .before .before .qualified-name .ensures .1) f ∙ past-into _ _ _ (omega (arith, l, p)))
+    (past-end _ _ _ (omega (arith, l, p)), kept-part (a .at + 32) (length (now (a .buffer)) - (a .at + 32)) (now (a .buffer)) _ _ _ _ _ _ (c .before .before .before .before .before .before .before .joined .ensures .1) f ∙ past-into _ _ _ (omega (arith, l, p)))
 
 returns-4 : tie.Need-returns-4
 returns-4 c =
     let a = c .before .before .before .before .before .before .before .before .before .before .before .before .before .before .before .before .args in
-    let f = told lengthOf (c .before .before .before .before .before .before .before .before .before .qualified-name .ensures .0) (c .before .before .before .before .before .length .given .1) in
+    let f = told lengthOf (c .before .before .before .before .before .before .before .before .before .joined .ensures .0) (c .before .before .before .before .before .length .given .1) in
     let k = name-length _ _ _ _ _ f in
-    let w = record-put (now (a .buffer)) _ _ _ _ _ (a .at) _ _ _ (c .before .before .before .before .before .before .before .before .before .qualified-name .ensures .1) (k .0) (k .1 .0) (head-long _ _ _ _) (c .before .before .put-head .ensures) (omega (arith, k .1 .1, part-long (a .at + 32) (now (a .buffer)))) (written-bytes _ _ (a .slot) _ _ _ f) in
+    let w = record-put (now (a .buffer)) _ _ _ _ _ (a .at) _ _ _ (c .before .before .before .before .before .before .before .before .before .joined .ensures .1) (k .0) (k .1 .0) (head-long _ _ _ _) (c .before .before .put-head .ensures) (omega (arith, k .1 .1, part-long (a .at + 32) (now (a .buffer)))) (written-bytes _ _ (a .slot) _ _ _ f) in
     w .1
 
 returns-5 : tie.Need-returns-5
 returns-5 c =
     let a = c .before .before .before .before .before .before .before .before .before .before .before .before .before .before .before .before .before .before .args in
-    let f = told lengthOf (c .before .before .before .before .before .before .before .before .before .before .before .qualified-name .ensures .0) (c .before .before .before .before .before .before .before .refusal .given .1) in
-    let k = kept-part (a .at + 32) (length (now (a .buffer)) - (a .at + 32)) (now (a .buffer)) _ _ _ _ _ _ (c .before .before .before .before .before .before .before .before .before .before .before .qualified-name .ensures .1) f in
+    let f = told lengthOf (c .before .before .before .before .before .before .before .before .before .before .before .joined .ensures .0) (c .before .before .before .before .before .before .before .refusal .given .1) in
+    let k = kept-part (a .at + 32) (length (now (a .buffer)) - (a .at + 32)) (now (a .buffer)) _ _ _ _ _ _ (c .before .before .before .before .before .before .before .before .before .before .before .joined .ensures .1) f in
     head-alone _ _ _ _ _ _ _ k (refused-bytes _ _ (a .slot) _ _ _ f .0 (sym (c .before .before .before .before .before .number .ensures) ∙ c .before .before .before .before .if3 .left)) (head-long _ _ _ _) (c .before .before .put-head2 .ensures) (omega arith)
 
 pub put-record-spec : {M : Type 1} → statement M

@@ -22,6 +22,9 @@ abbrev μ-loop : tie.MeasureT-loop
 loop-holds : tie.Need-loop-holds Inv-loop μ-loop
 loop-holds c = start-going _ _ _ _ _ _ _ _ (empty-mapped _)
 
+put-record-requires : tie.Need-put-record-requires Inv-loop μ-loop
+put-record-requires c κs = c .before .before .before .before .before .slot-row-moving .ensures .mapped (c .before .before .before .before .before .before .before .loop .inv .mapped)
+
 returns : tie.Need-returns Inv-loop μ-loop
 returns c =
     let a = c .before .before .before .before .before .before .before .before .before .before .before .before .before .before .before .before .args in
@@ -58,5 +61,5 @@ pub put-rows-spec : {M : Type 1} → statement M
 put-rows-spec =
     tie.close
     (tie.spec
-    Inv-loop μ-loop loop-holds (λ c κs. search needs) (λ c. search needs) (λ c κs. search needs) (λ c. search needs) returns
+    Inv-loop μ-loop loop-holds (λ c κs. search needs) (λ c. search needs) put-record-requires (λ c. search needs) returns
     add-slot (λ c. search needs) loop-again (λ c. search needs) (λ c. search needs) (λ c. search needs) loop-again-2 (λ c. search needs) returns-2)
