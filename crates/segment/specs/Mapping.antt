@@ -39,7 +39,7 @@ LocatedNear segments m v (Around.Mapping r) = (TrueMapping segments m → TrueMa
 LocatedNear segments m v Around.Nothing = none ≡ fileOffset (segmentsOf segments) v
 
 -- a segment covers an address that is one of those from `low` up to `high`; `high` is 2^64 - 1 where nothing bounds it
-pub record Inside (low high : ℕ) (s : Segment) (v : ℕ) : Type 0 where
+pub record Covered (low high : ℕ) (s : Segment) (v : ℕ) : Type 0 where
   pub ends : s .vmaddr + s .vmsize < 2 ^ 64
   pub from : (low ≤ v) × (s .vmaddr ≤ v)
   pub to : (high < 2 ^ 64 - 1 → v < high) × (v < s .vmaddr + s .vmsize)

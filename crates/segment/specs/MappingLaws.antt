@@ -11,7 +11,7 @@ use lib.Dec.{ltb}
 use borrow.Author.Tests.{ltb-true, eq-eqb, ne-eqb}
 use Rattle.segment.specs.Segments.{Segment, segmentsOf, fileOffset, decides, inFile, decided, offsetOf}
 use Rattle.segment.specs.SegmentsLaws.{below, above, empty, held, past-file, offset-wraps, in-file, segmentAt, told, left}
-use Rattle.segment.specs.Mapping.{LocatedNear, withMapping, TrueMapping, Has, Exact, Located, Inside, Part, Clipped}
+use Rattle.segment.specs.Mapping.{LocatedNear, withMapping, TrueMapping, Has, Exact, Located, Covered, Part, Clipped}
 use Rattle.segment.specs.declared.segment.Mapping.{Mapping}
 use Rattle.segment.specs.declared.segment.Around.{Around}
 use Rattle.segment.specs.declared.segment.FileOffset.{FileOffset}
@@ -69,7 +69,7 @@ pub empty-mapped : (segments : List ℕ) → TrueMapping segments (record { vmad
 empty-mapped segments = record { same = λ v. refl }
 
 -- what `clip` answers, of a segment that covers the address
-module _ (low high : ℕ) (s : Segment) (v : ℕ) (w : Inside low high s v) where
+module _ (low high : ℕ) (s : Segment) (v : ℕ) (w : Covered low high s v) where
   decided-none : none ≡ inFile s (v - s .vmaddr) → some none ≡ decides s v
   decided-none = held s v (w .ends) (w .from .1) (w .to .1) none (w .bytes)
 

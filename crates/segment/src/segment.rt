@@ -3,7 +3,7 @@ ghost use mathlib.Core.Path.{_≡_};
 ghost use mathlib.Core.Bool.{true};
 ghost use Prim.Native.Nat.{_+_, _≤_, _<_, _^_, min, max};
 ghost use Rattle.segment.specs.Segments.{fileOffset, segmentsOf, decides, offsetOf, decided};
-ghost use Rattle.segment.specs.Mapping.{LocatedNear, Has, Inside, Clipped, Located, withMapping};
+ghost use Rattle.segment.specs.Mapping.{LocatedNear, Has, Covered, Clipped, Located, withMapping};
 
 pub enum FileOffset {
     At(u64),
@@ -110,7 +110,7 @@ fn clip(
     filesize: u64,
     address: u64,
 ) -> Around
-    requires { ⌜ Inside low high (record { vmaddr = vmaddr; vmsize = vmsize; fileoff = fileoff; filesize = filesize }) address ⌝ }
+    requires { ⌜ Covered low high (record { vmaddr = vmaddr; vmsize = vmsize; fileoff = fileoff; filesize = filesize }) address ⌝ }
     ensures { λ r. ⌜ Clipped low high (record { vmaddr = vmaddr; vmsize = vmsize; fileoff = fileoff; filesize = filesize }) address r ⌝ }
 {
     let delta = address - vmaddr;
