@@ -53,6 +53,21 @@ def parts(bundle):
     return bodies if IMAGE in bodies else 2
 
 
+def wrapping(numbers):
+    """The number of the first segment, from 0, whose addresses do not end below 2^64, or None. Numbers that are left over are no segment."""
+    return next((i // 4 for i in range(0, len(numbers) - 3, 4) if numbers[i] + numbers[i + 1] >= TOP), None)
+
+
+def fault(numbers):
+    """The refusal that a list of segment numbers gets, or 0."""
+    return 1 if len(numbers) % 4 else 9 if wrapping(numbers) is not None else 0
+
+
+def segment_numbers(bodies):
+    raw = bodies.get(SEGMENTS, b"")
+    return struct.unpack(f"<{len(raw) // 8}Q", raw)
+
+
 def broken(bundle):
     """The first rule that a bundle breaks, and the byte at which its record starts."""
     at, last, image = 0, 0, False
@@ -83,7 +98,15 @@ def said(bundle):
     if len(bundle) > BUNDLE_BYTES:
         return b"list: refused 5: a bundle has at most 65536 bytes\n"
     rule = broken(bundle)
-    return b"list: refused 2: %s, at byte %d\n" % (rule[0].encode(), rule[1]) if rule else b""
+    if rule:
+        return b"list: refused 2: %s, at byte %d\n" % (rule[0].encode(), rule[1])
+    bodies = parts(bundle)
+    numbers = segment_numbers(bodies)
+    which = wrapping(numbers)
+    if which is None:
+        return b""
+    where = (which + 1, len(numbers) // 4, *numbers[4 * which : 4 * which + 2])
+    return b"list: refused 9: segment %d of %d does not end below 2^64: vmaddr 0x%016x, vmsize 0x%016x\n" % where
 
 
 def text(image, found):
@@ -154,8 +177,9 @@ def listing(bundle):
     bodies = parts(bundle)
     if isinstance(bodies, int):
         return b"refused %d\n" % bodies
-    image, raw = bodies[IMAGE], bodies.get(SEGMENTS, b"")
-    numbers = struct.unpack(f"<{len(raw) // 8}Q", raw)
+    image, numbers = bodies[IMAGE], segment_numbers(bodies)
+    if fault(numbers):
+        return b"refused %d\n" % fault(numbers)
     led = bodies.get(TYPES, bytes(8))
     lines = [
         b"%016x %s %s\n" % (address, WORDS.get(flags % 32, b"other"), name_or_refusal(image, numbers, parent, name))
@@ -368,9 +392,14 @@ def segment_lists():
     image = image_of(BASE, [(STRUCT, 1, b"One"), (MODULE, None, b"Top")])
     types = section(TYPES, 0x9000, slots(0x9000, [BASE, BASE + 28]))
     size = len(image)
-    wraps = (TOP - 16, 16, 0, 16)
     whole = (BASE, size, 0, size)
-    lists = [(), whole, whole + wraps, wraps + whole, (BASE, size, 0, 0) + whole, (BASE, size, 0, 0)]
+    lists = [(), whole, (BASE, size, 0, 0) + whole, (BASE, size, 0, 0)]
+    # At 2^64 exactly, above, below, without addresses, and with file bytes past 2^64 alone: each first, between and last.
+    edge = [(TOP - 16, 16), (TOP - 1, 1), (TOP - 1, TOP - 1), (1, TOP - 1), (TOP - 17, 16), (TOP - 1, 0), (0, TOP - 1), (0x8000, 16)]
+    for vmaddr, vmsize in edge:
+        for file in ((0, 16), (0, 0), (TOP - 1, 16)):
+            one = (vmaddr, vmsize, *file)
+            lists += [one, one + whole, whole + one, whole + one + whole, one + one + whole]
     lists += [(BASE, n, 0, n) for n in (1, 20, 28, 29, 36, 55, 56, 57, 60, 63, 64)]
     lists += [(BASE, size, 0, n) for n in (1, 8, 28, 29, 56, 57, 60)]
     lists += [(BASE, 28, 0, 28, BASE + 28, size, 28, size), (BASE + 28, size, 28, size, BASE, 28, 0, 28)]
@@ -407,8 +436,8 @@ for group in (checked_lines, record_rules, sizes, sections, flags, chains, names
 def full_reads(image, numbers):
     """What the calls of the full level answer on the descriptor at 0x1000, whose first 12 bytes are a table's entry and a singleton's
     records too, and whose first 16 are a generic block's header."""
-    if len(numbers) % 4:
-        return [b"refused 1"] * 11
+    if fault(numbers):
+        return [b"refused %d" % fault(numbers)] * 11
 
     def word(size, at):
         """Where the offset at `at` of a record of this size at 0x1000 leads to."""
@@ -426,23 +455,30 @@ def full_reads(image, numbers):
 
 
 def refusals():
-    """The answers of the crate `test_refusals`: calls on lists of 0 to 8 segment numbers."""
+    """The answers of the crate `test_refusals`: calls on the first 0 to 8 numbers of lists of two segments."""
     image, types = bytearray(CLUE), slots(0x2000, [0x1000])
     image[4:8] = relative(0x1004, 0x1000)
-    for count in range(9):
-        numbers = [0x1000, 33, 0, 33, 0x9000, 1, 0, 1][:count]
-        walks = [b"refused 1"] * 3
-        if count % 4 == 0:
-            found = [row[0] for row in rows(image, numbers, types, 0x2000)]
-            chain = contexts(image, numbers, 0x1000)
-            line = b"%016x struct refused 4\n" % 0x1000 if found else b"end 0\n"
-            walks = [b"%d" % found[0] if found else b"end", b"%d" % 0x1000 if chain else b"end", b"%d" % len(line)]
-        yield b"walks %d %s\n" % (count, b" ".join(walks))
-        yield b"reads %d %s\n" % (count, b" ".join(full_reads(image, numbers)))
-        for parent, size in ((0, 8), (0, 4), (0, 3), (0x1000, 8), (0x1000, 3), (0x1000, 0)):
-            name, refusal = (b"", 1) if count % 4 else joined(image, numbers, parent, b"Clue", size)
-            answer = b"refused %d" % refusal if refusal else b"%d" % len(name)
-            yield b"name %d %d %d %s %s\n" % (count, parent, size, answer, name.ljust(8, b"-"))
+    seen = [0x1000, 33, 0, 33]
+    for whole in (seen + [0x9000, 1, 0, 1], seen + [TOP - 16, 16, 0, 0], [TOP - 1, 1, 0, 1] + seen, [TOP - 17, 16, 0, 16] + seen):
+        for count in range(9):
+            yield from refusals_of(image, types, whole[:count])
+
+
+def refusals_of(image, types, numbers):
+    """Its lines for one list."""
+    count, refused = len(numbers), fault(numbers)
+    walks = [b"refused %d" % refused] * 3
+    if not refused:
+        found = [row[0] for row in rows(image, numbers, types, 0x2000)]
+        chain = contexts(image, numbers, 0x1000)
+        line = b"%016x struct refused 4\n" % 0x1000 if found else b"end 0\n"
+        walks = [b"%d" % found[0] if found else b"end", b"%d" % 0x1000 if chain else b"end", b"%d" % len(line)]
+    yield b"walks %d %s\n" % (count, b" ".join(walks))
+    yield b"reads %d %s\n" % (count, b" ".join(full_reads(image, numbers)))
+    for parent, size in ((0, 8), (0, 4), (0, 3), (0x1000, 8), (0x1000, 3), (0x1000, 0)):
+        name, refusal = (b"", refused) if refused else joined(image, numbers, parent, b"Clue", size)
+        answer = b"refused %d" % refusal if refusal else b"%d" % len(name)
+        yield b"name %d %d %d %s %s\n" % (count, parent, size, answer, name.ljust(8, b"-"))
 
 
 def files():

@@ -79,7 +79,7 @@ enum { INNER_BODY = INNER + 20, VTABLE = INNER + 44, METHODS = VTABLE + 8, OVERR
 enum { OVERRIDES = OVERRIDE_TABLE + 4, PRESPECIALIZED = OVERRIDES + 2 * 12, METADATAS = PRESPECIALIZED + 4 };
 enum { INVERTIBLE = PRESPECIALIZED + 4 + 2 * 8, DEFAULT_TABLE = INVERTIBLE + 4, DEFAULTS = DEFAULT_TABLE + 4 };
 
-static const u64 segments[8] = {FIRST, 0x1000, FIRST_PLACE, 0x700, SECOND, 0x90, SECOND_PLACE, 0x80};
+static const u64 segments[12] = {FIRST, 0x1000, FIRST_PLACE, 0x700, SECOND, 0x90, SECOND_PLACE, 0x80, UINT64_MAX - 15, 16, 0, 0};
 static uint8_t image[IMAGE_BYTES], types[12], fields[36];
 static const uint8_t strings[] = "xxseed\0more";
 static size_t segment_numbers = 8;
@@ -163,13 +163,14 @@ static void told(const char *name, u64 status, const u64 *want, size_t count, co
         printf("called %s\n", name);
 }
 
-static void refused(const char *name, u64 status) {
+static void refused(const char *name, u64 status, u64 number) {
     int left = same(name, "out of a refused call", out, 16, NULL, 0) && same(name, "list of a refused call", list, ROOM, NULL, 0);
     for (size_t i = 0; i < sizeof buffer; i++) left &= buffer[i] == '-';
-    if (status != 1 || !left) printf("%s: with seven segment numbers: status %" PRIu64 "%s\n", name, status, left ? "" : ", and something written"), failed = 1;
+    if (status != number || !left) printf("%s: status %" PRIu64 ", not %" PRIu64 "%s\n", name, status, number, left ? "" : ", and something written"), failed = 1;
 }
 
-/* ANSWERS: the numbers of `out`. GUARDED: a call that takes segments; it refuses seven numbers, and then answers with eight. */
+/* ANSWERS: the numbers of `out`. GUARDED: a call that takes segments; it refuses seven numbers with 1, and three segments of which the
+   last one ends at 2^64 with 9; and then it answers with the first two. */
 #define ANSWERS(name, arguments, ...) \
     do { \
         const u64 want[] = {__VA_ARGS__}; \
@@ -180,7 +181,9 @@ static void refused(const char *name, u64 status) {
     do { \
         const u64 want[] = {__VA_ARGS__}; \
         fill(), segment_numbers = 7; \
-        refused(#name, name arguments); \
+        refused(#name, name arguments, 1); \
+        fill(), segment_numbers = 12; \
+        refused(#name, name arguments, 9); \
         fill(), segment_numbers = 8; \
         told(#name, name arguments, want, sizeof want / 8, listed); \
     } while (0)

@@ -6,8 +6,9 @@ usage: tests/public_calls.py        (from anywhere; the crates must be proved, a
 A function is run if it can be reached from a program's `main`, or from a function exported to C (`#[no_mangle]`) that the comparison
 calls (its name occurs in compare/src; compare/build refuses one that is declared there and never called). Which function calls which is
 the compiler's own account, `rt mir`, whose names are whole paths: two functions of one name in different modules are two. A public
-function has an `ensures`, and no `requires`: it asks nothing of its caller. Prints a line for each function that breaks this; exit
-status 1 if there is one.
+function has an `ensures`, and no `requires`: it asks nothing of its caller. A call is a function that a crate above the readers (in
+crates.txt, from `steps` on) offers to other crates or to C; one that takes segments tests them, so every `ensures` of it cites `guarded`.
+Prints a line for each function that breaks this; exit status 1 if there is one.
 """
 import pathlib
 import re
@@ -20,27 +21,36 @@ ITEM = re.compile(r'^(?:impl(?:<[^>]*>)? (?P<type>\w+)|(?P<close>\})|(?P<export>
 
 
 class Function:
-    def __init__(self, path, file, line, public, exported, clauses):
+    def __init__(self, path, file, line, public, exported, signature, clauses):
         self.path, self.file, self.line = path, file, line
-        self.public, self.exported, self.clauses = public, exported, clauses
+        self.public, self.exported, self.clauses = public, exported, [word for word, _ in clauses]
+        self.takes_segments = re.search(r"\bsegments: &\[u64\]", signature) is not None
+        self.guarded = all("guarded" in said for word, said in clauses if word == "ensures")
+
+    def offered(self):
+        """Whether other crates can call it: lib.rt has it, or names it or its type."""
+        lib = self.file.parent / "lib.rt"
+        if self.exported or self.file == lib:
+            return self.public
+        return self.public and lib.exists() and any(re.search(rf"^pub use .*::{name};", lib.read_text(), re.M) for name in self.path.split("::")[-2:])
 
     def __str__(self):
         return f"{self.file.relative_to(TOP)}:{self.line}: {self.path}"
 
 
 def clauses_of(text, at):
-    """The words before the blocks between a function's name and its body: `ensures` and `requires`."""
-    words = []
+    """What stands between a function's name and its body: its signature, and each block after `ensures` or `requires`, with that word."""
+    signature, clauses = text[at : text.index("{", at)], []
     while True:
         opening = text.index("{", at)
         word = re.search(r"(\w*)\s*$", text[at:opening])[1]
         if word not in ("ensures", "requires"):
-            return words
-        words.append(word)
+            return signature, clauses
         depth, at = 1, opening + 1
         while depth:
             depth += {"{": 1, "}": -1}.get(text[at], 0)
             at += 1
+        clauses.append((word, text[opening:at]))
 
 
 def functions_of(crate):
@@ -61,7 +71,7 @@ def functions_of(crate):
             else:
                 line = text.count("\n", 0, item.start("name")) + 1
                 path = f"{inside}::{item['name']}"
-                yield Function(path, file, line, bool(item["pub"]), exported, clauses_of(text, item.end()))
+                yield Function(path, file, line, bool(item["pub"]), exported, *clauses_of(text, item.end()))
                 exported = False
 
 
@@ -96,9 +106,13 @@ def main():
             run.add(path)
             left.extend(calls.get(path, ()))
 
+    above = set(crates[crates.index("steps") :])
+    tested = [f for f in functions if f.takes_segments and f.path.split("::")[0] in above and f.offered()]
     wrong = 0
     for function in functions:
         said = []
+        if function in tested and not function.guarded:
+            said.append("a call that takes segments, and an `ensures` does not cite `guarded`")
         if function.path not in run:
             said.append("exported, and the comparison does not call it" if function.exported else "no program, test or compared export runs it")
         if function.public and "ensures" not in function.clauses:
@@ -111,6 +125,7 @@ def main():
     if wrong == 0:
         public = sum(function.public for function in functions)
         print(f"public calls: {len(functions)} functions, {public} of them public, are run from {len(roots)} programs and compared exports")
+        print(f"public calls: {len(tested)} calls take segments, and cite `guarded`")
     return 1 if wrong else 0
 
 

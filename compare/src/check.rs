@@ -1,11 +1,11 @@
 //! Gives one input to both sides, and compares everything that they answer.
 
-use crate::full::Block;
-use crate::input::Input;
+use crate::full::{Block, mix};
+use crate::input::{Input, refusal};
 use crate::proved;
 use crate::proved::{Answer, Listed, Refused};
 use crate::proved_full::Image;
-use crate::{proved_archive, proved_full, proved_fullrows, proved_tables};
+use crate::{proved_archive, proved_full, proved_fullrows, proved_tables, util_calls};
 use darwinscope::swift::{SwiftRuntime, SwiftSection, lookup_field_name};
 use darwinscope::util::{read_cstr_at, vm_to_file_offset_in};
 
@@ -25,10 +25,21 @@ const GUARD: usize = 16;
 pub const NUMBER: u64 = 0xa7a7_0123_4567_a7a7;
 pub const NUMBER_GUARD: usize = 4;
 
+/// How many calls take segments: all but those on texts, numbers and flag words, a field descriptor and a single field offset.
+const CALLS: usize = 34;
+
+/// One in this many inputs is tried with segments put into its list.
+const INSERTED: u64 = 8;
+
+/// In how many ways a segment that wraps is put into a list: three places, eight segments.
+const WRAPPING: u64 = 24;
+
 /// What was compared, for the report.
 #[derive(Default, Clone, Copy)]
 pub struct Counts {
     pub inputs: u64,
+    /// Inputs whose own segments are refused.
+    pub refused: u64,
     pub rows: u64,
     pub contexts: u64,
     pub names: u64,
@@ -36,7 +47,8 @@ pub struct Counts {
     pub listings: u64,
     pub full_rows: u64,
     pub leaves: u64,
-    pub refusals: u64,
+    pub ragged: u64,
+    pub wrapping: u64,
     pub bodies: u64,
     pub blocks: u64,
     pub walks: u64,
@@ -51,9 +63,10 @@ pub struct Counts {
 impl Counts {
     pub fn line(&self) -> String {
         format!(
-            "{} inputs, {} rows, {} contexts, {} names ({} chains above {LIMIT}), {} listings, {} of full rows, {} leaf calls, {} ragged lists, \
+            "{} inputs ({} refused), {} rows, {} contexts, {} names ({} chains above {LIMIT}), {} listings, {} of full rows, {} leaf calls, {} ragged and {} wrapping lists refused, \
             {} descriptors, {} blocks, {} made-up walks, {} entries, {} singleton records, {} lists, {} field steps, {} records, {} offset calls",
             self.inputs,
+            self.refused,
             self.rows,
             self.contexts,
             self.names,
@@ -61,7 +74,8 @@ impl Counts {
             self.listings,
             self.full_rows,
             self.leaves,
-            self.refusals,
+            self.ragged,
+            self.wrapping,
             self.bodies,
             self.blocks,
             self.walks,
@@ -79,13 +93,15 @@ impl Counts {
 #[derive(Default)]
 pub struct Checker {
     pub counts: Counts,
+    /// Whether each input is tried with segments put into its list.
+    always: bool,
     buffer: Vec<u8>,
     pub slots: Vec<u64>,
     /// The listing of the Rust's rows, and where each record ends.
     listing: Vec<u8>,
     ends: Vec<usize>,
-    /// A list of segment numbers whose count is not a multiple of four.
-    ragged: Vec<u64>,
+    /// A list of segment numbers that is made from the input's.
+    other_list: Vec<u64>,
     /// The Rust's blocks of a descriptor, the numbers of a list of entries, and a caller's buffer for them.
     pub blocks: Vec<Block>,
     pub list: Vec<u64>,
@@ -134,26 +150,45 @@ macro_rules! same {
 pub(crate) use same;
 
 impl Checker {
+    /// One that tries each input with segments put into its list, so that a difference shows again in an input by itself.
+    pub fn always() -> Checker {
+        Checker {
+            always: true,
+            ..Checker::default()
+        }
+    }
+
     /// All that is compared.
     pub fn input(&mut self, input: &Input) -> Result<(), String> {
-        self.basic(input)?;
+        if !self.accepted(input)? {
+            return Ok(());
+        }
         let rt = runtime(input);
+        self.rows_and_leaves(input, &rt)?;
         self.fields(input, &rt)?;
         self.made_up(input, &rt)
     }
 
     /// The same without the fields section, and without made-up descriptors, walks and tables.
     pub fn basic(&mut self, input: &Input) -> Result<(), String> {
-        self.counts.inputs += 1;
-        let rt = runtime(input);
-        self.rows(input, &rt)?;
-        self.leaves(input, &rt)?;
-        self.ragged(input)
+        if !self.accepted(input)? {
+            return Ok(());
+        }
+        self.rows_and_leaves(input, &runtime(input))
+    }
+
+    fn rows_and_leaves(&mut self, input: &Input, rt: &SwiftRuntime<'_>) -> Result<(), String> {
+        self.rows(input, rt)?;
+        self.leaves(input, rt)?;
+        self.ragged(input)?;
+        self.inserted(input)
     }
 
     /// Only the bodies, blocks, entries and offset vectors of the rows.
     pub fn descriptors(&mut self, input: &Input) -> Result<(), String> {
-        self.counts.inputs += 1;
+        if !self.accepted(input)? {
+            return Ok(());
+        }
         let rt = runtime(input);
         for row in rt.types() {
             self.counts.rows += 1;
@@ -309,111 +344,165 @@ impl Checker {
         Ok(ours)
     }
 
-    /// Every call refuses lists of segment numbers whose count is not a multiple of four, and changes no number and no byte.
-    fn ragged(&mut self, input: &Input) -> Result<(), String> {
-        let (image, types, va) = (&input.image[..], &input.types[..], input.types_va);
-        let target = input.targets.first().copied().unwrap_or(va);
-        self.ragged.clear();
-        self.ragged.extend_from_slice(input.numbers());
-        for more in 1..4 {
-            self.counts.refusals += 1;
-            self.ragged.push(target);
-            let list = &self.ragged[..];
-            fn of<T>(answer: Answer<T>) -> Option<Refused> {
-                answer.err()
-            }
-            self.buffer.clear();
-            self.buffer.resize(64 + 2 * GUARD, PATTERN);
-            let lent = &mut self.buffer[GUARD..GUARD + 64];
-            let strings = &input.strings[..];
-            let ours = [
-                of(proved::file_offset(list, target)),
-                of(proved::field_name(
-                    image,
-                    list,
-                    strings,
-                    input.strings_va,
-                    target,
-                )),
-                of(proved::next_row(image, list, types, va, 0)),
-                of(proved::next_context(image, list, target, 0)),
-                of(proved::qualified_name(image, list, target, 0, 4, lent)),
-                of(proved::listing(image, list, types, va, 0, lent)),
-            ];
-            same!(
-                [Some(Refused(1)); 6],
-                ours,
-                "{more} segment numbers too many"
-            );
-            self.numbers.clear();
-            self.numbers.resize(60 + 2 * NUMBER_GUARD, NUMBER);
-            let lent = &mut self.numbers[NUMBER_GUARD..NUMBER_GUARD + 60];
-            let image = Image {
-                bytes: image,
-                segments: list,
-            };
-            let ours = [
-                of(proved_full::text_at(image, target)),
-                of(proved_full::body(image, target, 16)),
-                of(proved_full::first_block(image, target, 17)),
-                of(proved_full::next_block(image, 16, 1, 1, 0, target)),
-                of(proved_full::block_of_kind(image, target, 18, 9)),
-                of(proved_full::next_method(image, target, 2, 0)),
-                of(proved_full::next_override(image, target, 0, 0)),
-                of(proved_full::next_default_override(image, target, 2, 1)),
-                of(proved_full::next_prespecialization(image, target, 2, 2)),
-                of(proved_tables::methods(image, target, 2, 0, lent)),
-                of(proved_full::singleton_init(image, target)),
-                of(proved_full::singleton_pointer(image, target)),
-                of(proved_archive::next_field_record(image, target, 2, 12, 0)),
-                of(proved_tables::field_records(image, target, 2, 12, 0, lent)),
-                of(proved_archive::named_records(
-                    image, input, target, 2, 12, 0, lent,
-                )),
-                of(proved_tables::overrides(image, target, 2, 0, lent)),
-                of(proved_tables::default_overrides(image, target, 2, 0, lent)),
-                of(proved_tables::prespecializations(image, target, 2, 0, lent)),
-                of(proved_archive::field_offsets(image, target, 17, target)),
-                of(proved_archive::static_field_offsets(image, target, 17)),
-                of(proved_archive::descriptor_type_name(image, &[target; 6])),
-                of(proved_archive::descriptor_superclass_name(
-                    image,
-                    &[target; 6],
-                )),
-                of(proved_archive::record_type_name(image, &[target; 4])),
-                of(proved_archive::record_field_name(
-                    image,
-                    input,
-                    &[target; 4],
-                )),
-            ];
-            same!(
-                [Some(Refused(1)); 24],
-                ours,
-                "{more} segment numbers too many for bodies, blocks, entries and fields"
-            );
-            let lent = &mut self.numbers[NUMBER_GUARD..NUMBER_GUARD + 60];
-            same!(
-                Some(Refused(1)),
-                of(proved_fullrows::full_rows(image, input, 0, lent)),
-                "{more} segment numbers too many for full rows"
-            );
-            same!(
-                [Some(Refused(1)); 2],
-                [
-                    of(proved_archive::row_certain(image, input, 0)),
-                    of(proved_archive::name_certain(image, input, 0)),
-                ],
-                "{more} segment numbers too many for what is certain"
-            );
-            same!(true, self.holds(&[]), "numbers left alone by refused calls");
-            same!(
-                true,
-                self.left_alone(GUARD),
-                "bytes left alone by refused calls"
-            );
-        }
+    /// Whether the calls take the input's segments, which is asked before the Rust is: every call refuses them otherwise, and there is no
+    /// answer to compare.
+    fn accepted(&mut self, input: &Input) -> Result<bool, String> {
+        self.counts.inputs += 1;
+        let Some(number) = refusal(input.numbers()) else {
+            return Ok(true);
+        };
+        self.counts.refused += 1;
+        self.refused(input, input.numbers(), number)?;
+        self.ragged(input)?;
+        Ok(false)
+    }
+
+    /// Every call refuses a list of segment numbers with this number, and changes no number and no byte.
+    pub fn refused(&mut self, input: &Input, list: &[u64], number: u64) -> Result<(), String> {
+        *match number {
+            1 => &mut self.counts.ragged,
+            _ => &mut self.counts.wrapping,
+        } += 1;
+        said(list, Some(number))?;
+        same!(
+            [Some(Refused(number)); CALLS],
+            self.verdicts(input, list),
+            "refusals of the segment numbers {list:x?}"
+        );
+        same!(true, self.holds(&[]), "numbers left alone by refused calls");
+        same!(
+            true,
+            self.left_alone(GUARD),
+            "bytes left alone by refused calls"
+        );
         Ok(())
+    }
+
+    /// Lists with one, two and three numbers too many. Those of segments that wrap are refused with 1 too, which comes before 9.
+    fn ragged(&mut self, input: &Input) -> Result<(), String> {
+        let mut list = self.list_of(input);
+        for _ in 1..4 {
+            list.push(some_target(input));
+            self.refused(input, &list, 1)?;
+        }
+        self.other_list = list;
+        Ok(())
+    }
+
+    /// One more segment in a list that is accepted. If it wraps, the list is refused with 9, also behind a segment that has the address
+    /// which is looked up; if it ends at 2^64 - 1, the list is accepted as before.
+    fn inserted(&mut self, input: &Input) -> Result<(), String> {
+        let target = some_target(input);
+        let mixed = mix(target ^ mix(input.types_va ^ input.image.len() as u64));
+        if !self.always && mixed % INSERTED != 0 {
+            return Ok(());
+        }
+        let chosen = mixed / INSERTED % WRAPPING;
+        let size = 1 + (mixed >> 32) % 64;
+        for number in 0..WRAPPING {
+            if !self.always && number != chosen {
+                continue;
+            }
+            let mut list = self.list_of(input);
+            let place = [0, list.len() / 8 * 4, list.len()][number as usize % 3];
+            let more = wrapping_segment(number / 3, size, target);
+            list.splice(place..place, more);
+            self.refused(input, &list, 9)?;
+            self.other_list = list;
+            // The first segment decides where the address is, and the last one is looked at all the same.
+            let mut list = self.list_of(input);
+            list.splice(..0, [target.min(u64::MAX - 1), 1, 0, 1]);
+            list.extend(more);
+            self.refused(input, &list, 9)?;
+            self.other_list = list;
+        }
+        let mut list = self.list_of(input);
+        list.extend([17u64.wrapping_neg(), 16, 0, mixed >> 16 & 16]);
+        said(&list, None)?;
+        let verdicts = self.verdicts(input, &list);
+        let answered = |v: &Option<Refused>| matches!(v, None | Some(Refused(3 | 4)));
+        same!(
+            true,
+            verdicts.iter().all(answered),
+            "calls on the segment numbers {list:x?} answer: {verdicts:?}"
+        );
+        self.other_list = list;
+        Ok(())
+    }
+
+    /// A copy of the input's segment numbers, in a buffer that the caller gives back.
+    fn list_of(&mut self, input: &Input) -> Vec<u64> {
+        let mut list = std::mem::take(&mut self.other_list);
+        list.clear();
+        list.extend_from_slice(input.numbers());
+        list
+    }
+
+    /// With what each call that takes segments refuses these, given the input's image and sections. The buffers for bytes and numbers are
+    /// lent to the calls.
+    fn verdicts(&mut self, input: &Input, list: &[u64]) -> [Option<Refused>; CALLS] {
+        fn of<T>(answer: Answer<T>) -> Option<Refused> {
+            answer.err()
+        }
+        let target = some_target(input);
+        let (types, va) = (&input.types[..], input.types_va);
+        let (strings, strings_va) = (&input.strings[..], input.strings_va);
+        let bytes = &input.image[..];
+        let image = Image {
+            bytes,
+            segments: list,
+        };
+        self.buffer.clear();
+        self.buffer.resize(64 + 2 * GUARD, PATTERN);
+        let text = &mut self.buffer[GUARD..GUARD + 64];
+        self.numbers.clear();
+        self.numbers.resize(60 + 2 * NUMBER_GUARD, NUMBER);
+        let lent = &mut self.numbers[NUMBER_GUARD..NUMBER_GUARD + 60];
+        [
+            of(proved::file_offset(list, target)),
+            of(util_calls::vm_address(list, target)),
+            of(proved::field_name(bytes, list, strings, strings_va, target)),
+            of(proved::next_row(bytes, list, types, va, 0)),
+            of(proved::next_context(bytes, list, target, 0)),
+            of(proved::qualified_name(bytes, list, target, 0, 4, text)),
+            of(proved::listing(bytes, list, types, va, 0, text)),
+            of(proved_full::text_at(image, target)),
+            of(proved_full::body(image, target, 16)),
+            of(proved_full::first_block(image, target, 17)),
+            of(proved_full::next_block(image, 16, 1, 1, 0, target)),
+            of(proved_full::block_of_kind(image, target, 18, 9)),
+            of(proved_full::next_method(image, target, 2, 0)),
+            of(proved_full::next_override(image, target, 0, 0)),
+            of(proved_full::next_default_override(image, target, 2, 1)),
+            of(proved_full::next_prespecialization(image, target, 2, 2)),
+            of(proved_full::singleton_init(image, target)),
+            of(proved_full::singleton_pointer(image, target)),
+            of(proved_tables::methods(image, target, 2, 0, lent)),
+            of(proved_tables::overrides(image, target, 2, 0, lent)),
+            of(proved_tables::default_overrides(image, target, 2, 0, lent)),
+            of(proved_tables::prespecializations(image, target, 2, 0, lent)),
+            of(proved_tables::field_records(image, target, 2, 12, 0, lent)),
+            of(proved_archive::next_field_record(image, target, 2, 12, 0)),
+            of(proved_archive::named_records(
+                image, input, target, 2, 12, 0, lent,
+            )),
+            of(proved_archive::field_offsets(image, target, 17, target)),
+            of(proved_archive::static_field_offsets(image, target, 17)),
+            of(proved_archive::descriptor_type_name(image, &[target; 6])),
+            of(proved_archive::descriptor_superclass_name(
+                image,
+                &[target; 6],
+            )),
+            of(proved_archive::record_type_name(image, &[target; 4])),
+            of(proved_archive::record_field_name(
+                image,
+                input,
+                &[target; 4],
+            )),
+            of(proved_archive::row_certain(image, input, 0)),
+            of(proved_archive::name_certain(image, input, 0)),
+            of(proved_fullrows::full_rows(image, input, 0, lent)),
+        ]
     }
 
     /// Whether all bytes before the caller's buffer and from `end` on are unchanged.
@@ -597,6 +686,35 @@ impl Checker {
         self.counts.leaves += 1;
         Ok(())
     }
+}
+
+/// The address that calls on made-up lists of segments look up.
+fn some_target(input: &Input) -> u64 {
+    input.targets.first().copied().unwrap_or(input.types_va)
+}
+
+/// Whether the driver says of a made-up list what it was made for.
+fn said(list: &[u64], right: Option<u64>) -> Result<(), String> {
+    let told = refusal(list);
+    if told == right {
+        return Ok(());
+    }
+    Err(format!(
+        "the refusal of the segment numbers {list:x?} is {right:?}, and the driver says {told:?}"
+    ))
+}
+
+/// Segments that wrap, of small sizes and from the target on: with vmaddr + vmsize of exactly 2^64 and of more, with bytes in the file and
+/// without.
+fn wrapping_segment(number: u64, size: u64, target: u64) -> [u64; 4] {
+    let from = target.max(1);
+    let [vmaddr, vmsize] = match number % 4 {
+        0 => [size.wrapping_neg(), size],
+        1 => [size.wrapping_neg(), size + 1],
+        2 => [from, from.wrapping_neg()],
+        _ => [size + 1, u64::MAX],
+    };
+    [vmaddr, vmsize, 0, number / 4 * size]
 }
 
 /// 1 for a text in the image, 2 for one in the string section, as the pointer shows.

@@ -6,10 +6,12 @@
 #[path = "certain.rs"]
 mod certain;
 
+use crate::check::Checker;
 use crate::generate::{Generator, Rng};
 use crate::generate_full::FullGenerator;
-use crate::input::Input;
+use crate::input::{Input, refusal};
 use crate::proved;
+use crate::proved::Refused;
 use crate::proved_archive::{field_offset, field_offsets, next_field, next_field_record};
 use crate::proved_full::{self as full, Image};
 use std::ops::Range;
@@ -352,7 +354,7 @@ impl Whole<'_> {
         }
     }
 
-    /// The first segment that has the address and bytes in the file decides; one that reaches 2^64 ends the search.
+    /// The first segment that has the address and bytes in the file decides. None reaches 2^64: a list with one that does is refused.
     fn offset(&self, address: u64) -> Option<u64> {
         for &[vmaddr, vmsize, fileoff, filesize] in self.segments {
             let end = vmaddr.checked_add(vmsize)?;
@@ -646,6 +648,8 @@ fn u32_in(header: &[u8; 16], at: usize) -> u32 {
 #[derive(Default)]
 struct Counts {
     images: u64,
+    /// Images and cuts of them whose segments are refused.
+    refused: [u64; 2],
     cuts: u64,
     left_out: u64,
     survived: [u64; KINDS.len()],
@@ -684,6 +688,7 @@ impl Counts {
     fn line(&self) -> String {
         let Counts {
             images,
+            refused: [refused, refused_cuts],
             cuts,
             left_out,
             texts,
@@ -694,7 +699,7 @@ impl Counts {
             .map(|(kind, (survived, fell))| format!("{kind} {survived} and {fell}"))
             .collect();
         format!(
-            "{images} images, {cuts} cuts tried, {left_out} left out by the premise; survived and fell: {}; texts beside items: {} of the image, {} of the string section, {} missing, {} left out by the premise",
+            "{images} images, {refused} more and {refused_cuts} cuts of them refused, {cuts} cuts tried, {left_out} left out by the premise; survived and fell: {}; texts beside items: {} of the image, {} of the string section, {} missing, {} left out by the premise",
             kinds.join(", "),
             texts.image,
             texts.strings,
@@ -718,25 +723,64 @@ fn whole_listing(input: &Input) -> Result<(Vec<Item>, Vec<(u64, u64)>), String> 
     Ok((Listing::of(input, length, &metadata)?, metadata))
 }
 
+/// Cuts of an image spread over it, all of them if they are few, each with the number of bytes that are kept.
+fn cuts_of(input: &Input, rng: &mut Rng) -> Vec<usize> {
+    let all = input.image.len() + 1;
+    let tried = all.min(CUTS);
+    let cut = |i| {
+        let (from, to) = (i * all / tried, (i + 1) * all / tried);
+        from + rng.below(to - from)
+    };
+    (0..tried).map(cut).collect()
+}
+
+/// Segments that are refused are refused with the same number whether the image is whole or cut, since no byte of it is looked at: the
+/// listings have no items to compare, and nothing is certain. Every call is asked with the whole image and with one that is cut.
+fn check_refused(
+    input: &Input,
+    number: u64,
+    rng: &mut Rng,
+    counts: &mut Counts,
+) -> Result<(), String> {
+    let cuts = cuts_of(input, rng);
+    counts.refused[0] += 1;
+    let mut checker = Checker::default();
+    checker.refused(input, input.numbers(), number)?;
+    let mut shorter = input.clone();
+    shorter.image.truncate(cuts[rng.below(cuts.len())]);
+    checker.refused(&shorter, input.numbers(), number)?;
+    for cut in cuts.into_iter().chain([input.image.len()]) {
+        let told = Listing::of(input, cut, &[]).map(|items| items.len());
+        let refused = Err(String::from(Refused(number)));
+        if told != refused {
+            return Err(format!(
+                "cut to {cut} of {} bytes: the listing is {told:?}, not {refused:?}",
+                input.image.len()
+            ));
+        }
+        counts.refused[1] += 1;
+    }
+    Ok(())
+}
+
 /// All cuts of an image, or some spread over it. A difference is reported with its cut.
 fn check(input: &Input, rng: &mut Rng, counts: &mut Counts) -> Result<(), String> {
+    if let Some(number) = refusal(input.numbers()) {
+        return check_refused(input, number, rng, counts);
+    }
     let (whole, metadata) = whole_listing(input)?;
     let read = Whole::of(input);
     let paths = Paths::of(input, &read, &whole)?;
-    let all = input.image.len() + 1;
-    let tried = all.min(CUTS);
+    let length = input.image.len();
     counts.images += 1;
-    for i in 0..tried {
-        let (from, to) = (i * all / tried, (i + 1) * all / tried);
-        let cut = from + rng.below(to - from);
-        certain::check(input, cut, &whole, &metadata, &mut counts.certain)
-            .map_err(|what| format!("cut to {cut} of {} bytes: {what}", all - 1))?;
+    for cut in cuts_of(input, rng) {
+        let at = |what: String| format!("cut to {cut} of {length} bytes: {what}");
+        certain::check(input, cut, &whole, &metadata, &mut counts.certain).map_err(at)?;
         if paths.left_out(cut as u64) {
             counts.left_out += 1;
             continue;
         }
         counts.cuts += 1;
-        let at = |what: String| format!("cut to {cut} of {} bytes: {what}", all - 1);
         let listed = Listing::of(input, cut, &metadata).map_err(at)?;
         let mut items = listed.iter();
         for ((item, &end), beside) in whole.iter().zip(&paths.ends).zip(&paths.beside) {

@@ -1,10 +1,10 @@
-//! What can be tried exhaustively: short texts, flag words, chains around the limit, blocks with all flags, blocks and tables around 2^64,
-//! cuts.
+//! What can be tried exhaustively: short texts, flag words, chains around the limit, segments that end around 2^64, blocks with all flags,
+//! blocks and tables around 2^64, cuts.
 
 use crate::check::{Checker, LIMIT};
 use crate::generate::{Generator, chain, relative};
 use crate::generate_full::FullGenerator;
-use crate::input::Input;
+use crate::input::{Input, refusal};
 use crate::plant::{Plan, Planter};
 use crate::report;
 use std::time::Instant;
@@ -106,6 +106,51 @@ fn chains(checker: &mut Checker) {
     }
 }
 
+/// A segment that ends around 2^64, with and without bytes in the file, in every place of a list, and two of them: the list is refused if
+/// one reaches 2^64, and every answer is the Rust's otherwise.
+fn segments(checker: &mut Checker) {
+    let starts = [0, 1, 2, 17, 16, 15, 1 << 63, (1 << 63) + 1, 0x4000];
+    let sizes = [0, 1, 2, 15, 16, 17, 18, 1 << 63, u64::MAX];
+    let whole = chain(1, &[0], b"Name", [0; 4]);
+    let mut ends = Vec::new();
+    for vmaddr in starts.into_iter().flat_map(|n: u64| [n, n.wrapping_neg()]) {
+        for vmsize in sizes.into_iter().chain([vmaddr.wrapping_neg(), !vmaddr]) {
+            ends.push([vmaddr, vmsize]);
+        }
+    }
+    for &[vmaddr, vmsize] in &ends {
+        for [fileoff, filesize] in [[0, 0], [0, 16], [u64::MAX, 0], [u64::MAX, u64::MAX]] {
+            for place in 0..3 {
+                let mut input = whole.clone();
+                input.segments.push([0x8000, 16, 0, 16]);
+                let segment = [vmaddr, vmsize, fileoff, filesize];
+                input.segments.insert(place, segment);
+                input.targets = vec![vmaddr, vmaddr.wrapping_add(vmsize), 0x4000];
+                must(checker, &input);
+            }
+        }
+    }
+    for &[first, first_size] in &ends {
+        for &[second, second_size] in &ends {
+            let mut input = whole.clone();
+            input.segments.push([first, first_size, 0, 16]);
+            input.segments.push([second, second_size, 0, 0]);
+            must(checker, &input);
+        }
+    }
+}
+
+/// Every cut of an image; an image whose segments are refused is tried once, since they are refused before it is looked at.
+fn all_cuts(checker: &mut Checker, input: &mut Input) {
+    if refusal(input.numbers()).is_some() {
+        must(checker, input);
+        return;
+    }
+    while input.image.pop().is_some() {
+        must(checker, input);
+    }
+}
+
 /// Every cut of small images.
 fn cuts(checker: &mut Checker, images: u64) {
     let mut generator = Generator::default();
@@ -119,9 +164,7 @@ fn cuts(checker: &mut Checker, images: u64) {
             continue;
         }
         tried += 1;
-        while input.image.pop().is_some() {
-            must(checker, &input);
-        }
+        all_cuts(checker, &mut input);
     }
 }
 
@@ -351,9 +394,7 @@ fn full_cuts(checker: &mut Checker, images: u64) {
             continue;
         }
         tried += 1;
-        while input.image.pop().is_some() {
-            must(checker, &input);
-        }
+        all_cuts(checker, &mut input);
     }
 }
 
@@ -362,6 +403,7 @@ pub fn run(few: bool) {
     let mut checker = Checker::default();
     texts(&mut checker, few);
     chains(&mut checker);
+    segments(&mut checker);
     flags(&mut checker, few);
     cuts(&mut checker, if few { 2_000 } else { 100_000 });
     blocks(&mut checker, few);

@@ -98,6 +98,9 @@ const DAMAGED: [&[u8]; 24] = [
     &[0xff],
 ];
 
+/// One in this many lists keeps the segments that wrap.
+const WRAPPING: usize = 8;
+
 const TYPE_KINDS: [u8; 3] = [16, 17, 18];
 const CONTEXT_KINDS: [u8; 12] = [0, 0, 0, 1, 2, 3, 4, 16, 17, 18, 5, 31];
 
@@ -361,7 +364,8 @@ impl Generator {
     }
 }
 
-/// The segments: most map the planted bytes at `base`, with others before, after and over them.
+/// The segments: most map the planted bytes at `base`, with others before, after and over them. One list in fifty or so has a segment that
+/// wraps, which every call refuses.
 pub fn map(rng: &mut Rng, input: &mut Input, shift: u64, base: u64, length: u64) {
     let segments = &mut input.segments;
     // An address of 2^64 - 1 lies in no segment.
@@ -401,7 +405,7 @@ pub fn map(rng: &mut Rng, input: &mut Input, shift: u64, base: u64, length: u64)
         ]);
     }
     for _ in 0..rng.below(3) * usize::from(rng.one_in(2)) {
-        let noise = match rng.below(7) {
+        let noise = match rng.below(8) {
             0 => [base.wrapping_sub(64), 4096, 0, 0],
             1 => [u64::MAX - rng.below(16) as u64, rng.below(20) as u64, 0, 64],
             2 => [
@@ -418,6 +422,10 @@ pub fn map(rng: &mut Rng, input: &mut Input, shift: u64, base: u64, length: u64)
                 rng.below(24) as u64,
             ],
             5 => [rng.next(), rng.next(), rng.next(), rng.next()],
+            6 => {
+                let size = 1 + rng.below(length as usize + 32) as u64;
+                [size.wrapping_neg(), size, 0, rng.of(&[0, 64])]
+            }
             _ => [
                 0,
                 u64::MAX - rng.below(2) as u64,
@@ -427,6 +435,15 @@ pub fn map(rng: &mut Rng, input: &mut Input, shift: u64, base: u64, length: u64)
         };
         let at = rng.below(segments.len() + 1);
         segments.insert(at, noise);
+    }
+    // A long list, of segments that mostly lie elsewhere.
+    if rng.one_in(24) {
+        for _ in 0..3 + rng.below(8) {
+            let size = rng.below(64) as u64;
+            let start = base.wrapping_add(rng.next() % 0x10000).wrapping_sub(0x8000);
+            let at = rng.below(segments.len() + 1);
+            segments.insert(at, [start, size, 0, rng.of(&[0, size, 64])]);
+        }
     }
     if rng.one_in(6) && !segments.is_empty() {
         let i = rng.below(segments.len());
@@ -438,6 +455,12 @@ pub fn map(rng: &mut Rng, input: &mut Input, shift: u64, base: u64, length: u64)
             3 => n.wrapping_sub(1),
             _ => n.wrapping_add(rng.below(64) as u64),
         };
+    }
+    // So that there are answers to compare, most segments that would wrap end at 2^64 - 1, the last end that is accepted.
+    if !rng.one_in(WRAPPING) {
+        for s in segments {
+            s[1] = s[1].min(u64::MAX - s[0]);
+        }
     }
 }
 

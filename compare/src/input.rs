@@ -1,4 +1,4 @@
-//! One input of the comparison, which both sides get.
+//! One input of the comparison, which both sides get, and which lists of segments the proved side refuses.
 
 use std::fmt::Write;
 
@@ -85,6 +85,17 @@ impl Input {
         }
         Some(input)
     }
+}
+
+/// The number with which every call refuses a list of segment numbers: 1 if they are not four to a segment, else 9 if a segment's vmaddr +
+/// vmsize is 2^64 or more, wherever it stands and whether it has bytes in the file or not. The Rust refuses no list, and is not asked about
+/// these.
+pub fn refusal(numbers: &[u64]) -> Option<u64> {
+    if numbers.len() % 4 != 0 {
+        return Some(1);
+    }
+    let wraps = |s: &[u64]| s[0].checked_add(s[1]).is_none();
+    numbers.chunks_exact(4).any(wraps).then_some(9)
 }
 
 /// Lowercase hexadecimal; `-` stands for no bytes.

@@ -29,7 +29,7 @@ use input::Input;
 use std::time::Instant;
 
 const USAGE: &str = "usage: compare run [--seed S] [--count N] [--seconds T] [--full]   seeded inputs, N of them or as many as T seconds allow
-       compare exhaustive [--few]                     all short texts, all flags, chains around the limit, blocks around 2^64, all cuts
+       compare exhaustive [--few]                     all short texts, all flags, chains around the limit, segments and blocks around 2^64, all cuts
        compare cuts [--seed S] [--count N]            listings of cut images, against the whole ones filtered by paths
        compare one LINE                               the input of one printed line
        compare sample OUT [DIR]                       inputs with the Rust's answers; in DIR as stdin and stdout of a program
@@ -44,7 +44,7 @@ pub fn report(input: &Input, what: &str) -> ! {
         std::process::exit(1);
     }
     let small = shrink::smallest(input);
-    if let Err(what) = Checker::default().input(&small) {
+    if let Err(what) = Checker::always().input(&small) {
         println!("smallest: {what}");
         println!("{}", small.line());
     }
@@ -164,7 +164,7 @@ fn main() {
         }
         "one" => match words(args, 1) {
             [line] => match Input::of_line(line) {
-                Some(input) => match Checker::default().input(&input) {
+                Some(input) => match Checker::always().input(&input) {
                     Ok(()) => println!("no difference"),
                     Err(what) => report(&input, &what),
                 },

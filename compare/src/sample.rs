@@ -2,7 +2,7 @@
 
 use crate::check::{LIMIT, field_numbers, place_in, runtime};
 use crate::generate::{Generator, chain};
-use crate::input::{Input, hex};
+use crate::input::{Input, hex, refusal};
 use darwinscope::swift::{SwiftRuntime, lookup_field_name};
 use darwinscope::util::{read_cstr_at, relative_pointer, vm_to_file_offset_in};
 use std::collections::BTreeMap;
@@ -19,6 +19,7 @@ const HEAD: &str = "\
 #   name LENGTH BYTES                                          the joined name, then `refused 3` for a buffer one byte shorter (none if it is empty)
 #   refused 4                                                  or this, where a 257th context can be read
 #   end ROWS
+#   refused 9                                                  or this in place of all rows, where a segment's vmaddr + vmsize is 2^64 or more
 #   offset ADDRESS OFFSET                                      for each address: its file offset, or `nothing`
 #   field ADDRESS WHERE PLACE LENGTH                           the field name there: 1 in the image, 2 in the strings, or `nothing`
 #   text OFFSET PLACE LENGTH                                   the text at the image's offset address % (length + 2), or `nothing`
@@ -30,9 +31,18 @@ const SHOWN: usize = 8;
 /// Inputs kept for each case.
 const KEPT: u32 = 1;
 
-/// The answers of the Rust as lines.
+/// The answers as lines, the Rust's unless the segments are refused: then there are no rows. The addresses are looked up below the calls,
+/// where nothing is refused, and a segment that wraps ends the search as in the Rust.
 fn answers(input: &Input, out: &mut String) {
     let rt = runtime(input);
+    match refusal(input.numbers()) {
+        Some(number) => drop(writeln!(out, "refused {number:x}")),
+        None => rows(input, &rt, out),
+    }
+    addresses(input, &rt, out);
+}
+
+fn rows(input: &Input, rt: &SwiftRuntime<'_>, out: &mut String) {
     let image = &input.image[..];
     let mut slot = 0;
     let mut count = 0;
@@ -72,6 +82,10 @@ fn answers(input: &Input, out: &mut String) {
         count += 1;
     }
     let _ = writeln!(out, "end {count:x}");
+}
+
+fn addresses(input: &Input, rt: &SwiftRuntime<'_>, out: &mut String) {
+    let image = &input.image[..];
     for &target in &input.targets {
         let segments = input.segments.iter().map(|s| (s[0], s[1], s[2], s[3]));
         let offset = vm_to_file_offset_in(segments, target);
@@ -79,7 +93,7 @@ fn answers(input: &Input, out: &mut String) {
             Some(offset) => writeln!(out, "offset {target:x} {offset:x}"),
             None => writeln!(out, "offset {target:x} nothing"),
         };
-        let _ = match field_numbers(input, lookup_field_name(&rt, target)) {
+        let _ = match field_numbers(input, lookup_field_name(rt, target)) {
             [0, ..] => writeln!(out, "field {target:x} nothing"),
             [kind, place, length] => {
                 writeln!(out, "field {target:x} {kind:x} {place:x} {length:x}")
@@ -329,9 +343,41 @@ impl Cases {
         self.add(format!("field name: {what}"));
     }
 
+    /// Which segment is the first that wraps, and whether it ends at 2^64 or past it.
+    fn refused(&mut self, input: &Input, number: u64) {
+        let wraps = |s: &[u64; 4]| s[0].checked_add(s[1]).is_none();
+        let Some(at) = input.segments.iter().position(wraps) else {
+            return;
+        };
+        let [start, size, _, filesize] = input.segments[at];
+        let place = match at {
+            _ if input.segments.len() == 1 => "alone",
+            0 => "the first",
+            _ if at + 1 == input.segments.len() => "the last",
+            _ => "between others",
+        };
+        let end = match start.wrapping_add(size) {
+            0 => "ends at 2^64",
+            _ => "ends past 2^64",
+        };
+        let file = match filesize {
+            0 => "without file bytes",
+            _ => "with file bytes",
+        };
+        self.add(format!("refused with {number}: {place}, {end}, {file}"));
+    }
+
     fn of(input: &Input) -> Vec<String> {
         let mut cases = Cases::default();
         let rt = runtime(input);
+        if let Some(number) = refusal(input.numbers()) {
+            cases.refused(input, number);
+            for &target in &input.targets {
+                let (why, _) = Cases::translate(input, target);
+                cases.add(format!("refused with {number}, address: {why}"));
+            }
+            return cases.sorted();
+        }
         cases.add(format!(
             "types: {} bytes past the last slot",
             input.types.len() % 4

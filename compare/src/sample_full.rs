@@ -2,7 +2,7 @@
 //! replay without the Rust.
 
 use crate::check::place_in;
-use crate::input::hex;
+use crate::input::{hex, refusal};
 use darwinscope::swift::{
     DefaultOverrideEntryIter, FieldDescriptor, FieldDescriptorKind, OverrideEntryIter,
     PrespecializationIter, SwiftRuntime, SwiftSection, TypeDescriptor, TypeKindBody, VTableIter,
@@ -12,7 +12,8 @@ use std::fmt::Write;
 
 const HEAD: &str = "\
 # The Rust's answers, made by `compare sample-full` (compare/build, compare/src/sample_full.rs): replayed without the Rust by
-# crates/test_replay_full, whose head says how to read the lines. `#` says what an input is for.
+# crates/test_replay_full, whose head says how to read the lines. `#` says what an input is for. For segments that every call refuses,
+# `refused 9` stands in place of the rows.
 ";
 
 /// How many entries of a table, records of a descriptor and offsets of a struct are written out.
@@ -366,18 +367,7 @@ fn slot_va(input: &Full, slot: usize) -> Option<u64> {
     (rel != 0).then(|| relative_pointer(va, rel))
 }
 
-fn answers(input: &Full, out: &mut String) {
-    let rt = SwiftRuntime::for_comparison(
-        &input.image,
-        input
-            .segments
-            .iter()
-            .map(|s| (s[0], s[1], s[2], s[3]))
-            .collect(),
-        section(&input.types, input.types_va),
-        section(&input.fields, input.fields_va),
-        section(&input.strings, input.strings_va),
-    );
+fn all_rows(out: &mut String, input: &Full, rt: &SwiftRuntime<'_>) {
     let (mut slot, mut rows) = (0, 0);
     for row in rt.types() {
         // The slot: the next one that refers to the row.
@@ -396,6 +386,26 @@ fn answers(input: &Full, out: &mut String) {
         row_lines(out, &input.image, &row);
     }
     line(out, "rows", &[rows]);
+}
+
+/// The Rust's answers; for segments that are refused, no rows. The fields section is read below the calls, where nothing is refused, and a
+/// segment that wraps ends a search as in the Rust.
+fn answers(input: &Full, out: &mut String) {
+    let rt = SwiftRuntime::for_comparison(
+        &input.image,
+        input
+            .segments
+            .iter()
+            .map(|s| (s[0], s[1], s[2], s[3]))
+            .collect(),
+        section(&input.types, input.types_va),
+        section(&input.fields, input.fields_va),
+        section(&input.strings, input.strings_va),
+    );
+    match refusal(input.segments.as_flattened()) {
+        Some(number) => line(out, "refused", &[number]),
+        None => all_rows(out, input, &rt),
+    }
     // Past the first end too, up to a second one.
     let mut walk = rt.field_descriptors();
     let mut ends = 0;
@@ -1336,6 +1346,34 @@ impl Sample {
     }
 }
 
+impl Sample {
+    /// A segment that ends around 2^64 in every place of a list: the list is refused if the segment reaches 2^64, whether or not it has
+    /// bytes in the file, and also behind the one that has the row and the records.
+    fn refusals(&mut self) {
+        let row = row_at(HERE, STRUCT | 9 << 16, &[2, 0, 0, 0, 1, 0, 0, 0], &[0; 4]);
+        let mut fields = header([text(0, 0), 0], 0, 12, 1);
+        fields.extend(words(&[1, text(20, 3), string(24, 3)]));
+        let records = fields_at(HERE, &fields, &[]);
+        for (what, segment) in [
+            ("ends at 2^64 - 1", [17u64.wrapping_neg(), 16, 0, 16]),
+            ("ends at 2^64", [16u64.wrapping_neg(), 16, 0, 16]),
+            (
+                "without file bytes ends at 2^64",
+                [16u64.wrapping_neg(), 16, 0, 0],
+            ),
+            ("ends past 2^64", [HERE, u64::MAX, 0, 16]),
+        ] {
+            for (of, input) in [("row", &row), ("records", &records)] {
+                for place in 0..3 {
+                    let mut input = with_zero(input.clone());
+                    input.segments.insert(place, segment);
+                    self.add(format!("{of}: segment {place} {what}"), input);
+                }
+            }
+        }
+    }
+}
+
 pub fn run(out: &str, split: Option<&str>) {
     let mut sample = Sample { inputs: Vec::new() };
     sample.kinds();
@@ -1353,6 +1391,7 @@ pub fn run(out: &str, split: Option<&str>) {
     sample.field_tops();
     sample.names();
     sample.field_holes();
+    sample.refusals();
     let (mut all, mut stdin, mut stdout) = (HEAD.to_owned(), String::new(), String::new());
     for (what, input) in &sample.inputs {
         let mut lines = String::new();

@@ -4,7 +4,7 @@ use crate::check::Checker;
 use crate::input::Input;
 
 fn differs(input: &Input) -> bool {
-    Checker::default().input(input).is_err()
+    Checker::always().input(input).is_err()
 }
 
 /// Tries one simpler input: keeps it if the sides still differ.

@@ -1,7 +1,8 @@
 //! The readers of src/util.rs that the Swift reader does not call: LEB128, big-endian numbers, fixed texts, addresses of offsets.
 
 use crate::generate::Rng;
-use crate::input::Input;
+use crate::input::{Input, refusal};
+use crate::proved::{self, Answer, Refused, UNWRITTEN};
 use darwinscope::util::{
     cstr_from_fixed, file_offset_to_vm_in, read_sleb128, read_u32_be_at, read_u64_be_at,
     read_uleb128,
@@ -21,9 +22,6 @@ unsafe extern "C" {
         out: &mut [u64; 2],
     ) -> u64;
 }
-
-/// What an array holds before a call, so that a number that was not written is noticed.
-const UNWRITTEN: u64 = 0x5a5a_a5a5_0ff0_1234;
 
 /// Compares the Rust's answer with the status and the numbers of a proved call, and reports them if they differ.
 macro_rules! same {
@@ -75,32 +73,68 @@ fn fixed<const N: usize>(bytes: &[u8; N]) -> Result<(), String> {
     Ok(())
 }
 
-fn vm_address(segments: &[[u64; 4]], offset: u64) -> Result<(), String> {
-    let numbers = segments.as_flattened();
+/// The proved call by itself.
+pub fn vm_address(numbers: &[u64], offset: u64) -> Answer<[u64; 2]> {
     let mut out = [UNWRITTEN; 2];
     let status = unsafe { hodrupec_vm_address(numbers.as_ptr(), numbers.len(), offset, &mut out) };
+    if status != 0 {
+        return Err(proved::refusal(status, &out));
+    }
+    Ok(out)
+}
+
+/// The address of an offset; or that the segments are refused, which the Rust is not asked about.
+fn address(segments: &[[u64; 4]], offset: u64) -> Result<(), String> {
+    let numbers = segments.as_flattened();
+    if let Some(number) = refusal(numbers) {
+        return refused(numbers, offset, number);
+    }
     let list = segments.iter().map(|s| (s[0], s[1], s[2], s[3]));
     let rust = file_offset_to_vm_in(list, offset).map_or([0; 2], |v| [1, v]);
+    let ours = vm_address(numbers, offset)?;
     same!(
         rust,
-        status,
-        out,
+        0,
+        ours,
         "address of offset {offset:x} in {segments:x?}"
     );
     Ok(())
 }
 
-/// A count of numbers that is not a multiple of four is refused, and the answer's numbers are left unchanged.
-fn ragged(numbers: &[u64], offset: u64) -> Result<(), String> {
-    let mut out = [UNWRITTEN; 2];
-    let status = unsafe { hodrupec_vm_address(numbers.as_ptr(), numbers.len(), offset, &mut out) };
-    if (status, out) != (1, [UNWRITTEN; 2]) {
-        return Err(format!("{} numbers: {status} {out:x?}", numbers.len()));
+/// A list is refused with this number, and the answer's numbers are left unchanged.
+fn refused(numbers: &[u64], offset: u64, number: u64) -> Result<(), String> {
+    let ours = vm_address(numbers, offset);
+    if ours != Err(Refused(number)) {
+        return Err(format!(
+            "address of offset {offset:x} in {numbers:x?}: refused with {number}, proved {ours:x?}"
+        ));
     }
     Ok(())
 }
 
-/// LEB128 of up to three bytes; and nine equal continuation bytes with all tenth and eleventh bytes and some twelfth ones.
+/// Offsets around the file bytes of a segment that ends around 2^64, in both places of a list of two.
+fn addresses() -> Result<u64, String> {
+    let mut calls = 0;
+    for vmaddr in [0, 1, 15, 16, 17, 1u64 << 63].map(u64::wrapping_neg) {
+        for vmsize in [0, 1, 15, 16, 17, 1 << 63, u64::MAX] {
+            for filesize in [0, 16, u64::MAX] {
+                for fileoff in [0, 7, u64::MAX - 16, u64::MAX] {
+                    let list = [[vmaddr, vmsize, fileoff, filesize], [0x1000, 8, 0, 8]];
+                    for offset in [0, 1, 8, 15, 16, 17] {
+                        let offset = fileoff.wrapping_add(offset);
+                        address(&list, offset)?;
+                        address(&[list[1], list[0]], offset)?;
+                        calls += 2;
+                    }
+                }
+            }
+        }
+    }
+    Ok(calls)
+}
+
+/// LEB128 of up to three bytes; and nine equal continuation bytes with all tenth and eleventh bytes and some twelfth ones. Addresses of
+/// offsets in segments around 2^64.
 pub fn exhaustive() -> Result<u64, String> {
     let mut calls = 0;
     leb(&[])?;
@@ -136,11 +170,11 @@ pub fn exhaustive() -> Result<u64, String> {
     }
     for count in 1..12 {
         if count % 4 != 0 {
-            ragged(&[7; 12][..count], 7)?;
+            refused(&[7; 12][..count], 7, 1)?;
             calls += 1;
         }
     }
-    Ok(calls)
+    Ok(calls + addresses()?)
 }
 
 /// One of a few bytes, or any.
@@ -204,11 +238,11 @@ pub fn seeded(rng: &mut Rng, input: &Input) -> Result<u64, String> {
         let size = s[1].min(s[3]);
         for near in [s[2], s[2].wrapping_add(size), rng.next()] {
             let offset = near.wrapping_add(rng.below(5) as u64).wrapping_sub(2);
-            vm_address(&input.segments, offset)?;
+            address(&input.segments, offset)?;
             calls += 1;
         }
     } else {
-        vm_address(&input.segments, rng.next())?;
+        address(&input.segments, rng.next())?;
         calls += 1;
     }
     Ok(calls)

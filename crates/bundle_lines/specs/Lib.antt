@@ -1,3 +1,4 @@
 pub mod Printed
 pub mod PrintedLaws
 pub mod PrintsLaws
+pub mod Wrapped

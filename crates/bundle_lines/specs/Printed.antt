@@ -5,7 +5,7 @@ use mathlib.Core.Bool.{false}
 use mathlib.Core.Option.{Option, some, none, Option·map}
 use lib.ListN.{take}
 use Rattle.refusal.specs.Refusal.{Guarded, answered, refused, refusalNumber}
-use Rattle.bundle.specs.Open.{openBundle}
+use Rattle.bundle_parts.specs.Accepted.{acceptBundle}
 use Rattle.bundle_parts.specs.Parts.{bytesOf, segmentNumbers, listedNumbers}
 use Rattle.bundle.specs.declared.open.Layout.{Layout}
 use Rattle.type_lines.specs.Lines.{refusedLine, lines, Line, line, lineStep}
@@ -16,7 +16,7 @@ use Rattle.bundle_lines.specs.declared.lines.PrintStep.{PrintStep}
 -- all lines of a bundle
 unfoldable pub printed : List ℕ → List (List ℕ)
 printed s =
-    elim (openBundle s) [
+    elim (acceptBundle s) [
       | answered l ↦ lines (bytesOf s (l .image)) (segmentNumbers s l) (bytesOf s (l .types .part)) (l .types .address)
       | refused n ↦ refusedLine n ∷ []
     ]

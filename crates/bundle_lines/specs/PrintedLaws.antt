@@ -1,5 +1,5 @@
 -- A step of the printer, for each case of what is left to print.
-use Prim.Native.Nat.{ℕ, _%_}
+use Prim.Native.Nat.{ℕ}
 use native.Mathlib.Nat.{zero-add}
 use native.Mathlib.Omega.{arith}
 use mathlib.Core.Path.{_≡_, refl, sym, _∙_, ap}
@@ -7,7 +7,6 @@ use mathlib.Core.List.{List}
 use mathlib.Core.Bool.{Bool, true, false, cond}
 use mathlib.Core.Option.{Option, some, none, Option·map}
 use lib.ListN.{length, take, length-take}
-use lib.Dec.{eqb}
 use Rattle.refusal.specs.Refusal.{Guarded, answered, refused, mapped}
 use Rattle.util.specs.Buffer.{Put, atStart, overwritten}
 use Rattle.util.specs.Cstr.{place, partOf}
@@ -16,6 +15,7 @@ use Rattle.typedescriptor.specs.Slots.{Found, nextRow}
 use Rattle.bundle_parts.specs.Parts.{bytesOf, listedNumbers}
 use Rattle.bundle.specs.declared.open.Layout.{Layout}
 use Rattle.refusal.specs.Guarded.{guarded}
+use Rattle.refusal.specs.GuardedLaws.{mapped-guarded}
 use Rattle.type_lines.specs.Lines.{refusedLine, Line, line, lineText, lineAt, lineStep}
 use Rattle.type_lines.specs.LinesLaws.{Given, line-put}
 use Rattle.bundle_lines.specs.Printed.{Pending, rows, refusal, finished, withLayout, printStep, numbersFor}
@@ -28,14 +28,6 @@ numbers-as s l c p r list list′ e er el = (er ∙ ap (λ (q : Pending). length
 
 -- a line of the rows is one of the printer
 module _ (s segments : List ℕ) (l : Layout) (c : LineIter) (b : List ℕ) where
-  on-guarded : (x : Option (Line LineIter)) → mapped (Option·map (withLayout l)) (guarded segments (answered x)) ≡ guarded segments (answered (Option·map (withLayout l) x))
-  unfolding guarded
-  on-guarded x = go (eqb (length segments % 4) 0)
-    where
-      go : (t : Bool) → mapped (Option·map (withLayout l)) (cond t (answered x) (refused 1)) ≡ cond t (answered (Option·map (withLayout l) x)) (refused 1)
-      go true = refl
-      go false = refl
-
   -- with the same text
   text-kept : (g : Guarded (Option (Line LineIter))) → lineText g ≡ lineText (mapped (Option·map (withLayout l)) g)
   text-kept (answered none) = refl
@@ -48,7 +40,7 @@ module _ (s segments : List ℕ) (l : Layout) (c : LineIter) (b : List ℕ) wher
     unfolding printStep
     rows-print b′ x e =
         let g : Guarded (Option (Line LineIter)) = guarded segments (answered (lineStep image segments types (l .types .address) c)) in
-        let same : mapped (Option·map (withLayout l)) g ≡ guarded segments (answered (printStep s segments (rows l c))) = rw (ei, et) (on-guarded _) in
+        let same : mapped (Option·map (withLayout l)) g ≡ guarded segments (answered (printStep s segments (rows l c))) = rw (ei, et) (mapped-guarded segments _ (Option·map (withLayout l))) in
         (ap (mapped (Option·map (withLayout l))) (e .0) ∙ same, e .1 ∙ ap (overwritten b) (text-kept g ∙ ap lineText same))
 
 -- a step that needs no row

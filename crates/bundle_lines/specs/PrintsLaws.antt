@@ -10,12 +10,15 @@ use mathlib.Core.Option.{Option, some, none}
 use lib.ListN.{length, take, drop, length-append, length-drop}
 use lib.Seq.{length-take-le, take-at}
 use Rattle.refusal.specs.Refusal.{Guarded, answered, refused}
+use Rattle.refusal.specs.Guarded.{anyWrapping, fault}
+use Rattle.segment.specs.Segments.{segmentsOf}
 use Rattle.util.specs.Buffer.{atStart}
 use Rattle.util.specs.Cstr.{place, partOf}
 use Rattle.util.specs.CstrLaws.{part-in}
-use Rattle.bundle.specs.Open.{openBundle}
 use Rattle.bundle_parts.specs.Parts.{bytesOf, segmentNumbers}
-use Rattle.bundle_parts.specs.PartsLaws.{numbers-all, never-ragged}
+use Rattle.bundle_parts.specs.PartsLaws.{numbers-all}
+use Rattle.bundle_parts.specs.Accepted.{acceptBundle}
+use Rattle.bundle_parts.specs.AcceptedLaws.{accepted-is}
 use Rattle.bundle_parts.specs.LayoutLaws.{Fit, opened-fit}
 use Rattle.bundle.specs.declared.open.Layout.{Layout}
 use Rattle.typedescriptor.specs.Slots.{slots, Found, nextRow, rowsFrom}
@@ -149,40 +152,33 @@ bundle-prints s l n f h =
     rw (numbers-all s l f) (ap (λ (u : Taken). u .lines) u ∙ rw zero-add, ap (λ (u : Taken). printStep s ns (u .left)) u ∙ over-none s ns l _)
 
 -- for every bundle, the steps give what is printed, and then nothing is left
-pub prints : (s : List ℕ) (n : ℕ) → linesMost ≤ n → Prints s n (startOf (openBundle s)) (printed s)
+pub prints : (s : List ℕ) (n : ℕ) → linesMost ≤ n → Prints s n (startOf (acceptBundle s)) (printed s)
 unfolding printed
-prints s n h = go (openBundle s) refl
+prints s n h = go (acceptBundle s) refl
   where
-    go : (a : Guarded Layout) → openBundle s ≡ a
+    go : (a : Guarded Layout) → acceptBundle s ≡ a
         → Prints s n (startOf a)
         (elim a as (λ _. List (List ℕ)) [
           | answered l ↦ lines (bytesOf s (l .image)) (segmentNumbers s l) (bytesOf s (l .types .part)) (l .types .address)
           | refused r ↦ refusedLine r ∷ []
         ])
     go (refused r) e = refused-prints s r n (omega arith)
-    go (answered l) e = bundle-prints s l n (opened-fit s l e) h
+    go (answered l) e = bundle-prints s l n (opened-fit s l (accepted-is s l e .opens)) h
 
 -- ---- the program's call of the steps
 
 module _ (s : List ℕ) (p : Pending) where
-  -- the segments' numbers are whole segments, and are passed on from the start of their list
-  pub numbers-whole : length (numbersFor s p) % 4 ≡ 0
-  numbers-whole = go p
+  -- the segments' numbers are accepted
+  pub numbers-accepted : p ≡ startOf (acceptBundle s) → none ≡ fault (numbersFor s p)
+  unfolding fault anyWrapping segmentsOf
+  numbers-accepted e = rw e (go (acceptBundle s) refl)
     where
-      go : (q : Pending) → length (numbersFor s q) % 4 ≡ 0
-      go (rows l c) = never-ragged s l
-      go (refusal n) = refl
-      go finished = refl
-
-  module _ (r : ℕ) (list list′ : List ℕ) (er : r ≡ length (numbersFor s p)) (el : list′ ≡ atStart (numbersFor s p) list) where
-    pub numbers-fit : r ≤ length list′
-    numbers-fit = rw el (simp length-append (omega arith))
-
-    pub numbers-lent : take r list′ ≡ numbersFor s p
-    numbers-lent = rw el (take-at (numbersFor s p) (drop (length (numbersFor s p)) list) r (sym er))
+      go : (a : Guarded Layout) → acceptBundle s ≡ a → none ≡ fault (numbersFor s (startOf a))
+      go (answered l) e = let a = accepted-is s l e in a .sound ∙ ap fault (sym (numbers-all s l (opened-fit s l (a .opens))))
+      go (refused n) e = refl
 
   -- as many lines as the bundle has
-  pub all-lines : (segments : List ℕ) (n : ℕ) → p ≡ startOf (openBundle s) → segments ≡ numbersFor s p → n ≡ length (taken linesMost s segments p .lines) → n ≡ length (printed s)
+  pub all-lines : (segments : List ℕ) (n : ℕ) → p ≡ startOf (acceptBundle s) → segments ≡ numbersFor s p → n ≡ length (taken linesMost s segments p .lines) → n ≡ length (printed s)
   all-lines segments n e es en =
       en
       ∙ ap (λ (l : List ℕ). length (taken linesMost s l p .lines)) es

@@ -3,13 +3,14 @@ ghost use mathlib.Core.Path.{_≡_};
 ghost use lib.ListN.{length};
 ghost use Rattle.refusal.specs.Refusal.{answered};
 ghost use Rattle.util.specs.Buffer.{atStart, overwritten};
-ghost use Rattle.bundle.specs.Open.{openBundle};
+ghost use Rattle.bundle_parts.specs.Accepted.{acceptBundle};
 ghost use Rattle.refusal.specs.Guarded.{guarded};
 ghost use Rattle.type_lines.specs.Lines.{lineText};
 ghost use Rattle.bundle_lines.specs.Printed.{numbersFor, startOf, pendingOf, rows, printStep, printAnswer};
 use bundle::Layout;
 use bundle::Opened;
 use bundle_parts::SEGMENT_NUMBERS;
+use refusal::Fault;
 use refusal::Refusal;
 use type_lines::LINE_BYTES;
 use type_lines::LineIter;
@@ -36,9 +37,9 @@ pub enum PrintStep {
 
 // What a bundle prints, from its first line on.
 pub fn start(bytes: &[u8]) -> BundleLineIter
-    ensures { λ r. ⌜ pendingOf r ≡ startOf (openBundle (now (bytes .entry))) ⌝ }
+    ensures { λ r. ⌜ pendingOf r ≡ startOf (acceptBundle (now (bytes .entry))) ⌝ }
 {
-    match bundle::open_bundle(bytes) {
+    match bundle_parts::accept_bundle(bytes) {
         Opened::Bundle(layout) => BundleLineIter::Rows {
             layout,
             walk: LineIter {
@@ -73,8 +74,8 @@ impl BundleLineIter {
         ensures { λ r. ⌜ printAnswer (now (line .exit)) r ≡ guarded (now (segments .entry)) (answered (printStep (now (bytes .entry)) (now (segments .entry)) (pendingOf self))) ⌝ }
         ensures { λ _. ⌜ now (line .exit) ≡ overwritten (now (line .entry)) (lineText (guarded (now (segments .entry)) (answered (printStep (now (bytes .entry)) (now (segments .entry)) (pendingOf self))))) ⌝ }
     {
-        if segments.len() % 4 != 0 {
-            return PrintStep::Refused(Refusal::RaggedSegments);
+        if let Fault::Refused(refusal) = refusal::find_fault(segments) {
+            return PrintStep::Refused(refusal);
         }
         match self {
             BundleLineIter::Rows { layout, walk } => rows_line(bytes, segments, layout, walk, line),

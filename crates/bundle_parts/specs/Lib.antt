@@ -1,3 +1,5 @@
 pub mod LayoutLaws
+pub mod Accepted
+pub mod AcceptedLaws
 pub mod Parts
 pub mod PartsLaws

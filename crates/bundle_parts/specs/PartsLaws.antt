@@ -7,7 +7,7 @@ use native.Mathlib.Omega.{arith}
 use mathlib.Core.Path.{_≡_, refl, sym, _∙_, ap}
 use mathlib.Core.List.{List, [], _∷_, _++_, append-assoc}
 use mathlib.Core.Option.{some, none}
-use lib.ListN.{length, take, drop, getD, set, getElem?, length-set, length-drop}
+use lib.ListN.{length, take, drop, getD, set, getElem?, length-set, length-append, length-drop}
 use lib.Seq.{take-at, drop-drop, drop-cons, set-at, length-take-le}
 use borrow.Author.Tests.{le-leb, lt-leb}
 use Rattle.util.specs.LittleEndian.{littleEndian}
@@ -157,9 +157,13 @@ module _ (s : List ℕ) (l : Layout) where
   pub numbers-whole : Fit s l → 8 * length (segmentNumbers s l) ≡ l .segments .length
   numbers-whole f = omega (arith, numbers-length (4 * (length (segmentBytes s l) / 32)) (segmentBytes s l), segments-length s l f, f .whole)
 
-  -- the part of the list that a caller passes on
-  pub listed-part : (list list′ : List ℕ) (r : ℕ) → r ≡ length (listedNumbers s l) → list′ ≡ listedNumbers s l ++ drop r list → take r list′ ≡ listedNumbers s l
-  listed-part list list′ r er e = rw e (take-at (listedNumbers s l) (drop r list) r (sym er))
+-- numbers at the start of a list, which a caller passes on
+module _ (ns list list′ : List ℕ) (r : ℕ) (er : r ≡ length ns) (el : list′ ≡ atStart ns list) where
+  pub start-fits : r ≤ length list′
+  start-fits = rw el (simp length-append (omega arith))
+
+  pub start-lent : take r list′ ≡ ns
+  start-lent = rw el (take-at ns (drop (length ns) list) r (sym er))
 
 -- ---- a segment by its number
 

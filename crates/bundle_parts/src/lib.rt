@@ -1,7 +1,9 @@
-// What lies in an opened bundle: the image, its sections and its segments.
+// What lies in an opened bundle: the image, its sections and its segments. And which bundles are accepted, segments and all.
+mod accepted;
 mod parts;
 mod segments;
 
+pub use accepted::accept_bundle;
 pub use parts::Segment;
 pub use parts::SegmentRead;
 pub use parts::fields_part;

@@ -1,11 +1,8 @@
 -- What an answer says about what is made from it: the start of a descriptor's blocks, and the block of a kind.
-use Prim.Native.Nat.{ℕ, _%_}
-use mathlib.Core.Path.{_≡_, refl, _∙_, ap}
+use Prim.Native.Nat.{ℕ}
+use mathlib.Core.Path.{_≡_, _∙_, ap}
 use mathlib.Core.List.{List, [], _∷_, _++_}
-use mathlib.Core.Bool.{Bool, true, false, cond}
 use mathlib.Core.Option.{Option, some, none}
-use lib.ListN.{length}
-use lib.Dec.{eqb}
 use Rattle.refusal.specs.Refusal.{Guarded, answered, refused, mapped}
 use Rattle.runtime.specs.Reads.{andThen, run}
 use Rattle.classtrailers.specs.Blocks.{rowNumber, kindNumbered}
@@ -17,7 +14,7 @@ use Rattle.type_body.specs.Items.{trailers, trailersOf}
 use Rattle.type_body.specs.declared.trailers.TrailingRead.{TrailingRead}
 use Rattle.full_rows.specs.FullRows.{recordedNumbers}
 use Rattle.refusal.specs.Guarded.{guarded}
-use Rattle.refusal.specs.GuardedLaws.{answered-is}
+use Rattle.refusal.specs.GuardedLaws.{answered-is, mapped-guarded}
 use Rattle.steps.specs.Blocks.{kindFrom}
 use Rattle.c_numbers.specs.Flags.{flagNumber}
 use Rattle.c_blocks.specs.Blocks.{startAt, startNumbers, blockNumbers, kindBlockNumbers, blockNumbered}
@@ -25,19 +22,11 @@ use Rattle.c_blocks.specs.Blocks.{startAt, startNumbers, blockNumbers, k
 -- ---- what is made from an answer
 
 module _ (segments : List ℕ) {A B : Type 0} (f : A → B) (x : A) where
-  guarded-then : mapped f (guarded segments (answered x)) ≡ guarded segments (answered (f x))
-  unfolding guarded
-  guarded-then = go (eqb (length segments % 4) 0)
-    where
-      go : (t : Bool) → mapped f (cond t (answered x) (refused 1)) ≡ cond t (answered (f x)) (refused 1)
-      go true = refl
-      go false = refl
-
   pub answered-then : (y : A) → answered y ≡ guarded segments (answered x) → answered (f y) ≡ guarded segments (answered (f x))
-  answered-then y e = ap (mapped f) e ∙ guarded-then
+  answered-then y e = ap (mapped f) e ∙ mapped-guarded segments (answered x) f
 
   pub refused-then : (n : ℕ) → refused n ≡ guarded segments (answered x) → refused n ≡ guarded segments (answered (f x))
-  refused-then n e = ap (mapped f) e ∙ guarded-then
+  refused-then n e = ap (mapped f) e ∙ mapped-guarded segments (answered x) f
 
 -- ---- numbers
 

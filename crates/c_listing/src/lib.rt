@@ -12,7 +12,7 @@ ghost use Rattle.refusal.specs.Guarded.{guarded};
 ghost use Rattle.c_rows.specs.Numbers.{Tells};
 ghost use Rattle.c_listing.specs.Listing.{twoNumbers, headBytes, rowBytes, listingFrom, listingNumbers, listingBytes};
 use qualified_name::QualifiedName;
-use refusal::Refusal;
+use refusal::Fault;
 use segment::Mapping;
 use typedescriptor::Descriptor;
 use typedescriptor::Row;
@@ -165,8 +165,8 @@ pub extern "C" fn hodrupec_listing(
     ensures { λ r. ⌜ Tells (mapped listingNumbers (guarded (now (segments .entry)) (answered (listingFrom (now (image .entry)) (now (segments .entry)) (now (types .entry)) vmaddr start (length (now (buffer .entry))))))) (now (out .entry)) r (now (out .exit)) ⌝ }
     ensures { λ _. ⌜ now (buffer .exit) ≡ overwritten (now (buffer .entry)) (answerOf (mapped listingBytes (guarded (now (segments .entry)) (answered (listingFrom (now (image .entry)) (now (segments .entry)) (now (types .entry)) vmaddr start (length (now (buffer .entry)))))))) ⌝ }
 {
-    if segments.len() % 4 != 0 {
-        return refusal::number(Refusal::RaggedSegments);
+    if let Fault::Refused(refusal) = refusal::find_fault(segments) {
+        return refusal::number(refusal);
     }
     *out = put_rows(image, segments, types, vmaddr, start, buffer);
     ANSWERED

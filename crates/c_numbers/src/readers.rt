@@ -13,7 +13,7 @@ ghost use Rattle.c_rows.specs.Numbers.{Tells, valueNumbers};
 ghost use Rattle.c_numbers.specs.Readers.{ulebNumbers, slebNumbers, lengthNumbers};
 use leb128::Sleb128;
 use leb128::Uleb128;
-use refusal::Refusal;
+use refusal::Fault;
 use segment::VmAddress;
 use util::ReadU32;
 use util::ReadU64;
@@ -119,8 +119,8 @@ pub extern "C" fn hodrupec_fixed_text(bytes: &[u8], out: &mut [u64; 2]) -> u64
 pub extern "C" fn hodrupec_vm_address(segments: &[u64], offset: u64, out: &mut [u64; 2]) -> u64
     ensures { λ r. ⌜ Tells (mapped valueNumbers (guarded (now (segments .entry)) (answered (vmAddress (segmentsOf (now (segments .entry))) offset)))) (now (out .entry)) r (now (out .exit)) ⌝ }
 {
-    if segments.len() % 4 != 0 {
-        return refusal::number(Refusal::RaggedSegments);
+    if let Fault::Refused(refusal) = refusal::find_fault(segments) {
+        return refusal::number(refusal);
     }
     match segment::file_offset_to_vm_in(segments, offset) {
         VmAddress::At(address) => {

@@ -13,7 +13,7 @@ ghost use Rattle.refusal.specs.Guarded.{guarded};
 ghost use Rattle.c_rows.specs.Numbers.{Tells, valueNumbers, rowNumbers, chainStepNumbers, oneNumber, namedRow};
 use parent::ParentChain;
 use qualified_name::QualifiedName;
-use refusal::Refusal;
+use refusal::Fault;
 use runtime::FieldName;
 use segment::FileOffset;
 use steps::NextContext;
@@ -56,8 +56,8 @@ pub fn field_name_numbers(name: FieldName) -> [u64; 3]
 pub extern "C" fn hodrupec_file_offset(segments: &[u64], vmaddr: u64, out: &mut [u64; 2]) -> u64
     ensures { λ r. ⌜ Tells (mapped valueNumbers (guarded (now (segments .entry)) (answered (fileOffset (segmentsOf (now (segments .entry))) vmaddr)))) (now (out .entry)) r (now (out .exit)) ⌝ }
 {
-    if segments.len() % 4 != 0 {
-        return refusal::number(Refusal::RaggedSegments);
+    if let Fault::Refused(refusal) = refusal::find_fault(segments) {
+        return refusal::number(refusal);
     }
     *out = match segment::vm_to_file_offset_in(segments, vmaddr) {
         FileOffset::At(offset) => [THERE, offset],
@@ -87,8 +87,8 @@ pub extern "C" fn hodrupec_field_name(
 ) -> u64
     ensures { λ r. ⌜ Tells (mapped fieldNumbers (guarded (now (segments .entry)) (answered (fieldName (now (image .entry)) (now (segments .entry)) (now (strings .entry)) vmaddr «target_va»)))) (now (out .entry)) r (now (out .exit)) ⌝ }
 {
-    if segments.len() % 4 != 0 {
-        return refusal::number(Refusal::RaggedSegments);
+    if let Fault::Refused(refusal) = refusal::find_fault(segments) {
+        return refusal::number(refusal);
     }
     let name = runtime::lookup_field_name(
         image,

@@ -9,6 +9,7 @@ ghost use Rattle.certainty.specs.JoinedName.{nameCertain};
 ghost use Rattle.certainty.specs.Calls.{certaintyOf};
 use crate::chain::chain_certain;
 use crate::row::slot_certain;
+use refusal::Fault;
 use refusal::Refusal;
 use typedescriptor::Descriptor;
 
@@ -40,8 +41,8 @@ pub fn row_certain(
 ) -> Certainty
     ensures { λ r. ⌜ certaintyOf r ≡ guarded (now (segments .entry)) (answered (certain (now (image .entry)) (now (segments .entry)) (slotRow (now (types .entry)) vmaddr slot))) ⌝ }
 {
-    if segments.len() % 4 != 0 {
-        return Certainty::Refused(Refusal::RaggedSegments);
+    if let Fault::Refused(refusal) = refusal::find_fault(segments) {
+        return Certainty::Refused(refusal);
     }
     told(slot_certain(image, segments, types, vmaddr, slot))
 }
@@ -56,8 +57,8 @@ pub fn name_certain(
 ) -> Certainty
     ensures { λ r. ⌜ certaintyOf r ≡ guarded (now (segments .entry)) (answered (nameCertain (now (image .entry)) (now (segments .entry)) (now (types .entry)) vmaddr slot)) ⌝ }
 {
-    if segments.len() % 4 != 0 {
-        return Certainty::Refused(Refusal::RaggedSegments);
+    if let Fault::Refused(refusal) = refusal::find_fault(segments) {
+        return Certainty::Refused(refusal);
     }
     if !slot_certain(image, segments, types, vmaddr, slot) {
         return Certainty::Open;

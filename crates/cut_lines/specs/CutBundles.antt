@@ -27,6 +27,8 @@ use Rattle.items.specs.ClearLaws.{Outside, nowhere, there}
 use Rattle.items.specs.CutLaws.{keptRows}
 use Rattle.bundle.specs.Bundle.{part, bodyFits, sectionIn}
 use Rattle.bundle.specs.Open.{isAt, takeAt, answer, openBundle}
+use Rattle.bundle_parts.specs.Accepted.{acceptBundle}
+use Rattle.refusal.specs.Guarded.{anyWrapping, fault, guarded}
 use Rattle.bundle.specs.declared.open.Layout.{Layout}
 use Rattle.bundle_parts.specs.Parts.{bytesOf, numbers, segmentNumbers}
 use Rattle.type_lines.specs.Digits.{digit, hex, decimal}
@@ -82,7 +84,7 @@ pub record Met : Type 0 where
   pub oak-107 : CutBundle oak oak′ (layout 113) (layout 107) 107
 
 pub met : Met
-unfolding openBundle answer takeAt isAt bodyFits sectionIn littleEndian partOf numbers
+unfolding acceptBundle guarded fault anyWrapping segmentsOf openBundle answer takeAt isAt bodyFits sectionIn littleEndian partOf numbers
 met =
     record {
       clue-27 = record { whole = refl; opened = refl; image = refl; segments = refl; types = refl; typesStart = refl };
@@ -146,7 +148,7 @@ pub record CutBundlesWorked : Type 0 where
   pub oak-said : said oak (layout 113) 107 ≡ lineOf 52 class (letters "Oak") ∷ ending 49 ∷ []
 
 pub cut-bundles-worked : CutBundlesWorked
-unfolding run path extent bind bytesPlace within textOffset segmentsOf fileOffset decides inFile table following goesOn textAt textLength untilNul unsignedIn signedIn littleAt signedAt bytesAt littleEndian twosComplement relativeAddress relativePointer descriptor rowName slotRow rowsFrom rows kindOf headerIn header headerAt slotName nameAt name contextName withName contextRead chain hops qualifiedName tooDeep nameAnswer digit hex decimal kindWord nameText rowLine endLine lines printed keptRows openBundle answer takeAt isAt bodyFits sectionIn partOf numbers
+unfolding acceptBundle guarded fault anyWrapping run path extent bind bytesPlace within textOffset segmentsOf fileOffset decides inFile table following goesOn textAt textLength untilNul unsignedIn signedIn littleAt signedAt bytesAt littleEndian twosComplement relativeAddress relativePointer descriptor rowName slotRow rowsFrom rows kindOf headerIn header headerAt slotName nameAt name contextName withName contextRead chain hops qualifiedName tooDeep nameAnswer digit hex decimal kindWord nameText rowLine endLine lines printed keptRows openBundle answer takeAt isAt bodyFits sectionIn partOf numbers
 cut-bundles-worked = record { clue-whole = refl; oak-whole = refl; clue-said = refl; oak-said = refl }
 
 -- so this is what they print, by the law

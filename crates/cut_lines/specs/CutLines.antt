@@ -13,7 +13,7 @@ use Rattle.parent.specs.Context.{header, name, Context}
 use Rattle.parent.specs.Chain.{contextsMost, headerAt, chain}
 use Rattle.qualified_name.specs.Name.{hops, tooDeep}
 use Rattle.items.specs.Keys.{Sections}
-use Rattle.bundle.specs.Open.{openBundle}
+use Rattle.bundle_parts.specs.Accepted.{acceptBundle}
 use Rattle.bundle_parts.specs.Parts.{bytesOf, segmentNumbers}
 use Rattle.bundle.specs.declared.open.Layout.{Layout}
 use Rattle.type_lines.specs.Digits.{hex}
@@ -76,8 +76,8 @@ sectionsOf b l =
 
 -- a bundle `b′` has the segments and the types section of `b`, and the first `c` bytes of its image
 pub record CutBundle (b b′ : List ℕ) (l l′ : Layout) (c : ℕ) : Type 0 where
-  pub whole : openBundle b ≡ answered l
-  pub opened : openBundle b′ ≡ answered l′
+  pub whole : acceptBundle b ≡ answered l
+  pub opened : acceptBundle b′ ≡ answered l′
   pub image : bytesOf b′ (l′ .image) ≡ take c (bytesOf b (l .image))
   pub segments : segmentNumbers b′ l′ ≡ segmentNumbers b l
   pub types : bytesOf b′ (l′ .types .part) ≡ bytesOf b (l .types .part)

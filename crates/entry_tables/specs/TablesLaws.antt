@@ -22,8 +22,8 @@ use Rattle.segment.specs.Mapping.{Located, Has}
 use Rattle.segment.specs.declared.segment.Mapping.{Mapping}
 use Rattle.segment.specs.declared.segment.Around.{Around}
 use Rattle.refusal.specs.Refusal.{Guarded, answered, refused, mapped, answerOf}
-use Rattle.refusal.specs.Guarded.{guarded}
-use Rattle.refusal.specs.GuardedLaws.{ragged, whole}
+use Rattle.refusal.specs.Guarded.{fault, guarded}
+use Rattle.refusal.specs.GuardedLaws.{refused-list, accepted-list}
 use Rattle.runtime.specs.Reads.{bytesPlace, run}
 use Rattle.runtime.specs.CallsLaws.{bytes-at, bytes-past, bytes-nowhere, bytes-within}
 use Rattle.vtable.specs.Entries.{Word, Layout, Entry, entrySize, entryOf, entryAddress, entryAt, Step, entryStep, wordAt, wordsFrom}
@@ -622,24 +622,24 @@ lists-least image segments numbered more r stride c b b′ x e h =
 
 -- a call that lists into a buffer: its answer, and the numbers at the buffer's start
 module _ {A B : Type 0} (tell : A → B) (say : A → List ℕ) (segments : List ℕ) (r : A) (b : List ℕ) where
-  pub listed-ragged : (length segments % 4 ≡ 0 → ⊥)
-      → (refused 1 ≡ mapped tell (guarded segments (answered r))) × (b ≡ overwritten b (answerOf (mapped say (guarded segments (answered r)))))
-  listed-ragged h = rw (sym (ragged segments (answered r) h)) (refl, refl)
+  pub listed-refused : {n : ℕ} → some n ≡ fault segments
+      → (refused n ≡ mapped tell (guarded segments (answered r))) × (b ≡ overwritten b (answerOf (mapped say (guarded segments (answered r)))))
+  listed-refused h = rw (sym (refused-list segments (answered r) h)) (refl, refl)
 
-  pub listed-whole : (x : B) (b′ : List ℕ) → (x ≡ tell r) × (b′ ≡ atStart (say r) b) → length segments % 4 ≡ 0
+  pub listed-accepted : (x : B) (b′ : List ℕ) → (x ≡ tell r) × (b′ ≡ atStart (say r) b) → none ≡ fault segments
       → (answered x ≡ mapped tell (guarded segments (answered r))) × (b′ ≡ overwritten b (answerOf (mapped say (guarded segments (answered r)))))
-  listed-whole x b′ e h = rw (sym (whole segments (answered r) h)) (ap answered (e .0), e .1)
+  listed-accepted x b′ e h = rw (sym (accepted-list segments (answered r) h)) (ap answered (e .0), e .1)
 
 module _ (segments : List ℕ) (t : WholeTable) (b : List ℕ) where
   abbrev G : Guarded WholeTable
   G = guarded segments (answered t)
 
-  pub table-ragged : (x : TableAnswer) → refused 1 ≡ tableAnswer x → (length segments % 4 ≡ 0 → ⊥) → GivesTable G b x b
-  table-ragged x e h = record { answers = sym e ∙ ap (mapped counts) (ragged segments (answered t) h); holds = ap (λ (g : Guarded WholeTable). bufferWith g b) (ragged segments (answered t) h) }
+  pub table-refused : (x : TableAnswer) {n : ℕ} → refused n ≡ tableAnswer x → some n ≡ fault segments → GivesTable G b x b
+  table-refused x e h = record { answers = sym e ∙ ap (mapped counts) (refused-list segments (answered t) h); holds = ap (λ (g : Guarded WholeTable). bufferWith g b) (refused-list segments (answered t) h) }
 
-  pub table-whole : (x : Listed) (b′ : List ℕ) → Lists t b x b′ → length segments % 4 ≡ 0 → GivesTable G b (TableAnswer.Listed x) b′
-  table-whole x b′ e h =
-      record { answers = ap answered (e .0) ∙ ap (mapped counts) (whole segments (answered t) h); holds = e .1 ∙ ap (λ (g : Guarded WholeTable). bufferWith g b) (whole segments (answered t) h) }
+  pub table-accepted : (x : Listed) (b′ : List ℕ) → Lists t b x b′ → none ≡ fault segments → GivesTable G b (TableAnswer.Listed x) b′
+  table-accepted x b′ e h =
+      record { answers = ap answered (e .0) ∙ ap (mapped counts) (accepted-list segments (answered t) h); holds = e .1 ∙ ap (λ (g : Guarded WholeTable). bufferWith g b) (accepted-list segments (answered t) h) }
 
 -- ---- what a table says
 

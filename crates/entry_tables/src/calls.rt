@@ -5,6 +5,7 @@ ghost use Rattle.entry_tables.specs.Tables.{shape, guardedTable, GivesTa
 use crate::list::Listed;
 use crate::list::list_entries;
 use field::FieldRecordIter;
+use refusal::Fault;
 use refusal::Refusal;
 use vtable::EntryIter;
 
@@ -26,8 +27,8 @@ fn table(
 ) -> TableAnswer
     ensures { λ r. ⌜ GivesTable (guardedTable (now (image .entry)) (now (segments .entry)) (shape numbered more stride) cursor (now (buffer .entry))) (now (buffer .entry)) r (now (buffer .exit)) ⌝ }
 {
-    if segments.len() % 4 != 0 {
-        return TableAnswer::Refused(Refusal::RaggedSegments);
+    if let Fault::Refused(refusal) = refusal::find_fault(segments) {
+        return TableAnswer::Refused(refusal);
     }
     TableAnswer::Listed(list_entries(image, segments, cursor, numbered, more, stride, buffer))
 }

@@ -6,6 +6,7 @@ ghost use Rattle.refusal.specs.Guarded.{guarded};
 ghost use Rattle.full_rows.specs.FullRows.{fullRowsIn, givenOf, numbersOf, fullRowsAnswer};
 use crate::rows::Given;
 use crate::rows::put_rows;
+use refusal::Fault;
 use refusal::Refusal;
 
 pub enum FullRows {
@@ -27,8 +28,8 @@ pub fn full_rows(
     ensures { λ r. ⌜ fullRowsAnswer r ≡ mapped givenOf (guarded (now (segments .entry)) (answered (fullRowsIn (now (image .entry)) (now (segments .entry)) (now (types .entry)) vmaddr start (length (now (buffer .entry)))))) ⌝ }
     ensures { λ _. ⌜ now (buffer .exit) ≡ overwritten (now (buffer .entry)) (answerOf (mapped numbersOf (guarded (now (segments .entry)) (answered (fullRowsIn (now (image .entry)) (now (segments .entry)) (now (types .entry)) vmaddr start (length (now (buffer .entry)))))))) ⌝ }
 {
-    if segments.len() % 4 != 0 {
-        return FullRows::Refused(Refusal::RaggedSegments);
+    if let Fault::Refused(refusal) = refusal::find_fault(segments) {
+        return FullRows::Refused(refusal);
     }
     FullRows::Given(put_rows(image, segments, types, vmaddr, start, buffer))
 }

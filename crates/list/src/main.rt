@@ -1,24 +1,29 @@
 // Prints the listing of a bundle, from a file or from standard input: each step's line is written, and nothing else.
 ghost use mathlib.Core.Path.{_≡_};
-ghost use mathlib.Core.Option.{some};
-ghost use Prim.Native.Nat.{_%_, _≤_, _<_};
+ghost use mathlib.Core.Option.{some, none};
+ghost use Prim.Native.Nat.{_≤_, _<_};
 ghost use lib.ListN.{length};
 ghost use Rattle.refusal.specs.Refusal.{answered};
+ghost use Rattle.refusal.specs.Guarded.{fault};
 ghost use Rattle.util.specs.Cstr.{place, partOf};
 ghost use Rattle.bundle.specs.Open.{bundleMost};
 ghost use Rattle.type_lines.specs.Lines.{lineText};
 ghost use Rattle.bundle_lines.specs.Printed.{pendingOf, printStep, printed, linesMost, taken};
 ghost use Rattle.list.specs.Input.{Came};
 use bundle::BUNDLE_BYTES;
+use bundle::Layout;
+use bundle::Opened;
 use bundle_lines::BundleLineIter;
 use bundle_lines::LINES;
 use bundle_lines::PrintStep;
 use bundle_parts::SEGMENT_NUMBERS;
+use bundle_parts::SegmentRead;
 use bundle_rules::Broken;
 use bundle_rules::Rule;
 use libc::STDERR_FILENO;
 use libc::STDIN_FILENO;
 use libc::STDOUT_FILENO;
+use refusal::Wrapping;
 use type_lines::LINE_BYTES;
 use util::ReadU32;
 
@@ -47,7 +52,7 @@ fn line_part(line: &[u8; LINE_BYTES], length: usize) -> &[u8]
 
 // Steps to the end. Lines are written as long as they can be.
 fn print_lines(bytes: &[u8], segments: &[u64], first: BundleLineIter) -> Written
-    requires { ⌜ length (now segments) % 4 ≡ 0 ⌝ }
+    requires { ⌜ none ≡ fault (now segments) ⌝ }
     ensures { λ r. ⌜ r .lines ≡ length (taken linesMost (now (bytes .entry)) (now (segments .entry)) (pendingOf first) .lines) ⌝ }
 {
     let mut line = [0u8; LINE_BYTES];
@@ -142,6 +147,35 @@ fn say_macho(bytes: &[u8]) {
     );
 }
 
+fn say_number(before: &[u8], n: u64) {
+    say(before);
+    io::print_hex(STDERR_FILENO, n, 16);
+}
+
+// Which segment a bundle is refused with 9 for, and its addresses.
+fn say_wrapping(bytes: &[u8], layout: Layout) {
+    let mut numbers = [0u64; SEGMENT_NUMBERS];
+    let count = bundle_parts::segment_numbers(bytes, layout, &mut numbers);
+    if let Wrapping::At(number) = refusal::wrapping_segment(&numbers[..count]) {
+        say(b"list: refused 9: segment ");
+        io::print_decimal(STDERR_FILENO, std::num::wrapping_add_u64(number as u64, 1));
+        say(b" of ");
+        io::print_decimal(STDERR_FILENO, (count / 4) as u64);
+        if let SegmentRead::Segment(segment) = bundle_parts::segment(bytes, layout, number) {
+            say_number(b" does not end below 2^64: vmaddr 0x", segment.vmaddr);
+            say_number(b", vmsize 0x", segment.vmsize);
+        }
+        say(b"\n");
+    }
+}
+
+// Why a bundle by the format's rules is refused, if it is.
+fn say_segments(bytes: &[u8]) {
+    if let Opened::Bundle(layout) = bundle::open_bundle(bytes) {
+        say_wrapping(bytes, layout);
+    }
+}
+
 fn say_refused(bytes: &[u8]) {
     if is_macho(bytes) {
         say_macho(bytes);
@@ -149,6 +183,7 @@ fn say_refused(bytes: &[u8]) {
         say(b"list: refused 5: a bundle has at most 65536 bytes\n");
     } else {
         say_broken(bytes);
+        say_segments(bytes);
     }
 }
 

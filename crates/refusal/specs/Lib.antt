@@ -2,3 +2,4 @@ pub mod Refusal
 pub mod RefusalLaws
 pub mod Guarded
 pub mod GuardedLaws
+pub mod Lists

@@ -14,6 +14,7 @@ refusalNumber Refusal.BrokenBundle = 2
 refusalNumber Refusal.LongName = 3
 refusalNumber Refusal.DeepContexts = 4
 refusalNumber Refusal.LongBundle = 5
+refusalNumber Refusal.WrappingSegment = 9
 
 -- the same refusal, or another answer
 abbrev pub mapped : {A B : Type 0} → (A → B) → Guarded A → Guarded B

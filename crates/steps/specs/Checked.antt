@@ -1,7 +1,7 @@
 -- docs/SPECIFICATION.md, "Checked lines": the worked examples that are proved, as one table under one theorem.
-use Prim.Native.Nat.{ℕ, suc, _-_, _^_}
+use Prim.Native.Nat.{ℕ, suc, _-_, _%_, _^_}
 use native.Mathlib.Omega.{arith}
-use mathlib.Core.Path.{_≡_, refl}
+use mathlib.Core.Path.{_≡_, refl, sym}
 use mathlib.Core.List.{List, [], _∷_}
 use mathlib.Core.Bool.{true, false}
 use mathlib.Core.Option.{some, none}
@@ -13,6 +13,8 @@ use Rattle.utf8.specs.Table.{table}
 use Rattle.utf8.specs.Text.{following, goesOn, wellFormed, untilNul, textLength}
 use Rattle.util.specs.Pointer.{relativePointer}
 use Rattle.segment.specs.Segments.{segmentsOf, fileOffset, decides, inFile}
+use Rattle.refusal.specs.Guarded.{fault}
+use Rattle.refusal.specs.GuardedLaws.{wrapped-at}
 use Rattle.util.specs.Cstr.{place, textAt}
 use Rattle.classtrailers.specs.Checked as Blocks
 use Rattle.type_body.specs.Checked as Bodies
@@ -25,7 +27,8 @@ pub record Checked : Type 0 where
   pub around : relativePointer 0 (negsuc 0) ≡ 2 ^ 64 - 1
   pub last-byte : fileOffset (segmentsOf partly) 0x101f ≡ some 31
   pub no-byte : fileOffset (segmentsOf partly) 0x1020 ≡ none
-  pub wrapping : (rest : List ℕ) (address : ℕ) → fileOffset (segmentsOf ((2 ^ 64 - 16) ∷ 16 ∷ 0 ∷ 16 ∷ rest)) address ≡ none
+  -- `wrapped-at` says it of a segment at any place
+  pub wrapping : (rest : List ℕ) → length rest % 4 ≡ 0 → fault ((2 ^ 64 - 16) ∷ (16 ∷ (0 ∷ (16 ∷ rest)))) ≡ some 9
   pub euro : wellFormed (0xe2 ∷ 0x82 ∷ 0xac ∷ []) ≡ true
   pub overlong : wellFormed (0xc0 ∷ 0x80 ∷ []) ≡ false
   pub surrogate : wellFormed (0xed ∷ 0xa0 ∷ 0x80 ∷ []) ≡ false
@@ -45,7 +48,7 @@ checked =
       around = refl;
       last-byte = refl;
       no-byte = refl;
-      wrapping = λ rest address. refl;
+      wrapping = λ rest h. sym (wrapped-at _ (omega arith) 0 refl (omega arith) (omega arith));
       euro = refl;
       overlong = refl;
       surrogate = refl;

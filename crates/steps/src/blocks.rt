@@ -13,6 +13,7 @@ use classtrailers::BlockKind;
 use classtrailers::BlockRead;
 use classtrailers::BlockStep;
 use classtrailers::Trailing;
+use refusal::Fault;
 use refusal::Refusal;
 use type_body::TrailingRead;
 use type_body::TypeBody;
@@ -54,8 +55,8 @@ pub fn block_walk(address: u64, flags: u32, body: TypeBody) -> BlockIter
 pub fn next_block(image: &[u8], segments: &[u64], walk: BlockIter) -> NextBlock
     ensures { λ r. ⌜ nextBlockAnswer r ≡ guarded (now (segments .entry)) (answered (nextBlock (now (image .entry)) (now (segments .entry)) (walkOf walk))) ⌝ }
 {
-    if segments.len() % 4 != 0 {
-        return NextBlock::Refused(Refusal::RaggedSegments);
+    if let Fault::Refused(refusal) = refusal::find_fault(segments) {
+        return NextBlock::Refused(refusal);
     }
     match walk.next(image, segments) {
         BlockStep::Block { block, next } => NextBlock::Block { block, next },
@@ -74,8 +75,8 @@ pub fn block_of_kind(
 ) -> BlockAnswer
     ensures { λ r. ⌜ blockAnswer r ≡ guarded (now (segments .entry)) (answered (kindFrom (now (image .entry)) (now (segments .entry)) kind (trailers address flags (bodyOf body)))) ⌝ }
 {
-    if segments.len() % 4 != 0 {
-        return BlockAnswer::Refused(Refusal::RaggedSegments);
+    if let Fault::Refused(refusal) = refusal::find_fault(segments) {
+        return BlockAnswer::Refused(refusal);
     }
     match type_body::trailing(address, flags, body) {
         TrailingRead::Start { trailing, start } => {

@@ -5,6 +5,7 @@ ghost use Rattle.runtime.specs.Reads.{run, textPlace};
 ghost use Rattle.type_body.specs.Body.{body, bodyOf, superclassName};
 ghost use Rattle.refusal.specs.Guarded.{guarded};
 ghost use Rattle.steps.specs.Bodies.{bodyAnswer, textAnswer};
+use refusal::Fault;
 use refusal::Refusal;
 use type_body::TypeBody;
 use util::Text;
@@ -23,8 +24,8 @@ pub enum TextAnswer {
 pub fn row_body(image: &[u8], segments: &[u64], address: u64, flags: u32) -> BodyAnswer
     ensures { λ r. ⌜ bodyAnswer r ≡ guarded (now (segments .entry)) (answered (run (now (image .entry)) (now (segments .entry)) (body address flags))) ⌝ }
 {
-    if segments.len() % 4 != 0 {
-        return BodyAnswer::Refused(Refusal::RaggedSegments);
+    if let Fault::Refused(refusal) = refusal::find_fault(segments) {
+        return BodyAnswer::Refused(refusal);
     }
     BodyAnswer::Body(type_body::decode_body(image, segments, segment::NO_MAPPING, address, flags))
 }
@@ -33,8 +34,8 @@ pub fn row_body(image: &[u8], segments: &[u64], address: u64, flags: u32) -> Bod
 pub fn superclass_name(image: &[u8], segments: &[u64], body: TypeBody) -> TextAnswer
     ensures { λ r. ⌜ textAnswer r ≡ guarded (now (segments .entry)) (answered (superclassName (now (image .entry)) (now (segments .entry)) (bodyOf body))) ⌝ }
 {
-    if segments.len() % 4 != 0 {
-        return TextAnswer::Refused(Refusal::RaggedSegments);
+    if let Fault::Refused(refusal) = refusal::find_fault(segments) {
+        return TextAnswer::Refused(refusal);
     }
     TextAnswer::Text(type_body::superclass_name(image, segments, body))
 }
@@ -43,8 +44,8 @@ pub fn superclass_name(image: &[u8], segments: &[u64], body: TypeBody) -> TextAn
 pub fn text_at(image: &[u8], segments: &[u64], vmaddr: u64) -> TextAnswer
     ensures { λ r. ⌜ textAnswer r ≡ guarded (now (segments .entry)) (answered (textPlace (now (image .entry)) (now (segments .entry)) vmaddr)) ⌝ }
 {
-    if segments.len() % 4 != 0 {
-        return TextAnswer::Refused(Refusal::RaggedSegments);
+    if let Fault::Refused(refusal) = refusal::find_fault(segments) {
+        return TextAnswer::Refused(refusal);
     }
     TextAnswer::Text(runtime::read_cstr(image, segments, segment::NO_MAPPING, vmaddr))
 }

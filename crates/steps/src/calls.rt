@@ -14,6 +14,7 @@ use parent::ParentChain;
 use parent::ParentContext;
 use parent::ParentStep;
 use qualified_name::QualifiedName;
+use refusal::Fault;
 use refusal::Refusal;
 use typedescriptor::Row;
 use typedescriptor::TypeIter;
@@ -48,8 +49,8 @@ pub fn next_row(
 ) -> NextRow
     ensures { λ r. ⌜ rowAnswer (now (image .entry)) r ≡ guarded (now (segments .entry)) (answered (nextRow (now (image .entry)) (now (segments .entry)) (now (types .entry)) vmaddr (walk .slot))) ⌝ }
 {
-    if segments.len() % 4 != 0 {
-        return NextRow::Refused(Refusal::RaggedSegments);
+    if let Fault::Refused(refusal) = refusal::find_fault(segments) {
+        return NextRow::Refused(refusal);
     }
     match walk.next(image, segments, types, vmaddr) {
         TypeStep::Row { slot, row, next } => NextRow::Row { slot, row, next },
@@ -61,8 +62,8 @@ pub fn next_row(
 pub fn next_context(image: &[u8], segments: &[u64], walk: ParentChain) -> NextContext
     ensures { λ r. ⌜ contextAnswer (now (image .entry)) r ≡ guarded (now (segments .entry)) (answered (chainStep (now (image .entry)) (now (segments .entry)) (walk .«next_descriptor_va») (walk .given))) ⌝ }
 {
-    if segments.len() % 4 != 0 {
-        return NextContext::Refused(Refusal::RaggedSegments);
+    if let Fault::Refused(refusal) = refusal::find_fault(segments) {
+        return NextContext::Refused(refusal);
     }
     match walk.next(image, segments) {
         ParentStep::Context { context, next } => NextContext::Context { context, next },
@@ -75,8 +76,8 @@ pub fn joined_name(image: &[u8], segments: &[u64], row: Row, buffer: &mut [u8]) 
     ensures { λ r. ⌜ lengthOf r ≡ mapped length (guarded (now (segments .entry)) (nameAnswer (now (image .entry)) (now (segments .entry)) (rowOf (now (image .entry)) row) (length (now (buffer .entry))))) ⌝ }
     ensures { λ _. ⌜ now (buffer .exit) ≡ overwritten (now (buffer .entry)) (answerOf (guarded (now (segments .entry)) (nameAnswer (now (image .entry)) (now (segments .entry)) (rowOf (now (image .entry)) row) (length (now (buffer .entry)))))) ⌝ }
 {
-    if segments.len() % 4 != 0 {
-        return QualifiedName::Refused(Refusal::RaggedSegments);
+    if let Fault::Refused(refusal) = refusal::find_fault(segments) {
+        return QualifiedName::Refused(refusal);
     }
     qualified_name::qualified_name(image, segments, row, buffer)
 }

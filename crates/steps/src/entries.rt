@@ -4,6 +4,7 @@ ghost use Rattle.refusal.specs.Refusal.{answered};
 ghost use Rattle.vtable.specs.Entries.{method, kindLayout, entryStep, stepAnswer};
 ghost use Rattle.refusal.specs.Guarded.{guarded};
 ghost use Rattle.steps.specs.Entries.{entryAnswer};
+use refusal::Fault;
 use refusal::Refusal;
 use vtable::EntryIter;
 use vtable::EntryKind;
@@ -18,8 +19,8 @@ pub enum NextEntry {
 pub fn next_entry(image: &[u8], segments: &[u64], cursor: EntryIter, kind: EntryKind) -> NextEntry
     ensures { λ r. ⌜ entryAnswer r ≡ guarded (now (segments .entry)) (answered (stepAnswer (entryStep (now (image .entry)) (now (segments .entry)) (kindLayout kind) cursor))) ⌝ }
 {
-    if segments.len() % 4 != 0 {
-        return NextEntry::Refused(Refusal::RaggedSegments);
+    if let Fault::Refused(refusal) = refusal::find_fault(segments) {
+        return NextEntry::Refused(refusal);
     }
     NextEntry::Step(cursor.next(image, segments, kind))
 }
@@ -28,8 +29,8 @@ pub fn next_entry(image: &[u8], segments: &[u64], cursor: EntryIter, kind: Entry
 pub fn next_method(image: &[u8], segments: &[u64], cursor: EntryIter) -> NextEntry
     ensures { λ r. ⌜ entryAnswer r ≡ guarded (now (segments .entry)) (answered (stepAnswer (entryStep (now (image .entry)) (now (segments .entry)) method cursor))) ⌝ }
 {
-    if segments.len() % 4 != 0 {
-        return NextEntry::Refused(Refusal::RaggedSegments);
+    if let Fault::Refused(refusal) = refusal::find_fault(segments) {
+        return NextEntry::Refused(refusal);
     }
     NextEntry::Step(vtable::method_step(cursor, image, segments))
 }

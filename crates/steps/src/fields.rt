@@ -15,6 +15,7 @@ use field::FieldRecord;
 use field::FieldRecordIter;
 use field::FieldRecordStep;
 use field::FieldStep;
+use refusal::Fault;
 use refusal::Refusal;
 use runtime::FieldName;
 
@@ -39,8 +40,8 @@ pub fn next_field(fields: &[u8], vmaddr: u64, walk: FieldIter) -> FieldStep
 pub fn next_field_record(image: &[u8], segments: &[u64], walk: FieldRecordIter) -> NextFieldRecord
     ensures { λ r. ⌜ recordAnswer r ≡ guarded (now (segments .entry)) (answered (recordStep (now (image .entry)) (now (segments .entry)) walk)) ⌝ }
 {
-    if segments.len() % 4 != 0 {
-        return NextFieldRecord::Refused(Refusal::RaggedSegments);
+    if let Fault::Refused(refusal) = refusal::find_fault(segments) {
+        return NextFieldRecord::Refused(refusal);
     }
     NextFieldRecord::Step(walk.next(image, segments, segment::NO_MAPPING))
 }
@@ -55,8 +56,8 @@ pub fn field_name(
 ) -> FieldNameAnswer
     ensures { λ r. ⌜ fieldNameAnswer r ≡ guarded (now (segments .entry)) (answered (fieldName (now (image .entry)) (now (segments .entry)) (now (strings .entry)) «strings_va» («record» .«field_name_va»))) ⌝ }
 {
-    if segments.len() % 4 != 0 {
-        return FieldNameAnswer::Refused(Refusal::RaggedSegments);
+    if let Fault::Refused(refusal) = refusal::find_fault(segments) {
+        return FieldNameAnswer::Refused(refusal);
     }
     FieldNameAnswer::Name(field::field_name(image, segments, strings, strings_va, record))
 }
@@ -65,8 +66,8 @@ pub fn field_name(
 pub fn field_type_name(image: &[u8], segments: &[u64], record: FieldRecord) -> TextAnswer
     ensures { λ r. ⌜ textAnswer r ≡ guarded (now (segments .entry)) (answered (textPlace (now (image .entry)) (now (segments .entry)) («record» .«mangled_type_name_va»))) ⌝ }
 {
-    if segments.len() % 4 != 0 {
-        return TextAnswer::Refused(Refusal::RaggedSegments);
+    if let Fault::Refused(refusal) = refusal::find_fault(segments) {
+        return TextAnswer::Refused(refusal);
     }
     TextAnswer::Text(field::record_type_name(image, segments, record))
 }
@@ -78,8 +79,8 @@ pub fn descriptor_type_name(
 ) -> TextAnswer
     ensures { λ r. ⌜ textAnswer r ≡ guarded (now (segments .entry)) (answered (textPlace (now (image .entry)) (now (segments .entry)) (descriptor .«mangled_type_name_va»))) ⌝ }
 {
-    if segments.len() % 4 != 0 {
-        return TextAnswer::Refused(Refusal::RaggedSegments);
+    if let Fault::Refused(refusal) = refusal::find_fault(segments) {
+        return TextAnswer::Refused(refusal);
     }
     TextAnswer::Text(field::mangled_type_name(image, segments, descriptor))
 }
@@ -91,8 +92,8 @@ pub fn descriptor_superclass_name(
 ) -> TextAnswer
     ensures { λ r. ⌜ textAnswer r ≡ guarded (now (segments .entry)) (answered (textPlace (now (image .entry)) (now (segments .entry)) (descriptor .«superclass_va»))) ⌝ }
 {
-    if segments.len() % 4 != 0 {
-        return TextAnswer::Refused(Refusal::RaggedSegments);
+    if let Fault::Refused(refusal) = refusal::find_fault(segments) {
+        return TextAnswer::Refused(refusal);
     }
     TextAnswer::Text(field::superclass_mangled_name(image, segments, descriptor))
 }

@@ -6,6 +6,7 @@ ghost use Rattle.field_offsets.specs.Offsets.{offsetsPlace, staticPlace};
 ghost use Rattle.refusal.specs.Guarded.{guarded};
 ghost use Rattle.steps.specs.Offsets.{offsetsAnswer};
 use field_offsets::FieldOffsets;
+use refusal::Fault;
 use refusal::Refusal;
 use type_body::TypeBody;
 
@@ -23,8 +24,8 @@ pub fn field_offsets(
 ) -> OffsetsAnswer
     ensures { λ r. ⌜ offsetsAnswer r ≡ guarded (now (segments .entry)) (answered (offsetsPlace (now (image .entry)) (now (segments .entry)) (bodyOf body) «metadata_va»)) ⌝ }
 {
-    if segments.len() % 4 != 0 {
-        return OffsetsAnswer::Refused(Refusal::RaggedSegments);
+    if let Fault::Refused(refusal) = refusal::find_fault(segments) {
+        return OffsetsAnswer::Refused(refusal);
     }
     OffsetsAnswer::Offsets(field_offsets::field_offsets(image, segments, body, metadata_va))
 }
@@ -38,8 +39,8 @@ pub fn static_field_offsets(
 ) -> OffsetsAnswer
     ensures { λ r. ⌜ offsetsAnswer r ≡ guarded (now (segments .entry)) (answered (staticPlace (now (image .entry)) (now (segments .entry)) address flags)) ⌝ }
 {
-    if segments.len() % 4 != 0 {
-        return OffsetsAnswer::Refused(Refusal::RaggedSegments);
+    if let Fault::Refused(refusal) = refusal::find_fault(segments) {
+        return OffsetsAnswer::Refused(refusal);
     }
     OffsetsAnswer::Offsets(field_offsets::static_field_offsets(image, segments, address, flags))
 }

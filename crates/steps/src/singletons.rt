@@ -5,6 +5,7 @@ ghost use Rattle.runtime.specs.Reads.{run};
 ghost use Rattle.type_body.specs.Singleton.{singletonInit, singletonPointer};
 ghost use Rattle.refusal.specs.Guarded.{guarded};
 ghost use Rattle.steps.specs.Singletons.{initAnswer, pointerAnswer};
+use refusal::Fault;
 use refusal::Refusal;
 use type_body::SingletonMetadataInit;
 use type_body::SingletonMetadataPointer;
@@ -23,8 +24,8 @@ pub enum PointerAnswer {
 pub fn singleton_init(image: &[u8], segments: &[u64], address: u64) -> InitAnswer
     ensures { λ r. ⌜ initAnswer r ≡ guarded (now (segments .entry)) (answered (run (now (image .entry)) (now (segments .entry)) (singletonInit address))) ⌝ }
 {
-    if segments.len() % 4 != 0 {
-        return InitAnswer::Refused(Refusal::RaggedSegments);
+    if let Fault::Refused(refusal) = refusal::find_fault(segments) {
+        return InitAnswer::Refused(refusal);
     }
     InitAnswer::Init(type_body::singleton_metadata_init(image, segments, address))
 }
@@ -33,8 +34,8 @@ pub fn singleton_init(image: &[u8], segments: &[u64], address: u64) -> InitAnswe
 pub fn singleton_pointer(image: &[u8], segments: &[u64], address: u64) -> PointerAnswer
     ensures { λ r. ⌜ pointerAnswer r ≡ guarded (now (segments .entry)) (answered (run (now (image .entry)) (now (segments .entry)) (singletonPointer address))) ⌝ }
 {
-    if segments.len() % 4 != 0 {
-        return PointerAnswer::Refused(Refusal::RaggedSegments);
+    if let Fault::Refused(refusal) = refusal::find_fault(segments) {
+        return PointerAnswer::Refused(refusal);
     }
     PointerAnswer::Pointer(type_body::singleton_metadata_pointer(image, segments, address))
 }

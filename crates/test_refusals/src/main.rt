@@ -1,5 +1,6 @@
-// The refusals of the public calls over segments, and their order: 1 before anything else, then 4, then 3. Each call is made on lists of 0
-// to 8 segment numbers, and for the joined name of a type without a parent and of one that is its own parent, with buffers that hold it,
+// The refusals of the public calls over segments, and their order: 1 before anything else, then 9, then 4, then 3. Each call is made on the
+// first 0 to 8 numbers of lists of two segments, without one that wraps, with one last and with one first, and on two such segments that
+// end just below 2^64; and for the joined name of a type without a parent and of one that is its own parent, with buffers that hold it,
 // just hold it, and do not. A line is
 //   walks COUNT ROW CONTEXT LINE             what next_row, next_context and next_line answer: an address or a length, `end`, or a refusal
 //   reads COUNT BODY SUPERCLASS TEXT BLOCK KIND METHOD OVERRIDE DEFAULT PRESPECIALIZATION INIT POINTER
@@ -298,18 +299,21 @@ fn try_all(image: &[u8], segments: &[u64]) {
     try_name(image, segments, 0x1000, 0);
 }
 
+fn try_list(image: &[u8], numbers: &[u64]) {
+    let mut count = 0;
+    while count < numbers.len() {
+        try_all(image, &numbers[..count]);
+        count += 1;
+    }
+    try_all(image, numbers);
+}
+
 fn main() {
     // A struct named Clue at 0x1000 that is its own parent.
     let image =
         b"\x11\x00\x00\x00\xfc\xff\xff\xff\x14\x00\x00\x00\x00\x00\x00\x00\x00\x00\x00\x00\x00\x00\x00\x00\x00\x00\x00\x00Clue\x00";
-    let numbers = [0x1000u64, 33, 0, 33, 0x9000, 1, 0, 1];
-    try_all(image, &numbers[..0]);
-    try_all(image, &numbers[..1]);
-    try_all(image, &numbers[..2]);
-    try_all(image, &numbers[..3]);
-    try_all(image, &numbers[..4]);
-    try_all(image, &numbers[..5]);
-    try_all(image, &numbers[..6]);
-    try_all(image, &numbers[..7]);
-    try_all(image, &numbers[..8]);
+    try_list(image, &[0x1000, 33, 0, 33, 0x9000, 1, 0, 1]);
+    try_list(image, &[0x1000, 33, 0, 33, 0xFFFFFFFFFFFFFFF0, 16, 0, 0]);
+    try_list(image, &[0xFFFFFFFFFFFFFFFF, 1, 0, 1, 0x1000, 33, 0, 33]);
+    try_list(image, &[0xFFFFFFFFFFFFFFEF, 16, 0, 16, 0x1000, 33, 0, 33]);
 }

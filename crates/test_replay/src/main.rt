@@ -10,6 +10,7 @@
 //   name LENGTH BYTES                                       the joined name,
 //   refused 3                                               and what a buffer one byte shorter gets, unless the name is empty
 //   refused 4                                               or this in place of both, where a 257th context can be read
+//   refused 9                                               or this in place of all rows and their end, where a segment wraps
 //   end ROWS                                                and then for each address
 //   offset ADDRESS OFFSET                                   its file offset,
 //   field ADDRESS WHERE PLACE LENGTH                        the field name there: 1 in the image, 2 in the strings,

@@ -1,15 +1,13 @@
 -- What a step says about how much is shown.
-use Prim.Native.Nat.{ℕ, suc, _+_, _-_, _%_, _≤_, _<_}
-use native.Mathlib.Decide.{ℕ-discrete}
+use Prim.Native.Nat.{ℕ, suc, _+_, _-_, _≤_, _<_}
 use native.Mathlib.Omega.{arith}
 use mathlib.Core.Path.{_≡_, refl, sym, ap, _∙_}
 use mathlib.Core.List.{List}
 use mathlib.Core.Option.{Option, some, none}
 use lib.ListN.{length}
-use borrow.Author.Tests.{eq-eqb, ne-eqb}
 use Rattle.refusal.specs.Refusal.{Guarded, answered, refused}
-use Rattle.refusal.specs.Guarded.{guarded}
-use Rattle.refusal.specs.GuardedLaws.{answered-is, never-refused, ragged}
+use Rattle.refusal.specs.Guarded.{fault, guarded}
+use Rattle.refusal.specs.GuardedLaws.{answered-is, never-refused, refused-list}
 use Rattle.typedescriptor.specs.Slots.{Found, nextRow}
 use Rattle.typedescriptor.specs.SlotsLaws.{steppedRows}
 use Rattle.field.specs.Fields.{Step, fieldStep}
@@ -29,7 +27,11 @@ module _ (image segments types : List ℕ) (start : ℕ) where
 
   pub none-shown : (k : ℕ) (x : Option Found) → refused k ≡ guarded segments (answered x) → 0 ≡ rowsShown image segments types start
   unfolding rowsShown
-  none-shown k x e = rw (ne-eqb (length segments % 4) 0 (λ h. never-refused segments x k e h))
+  none-shown k x e = go (fault segments) refl
+    where
+      go : (f : Option ℕ) → f ≡ fault segments → 0 ≡ rowsShown image segments types start
+      go none h = absurd (never-refused segments x k e h)
+      go (some n) h = rw (rowsShown, ← h)
 
   -- a step that does not refuse
   abbrev pub Whole : Type 0
@@ -37,12 +39,12 @@ module _ (image segments types : List ℕ) (start : ℕ) where
 
   pub shown-whole : (x y : Option Found) → answered y ≡ guarded segments (answered x) → Whole
   unfolding rowsShown
-  shown-whole x y e = go (ℕ-discrete (length segments % 4) 0)
+  shown-whole x y e = go (fault segments) refl
     where
-      go : Dec (length segments % 4 ≡ 0) → rowsShown image segments types start ≡ left 4096 0
-      go (yes h) = rw (rowsShown, eq-eqb (length segments % 4) 0 h)
-      go (no h) =
-          let f : _≡_ {A = Guarded (Option Found)} (answered y) (refused 1) = e ∙ sym (ragged segments (answered x) h) in
+      go : (f : Option ℕ) → f ≡ fault segments → rowsShown image segments types start ≡ left 4096 0
+      go none h = rw (rowsShown, ← h)
+      go (some n) h =
+          let f : _≡_ {A = Guarded (Option Found)} (answered y) (refused n) = e ∙ sym (refused-list segments (answered x) h) in
           let z : _≡_ {A = ℕ} 0 1 = cc in
           absurd (omega arith)
 

@@ -22,6 +22,7 @@
 //   offsets COUNT NUMBER..                                 a struct's field offsets, the first 12, or `offsets nothing`,
 //                                                          and, for a row at one of the last 32 addresses, 5 entries of each
 //                                                          kind there
+//   refused 9                                              in place of all rows and their number, where a segment wraps
 //   rows ROWS                                              and then for each field descriptor
 //   descriptor ADDRESS KIND RECORD_SIZE COUNT
 //   type PLACE LENGTH                                      its type's name, and its superclass's, or `nothing`

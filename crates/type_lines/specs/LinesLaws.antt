@@ -17,8 +17,8 @@ use Rattle.type_lines.specs.Digits.{digit, hex, decimal}
 use Rattle.typedescriptor.specs.Row.{TypeRow}
 use Rattle.typedescriptor.specs.Slots.{Found, nextRow}
 use Rattle.refusal.specs.Refusal.{Guarded, answered, refused, mapped, answerOf}
-use Rattle.refusal.specs.Guarded.{guarded}
-use Rattle.refusal.specs.GuardedLaws.{ragged, whole}
+use Rattle.refusal.specs.Guarded.{fault, guarded}
+use Rattle.refusal.specs.GuardedLaws.{refused-list, accepted-list}
 use Rattle.qualified_name.specs.Name.{nameAnswer, qualifiedName}
 use Rattle.qualified_name.specs.NameLaws.{name-length}
 use Rattle.type_lines.specs.DigitsLaws.{decimal-none, decimal-one, decimal-more, decimal-length}
@@ -282,10 +282,10 @@ module _ (image segments types : List ℕ) (start : ℕ) (c : LineIter) where
         let long = u .ends ∙ zero-add _ in
         rw (e, ← s) (λ i. answered (some (record { text = p .0 i; size = long i; next = record { slot = 0; given = c .given; ended = true } })), p .1)
 
--- the test of the segments' count before a step
+-- the test of the segments before a step
 module _ (segments : List ℕ) {W : Type 0} (g : Guarded (Option (Line W))) (b : List ℕ) where
-  pub line-ragged : (length segments % 4 ≡ 0 → ⊥) → Given (guarded segments g) b b (refused 1)
-  line-ragged h = (ragged segments g h, ap (λ (x : Guarded (Option (Line W))). overwritten b (lineText x)) (ragged segments g h))
+  pub line-refused : {n : ℕ} → some n ≡ fault segments → Given (guarded segments g) b b (refused n)
+  line-refused h = (refused-list segments g h, ap (λ (x : Guarded (Option (Line W))). overwritten b (lineText x)) (refused-list segments g h))
 
-  pub line-whole : (b′ : List ℕ) (x : Guarded (Option (Line W))) → Given g b b′ x → length segments % 4 ≡ 0 → Given (guarded segments g) b b′ x
-  line-whole b′ x e h = (e .0 ∙ whole segments g h, e .1 ∙ ap (λ (x : Guarded (Option (Line W))). overwritten b (lineText x)) (whole segments g h))
+  pub line-accepted : (b′ : List ℕ) (x : Guarded (Option (Line W))) → Given g b b′ x → none ≡ fault segments → Given (guarded segments g) b b′ x
+  line-accepted b′ x e h = (e .0 ∙ accepted-list segments g h, e .1 ∙ ap (λ (x : Guarded (Option (Line W))). overwritten b (lineText x)) (accepted-list segments g h))

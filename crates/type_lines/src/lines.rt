@@ -13,6 +13,7 @@ ghost use Rattle.type_lines.specs.Lines.{nameBytes, lineBytes, space, ki
 use crate::digits::digit_of;
 use crate::digits::hex_digits;
 use qualified_name::QualifiedName;
+use refusal::Fault;
 use refusal::Refusal;
 use typedescriptor::Row;
 use typedescriptor::TypeIter;
@@ -208,8 +209,8 @@ pub fn next_line(
     ensures { λ r. ⌜ lineAnswer (now (line .exit)) r ≡ guarded (now (segments .entry)) (answered (lineStep (now (image .entry)) (now (segments .entry)) (now (types .entry)) vmaddr walk)) ⌝ }
     ensures { λ _. ⌜ now (line .exit) ≡ overwritten (now (line .entry)) (lineText (guarded (now (segments .entry)) (answered (lineStep (now (image .entry)) (now (segments .entry)) (now (types .entry)) vmaddr walk)))) ⌝ }
 {
-    if segments.len() % 4 != 0 {
-        return NextLine::Refused(Refusal::RaggedSegments);
+    if let Fault::Refused(refusal) = refusal::find_fault(segments) {
+        return NextLine::Refused(refusal);
     }
     let buffer: &mut [u8] = line;
     next_into(walk, image, segments, types, vmaddr, buffer)

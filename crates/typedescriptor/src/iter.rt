@@ -104,14 +104,16 @@ impl TypeIter {
         TypeIter { slot: 0 }
     }
 
-    // The next row. A slot without a row is passed over.
+    // The next row. A slot without a row is passed over. What lies around a descriptor is found with it, so that the segments are walked once
+    // for it and its name.
     pub fn next(self, image: &[u8], segments: &[u64], types: &[u8], vmaddr: u64) -> TypeStep
         ensures { λ r. ⌜ typeStepOf (now (image .entry)) r ≡ nextRow (now (image .entry)) (now (segments .entry)) (now (types .entry)) vmaddr (self .slot) ⌝ }
     {
         let count = types.len() / 4;
         let mut slot = self.slot;
         while slot < count {
-            let found = slot_row(image, segments, segment::NO_MAPPING, types, vmaddr, slot);
+            let step = slot_row_moving(image, segments, segment::NO_MAPPING, types, vmaddr, slot);
+            let found = step.found;
             match found {
                 Descriptor::Row(row) => {
                     return TypeStep::Row {

@@ -9,10 +9,10 @@ use Rattle.bundle_lines.proofs.lines.start.Statement.{statement}
 use Rattle.bundle_lines.proofs.lines.start.Tie as tie
 
 returns : tie.Need-returns
-returns c = ap startOf (told opened (c .before .before .before .open-bundle .ensures) (c .before .layout .given .1))
+returns c = ap startOf (told opened (c .before .before .before .accept-bundle .ensures) (c .before .layout .given .1))
 
 returns-2 : tie.Need-returns-2
-returns-2 c = ap startOf (told opened (c .before .before .before .open-bundle .ensures) (c .before .refusal .given .1))
+returns-2 c = ap startOf (told opened (c .before .before .before .accept-bundle .ensures) (c .before .refusal .given .1))
 
 pub start-spec : {M : Type 1} → statement M
 start-spec =
