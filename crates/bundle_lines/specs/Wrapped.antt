@@ -18,16 +18,16 @@ use Rattle.type_lines.specs.Lines.{refusedText, endLine, lines}
 use Rattle.bundle_lines.specs.Printed.{printed}
 
 -- the segment's first address has `n` for its lowest byte, and 0xff for the others
-abbrev ending : ℕ → List ℕ
-ending n =
+abbrev oneSegment : ℕ → List ℕ
+oneSegment n =
     0 ∷ 0 ∷ 0 ∷ 0 ∷ 1 ∷ 0 ∷ 32 ∷ 0 ∷ 0 ∷ 0 ∷ 2 ∷ 0 ∷
     n ∷ 0xff ∷ 0xff ∷ 0xff ∷ 0xff ∷ 0xff ∷ 0xff ∷ 0xff ∷ 16 ∷ 0 ∷ 0 ∷ 0 ∷ 0 ∷ 0 ∷ 0 ∷ 0 ∷
     0 ∷ 0 ∷ 0 ∷ 0 ∷ 0 ∷ 0 ∷ 0 ∷ 0 ∷ 0 ∷ 0 ∷ 0 ∷ 0 ∷ 0 ∷ 0 ∷ 0 ∷ 0 ∷ []
 
-pub record Wrapped : Type 0 where
-  pub at-2-64 : printed (ending 0xf0) ≡ (letters "refused 9" ++ 10 ∷ []) ∷ []
-  pub below : printed (ending 0xef) ≡ (letters "end 0" ++ 10 ∷ []) ∷ []
+pub record WrappedWorked : Type 0 where
+  pub at-2-64 : printed (oneSegment 0xf0) ≡ (letters "refused 9" ++ 10 ∷ []) ∷ []
+  pub below : printed (oneSegment 0xef) ≡ (letters "end 0" ++ 10 ∷ []) ∷ []
 
-pub wrapped-worked : Wrapped
+pub wrapped-worked : WrappedWorked
 unfolding printed acceptBundle guarded fault anyWrapping segmentsOf openBundle answer takeAt isAt bodyFits sectionIn littleEndian partOf numbers lines refusedText endLine digit decimal rowsFrom rows
 wrapped-worked = record { at-2-64 = refl; below = refl }

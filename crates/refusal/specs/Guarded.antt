@@ -11,7 +11,7 @@ use Rattle.refusal.specs.Refusal.{Guarded, refused, refusalNumber}
 use Rattle.refusal.specs.declared.Fault.{Fault}
 use Rattle.refusal.specs.declared.Wrapping.{Wrapping}
 
--- a segment whose end is past the last address
+-- a segment that does not end below 2^64
 abbrev pub wrapping : Segment → Bool
 wrapping s = leb (2 ^ 64) (s .vmaddr + s .vmsize)
 

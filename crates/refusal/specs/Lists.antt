@@ -6,7 +6,7 @@ use mathlib.Core.Option.{some, none}
 use Rattle.segment.specs.Segments.{segmentsOf}
 use Rattle.refusal.specs.Guarded.{anyWrapping, fault, firstWrapping}
 
-pub record Lists : Type 0 where
+pub record ListsWorked : Type 0 where
   pub none-at-all : fault [] ≡ none
   pub one : fault (0x1000 ∷ 33 ∷ 0 ∷ 33 ∷ []) ≡ none
   pub ends-below : fault ((2 ^ 64 - 17) ∷ 16 ∷ 0 ∷ 16 ∷ []) ≡ none
@@ -19,9 +19,9 @@ pub record Lists : Type 0 where
   pub told-first : firstWrapping 0 (segmentsOf ((2 ^ 64 - 16) ∷ 16 ∷ 0 ∷ 16 ∷ (2 ^ 64 - 1) ∷ 1 ∷ 0 ∷ 0 ∷ [])) ≡ some 0
   pub told-last : firstWrapping 0 (segmentsOf (0x1000 ∷ 33 ∷ 0 ∷ 33 ∷ (2 ^ 64 - 1) ∷ (2 ^ 64 - 1) ∷ 0 ∷ 0 ∷ [])) ≡ some 1
 
-pub lists : Lists
+pub lists-worked : ListsWorked
 unfolding fault anyWrapping firstWrapping segmentsOf
-lists =
+lists-worked =
     record {
       none-at-all = refl;
       one = refl;
