@@ -33,7 +33,7 @@ pub struct Layout {
 
 pub enum Opened {
     Bundle(Layout),
-    // BrokenBundle, or LongBundle.
+    // LongBundle or BrokenBundle by the format; WrappingSegment too where the segments are tested.
     Refused(Refusal),
 }
 

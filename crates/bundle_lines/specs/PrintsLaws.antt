@@ -174,7 +174,7 @@ module _ (s : List ℕ) (p : Pending) where
   numbers-accepted e = rw e (go (acceptBundle s) refl)
     where
       go : (a : Guarded Layout) → acceptBundle s ≡ a → none ≡ fault (numbersFor s (startOf a))
-      go (answered l) e = let a = accepted-is s l e in a .sound ∙ ap fault (sym (numbers-all s l (opened-fit s l (a .opens))))
+      go (answered l) e = let a = accepted-is s l e in a .accepted ∙ ap fault (sym (numbers-all s l (opened-fit s l (a .opens))))
       go (refused n) e = refl
 
   -- as many lines as the bundle has

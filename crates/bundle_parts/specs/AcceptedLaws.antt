@@ -6,11 +6,11 @@ use mathlib.Core.List.{List}
 use mathlib.Core.Option.{Option, some, none}
 use Rattle.refusal.specs.Refusal.{Guarded, answered, refused}
 use Rattle.refusal.specs.Guarded.{fault, refusedBy, guarded}
-use Rattle.refusal.specs.GuardedLaws.{refused-list, accepted-list}
+use Rattle.refusal.specs.GuardedLaws.{whole-nine, refused-list, accepted-list}
 use Rattle.bundle.specs.Open.{openBundle}
 use Rattle.bundle.specs.declared.open.Layout.{Layout}
 use Rattle.bundle_parts.specs.Parts.{segmentNumbers, listedNumbers}
-use Rattle.bundle_parts.specs.PartsLaws.{numbers-all}
+use Rattle.bundle_parts.specs.PartsLaws.{never-ragged, numbers-all}
 use Rattle.bundle_parts.specs.LayoutLaws.{opened-fit}
 use Rattle.bundle_parts.specs.Accepted.{withSegments, acceptBundle}
 
@@ -34,17 +34,30 @@ module _ (s : List ℕ) where
     pub accept-refused : (n : ℕ) → some n ≡ fault (listedNumbers s l) → refused n ≡ acceptBundle s
     accept-refused n e = refused-list _ (answered l) (e ∙ all) ∙ opened
 
+    -- and with nothing else than 9
+    pub only-nine : (n : ℕ) → acceptBundle s ≡ refused n → n ≡ 9
+    only-nine n e = go (fault (listedNumbers s l)) refl
+      where
+        go : (f : Option ℕ) → f ≡ fault (listedNumbers s l) → n ≡ 9
+        go none t =
+            let f : answered l ≡ refused n = accept-opened t ∙ e in
+            let z : _≡_ {A = ℕ} 0 1 = cc in
+            absurd (omega arith)
+        go (some k) t =
+            let same : k ≡ n = let f : refused k ≡ refused n = accept-refused k t ∙ e in cc in
+            sym same ∙ whole-nine (listedNumbers s l) (never-ragged s l) k t
+
   -- and back
   pub record Accepts (l : Layout) : Type 0 where
     pub opens : openBundle s ≡ answered l
-    pub sound : none ≡ fault (segmentNumbers s l)
+    pub accepted : none ≡ fault (segmentNumbers s l)
 
   pub accepted-is : (l : Layout) → acceptBundle s ≡ answered l → Accepts l
   unfolding acceptBundle guarded
   accepted-is l e = go (openBundle s) refl e
     where
       by : (k : Layout) (f : Option ℕ) → f ≡ fault (segmentNumbers s k) → openBundle s ≡ answered k → refusedBy f (answered k) ≡ answered l → Accepts l
-      by k none ef o e = let same : k ≡ l = cc in record { opens = o ∙ ap answered same; sound = ef ∙ ap (λ (k : Layout). fault (segmentNumbers s k)) same }
+      by k none ef o e = let same : k ≡ l = cc in record { opens = o ∙ ap answered same; accepted = ef ∙ ap (λ (k : Layout). fault (segmentNumbers s k)) same }
       by k (some n) ef o e = let z : _≡_ {A = ℕ} 0 1 = cc in absurd (omega arith)
 
       go : (a : Guarded Layout) → openBundle s ≡ a → withSegments s a ≡ answered l → Accepts l

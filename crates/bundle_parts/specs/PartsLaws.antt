@@ -144,9 +144,6 @@ module _ (s : List ℕ) (l : Layout) where
   pub never-ragged : length (listedNumbers s l) % 4 ≡ 0
   never-ragged = omega (arith, numbers-length (min segmentNumbersMost all) (segmentBytes s l))
 
-  pub few-numbers : length (listedNumbers s l) ≤ segmentNumbersMost
-  few-numbers = omega (arith, numbers-length (min segmentNumbersMost all) (segmentBytes s l))
-
   -- every number of an opened bundle's segments is in the list
   pub numbers-all : Fit s l → listedNumbers s l ≡ segmentNumbers s l
   numbers-all f =

@@ -1,5 +1,4 @@
-// The public calls. Each refuses a list of segment numbers whose count is not a multiple of four, before anything else (refusal 1), and
-// requires nothing of its caller.
+// The public calls. Each tests its segments before anything else (refusals 1 and 9), and requires nothing of its caller.
 ghost use mathlib.Core.Path.{_≡_};
 ghost use Rattle.refusal.specs.Refusal.{answered};
 ghost use Rattle.typedescriptor.specs.Slots.{slotRow};

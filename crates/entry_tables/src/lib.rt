@@ -1,6 +1,6 @@
 // Whole tables of entries in one call: the methods, overrides, default overrides and prespecializations of a type, and the records of a
-// field descriptor, into the caller's list of numbers. Each call refuses a list of segment numbers whose count is not a multiple of four,
-// before anything else (refusal 1).
+// field descriptor, into the caller's list of numbers. Each call tests its segments before anything else (refusals 1
+// and 9).
 mod calls;
 mod list;
 mod window;

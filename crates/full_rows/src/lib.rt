@@ -1,5 +1,5 @@
 // The rows of a types section with body and all trailing blocks in one call, as records of a fixed number of numbers in the caller's list.
-// The call refuses a list of segment numbers whose count is not a multiple of four, before anything else (refusal 1).
+// The call tests its segments before anything else (refusals 1 and 9).
 mod calls;
 mod rows;
 

@@ -1,5 +1,5 @@
-// The records of a field descriptor with both names in one call, ten numbers each in the caller's list. The call refuses a list of segment
-// numbers whose count is not a multiple of four, before anything else (refusal 1).
+// The records of a field descriptor with both names in one call, ten numbers each in the caller's list. The call tests its segments
+// before anything else (refusals 1 and 9).
 mod calls;
 mod records;
 

@@ -26,9 +26,20 @@ module _ (l : List ℕ) where
     unfolding fault
     wrapped w = simp (eq-eqb (length l % 4) 0 h, w)
 
-    pub sound : anyWrapping (segmentsOf l) ≡ false → none ≡ fault l
+    pub none-wrapping : anyWrapping (segmentsOf l) ≡ false → none ≡ fault l
     unfolding fault
-    sound w = simp (eq-eqb (length l % 4) 0 h, w)
+    none-wrapping w = simp (eq-eqb (length l % 4) 0 h, w)
+
+    -- and whole segments are refused with nothing else
+    pub whole-nine : (n : ℕ) → some n ≡ fault l → n ≡ 9
+    whole-nine n e = go (anyWrapping (segmentsOf l)) refl
+      where
+        go : (b : Bool) → anyWrapping (segmentsOf l) ≡ b → n ≡ 9
+        go true t = let f : some n ≡ some 9 = e ∙ sym (wrapped t) in cc
+        go false t =
+            let f : some n ≡ none = e ∙ sym (none-wrapping t) in
+            let z : _≡_ {A = ℕ} 0 1 = cc in
+            absurd (omega arith)
 
 -- ---- a turn of the walk over the list, from its `i`th number, `n` segments before it being found to wrap
 
@@ -91,7 +102,7 @@ module _ (l : List ℕ) (whole : length l % 4 ≡ 0) where
   wrapped-at i z h w = wrapped l whole (any-at l i z h (simp unary-clauses at w))
 
   pub none-wraps : ((i : ℕ) → i % 4 ≡ 0 → i + 4 ≤ length l → getD l i 0 + getD l (i + 1) 0 < 2 ^ 64) → none ≡ fault l
-  none-wraps n = sound l whole (none-at l (λ i z h. simp unary-clauses at (n i z h)))
+  none-wraps n = none-wrapping l whole (none-at l (λ i z h. simp unary-clauses at (n i z h)))
 
 -- ---- which segment it is
 

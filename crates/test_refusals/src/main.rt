@@ -1,6 +1,6 @@
 // The refusals of the public calls over segments, and their order: 1 before anything else, then 9, then 4, then 3. Each call is made on the
-// first 0 to 8 numbers of lists of two segments, without one that wraps, with one last and with one first, and on two such segments that
-// end just below 2^64; and for the joined name of a type without a parent and of one that is its own parent, with buffers that hold it,
+// first 0 to 8 numbers of lists of two segments, without one that wraps, with one last and with one first, and with one first that ends at
+// 2^64 - 1; and for the joined name of a type without a parent and of one that is its own parent, with buffers that hold it,
 // just hold it, and do not. A line is
 //   walks COUNT ROW CONTEXT LINE             what next_row, next_context and next_line answer: an address or a length, `end`, or a refusal
 //   reads COUNT BODY SUPERCLASS TEXT BLOCK KIND METHOD OVERRIDE DEFAULT PRESPECIALIZATION INIT POINTER

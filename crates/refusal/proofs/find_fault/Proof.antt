@@ -9,7 +9,7 @@ use denote.Ref.{now}
 use lib.ListN.{length}
 use Rattle.segment.specs.Segments.{segmentsOf}
 use Rattle.refusal.specs.Guarded.{anyWrapping}
-use Rattle.refusal.specs.GuardedLaws.{ragged, wrapped, sound, wrapsFrom, counted, passed, all-passed, one-wraps}
+use Rattle.refusal.specs.GuardedLaws.{ragged, wrapped, none-wrapping, wrapsFrom, counted, passed, all-passed, one-wraps}
 use Rattle.refusal.proofs.find_fault.Statement.{statement}
 use Rattle.refusal.proofs.find_fault.Tie as tie
 
@@ -55,7 +55,7 @@ returns-2 c =
 returns-3 : tie.Need-returns-3 Inv-loop μ-loop
 returns-3 c =
     let p = c .before .before in
-    sound (now (p .before .before .args .segments)) (p .loop .inv .2)
+    none-wrapping (now (p .before .before .args .segments)) (p .loop .inv .2)
     (all-passed _ (p .loop .i) (p .loop .wrapping) _ (p .loop .inv .4) (omega arith) (omega arith))
 
 pub find-fault-spec : {M : Type 1} → statement M
