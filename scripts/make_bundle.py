@@ -19,9 +19,12 @@ BYTES is the name of a file, or hex: and digits. Numbers are decimal, or hexadec
     scripts/make_bundle.py --image hex:11000000000000001400000000000000000000000000000000000000436c756500 \\
         --segment 0x1000,33,0,33 --types 0x2000:hex:00f0ffff | target/bin/list
 
-What cannot be done is said in a sentence on standard error, with exit status 2; what may surprise is a warning there.
+What cannot be done is said in a sentence on standard error, with exit status 2; what may surprise is a warning there. If there is no
+bundle, standard output gets one without an image, which the program refuses (refused 2): no bytes at all would be an empty listing. With
+-o, no file is left that is not whole.
 """
 import argparse
+import contextlib
 import os
 import re
 import struct
@@ -84,6 +87,10 @@ def image_of(base, contexts, size=28):
         to = bytes(4) if name is None else relative(at + 8, base + places[name])
         image += (struct.pack("<I", flags) + up + to).ljust(size, b"\0")
     return image + names
+
+
+# What standard output gets if there is no bundle: a record, and no image.
+NO_BUNDLE = segments()
 
 
 def clue():
@@ -363,10 +370,25 @@ def bundle_of(options):
     return bundle
 
 
+def write_file(content, out):
+    """Write a file whole, or leave none: one that lost all its bytes would be an empty listing."""
+    with open(out, "wb") as file:
+        try:
+            file.write(content)
+            file.flush()
+        except BaseException:
+            if os.path.isfile(out):
+                os.remove(out)
+            raise
+
+
 def write(content, out):
     try:
-        with open(1 if out is None else out, "wb", closefd=out is not None) as file:
-            file.write(content)
+        if out is not None:
+            write_file(content, out)
+        else:
+            with open(1, "wb", closefd=False) as file:
+                file.write(content)
     except BrokenPipeError:
         if len(content) <= BUNDLE_BYTES:  # of more, the program reads no more than it needs to refuse them
             raise Trouble("cannot write to standard output: its reader has ended") from None
@@ -374,15 +396,26 @@ def write(content, out):
         raise Trouble(f"cannot write {'to standard output' if out is None else out}: {error.strerror or error}") from None
 
 
+def write_no_bundle():
+    if not os.isatty(1):
+        with contextlib.suppress(Trouble):  # the sentence and the exit status say that there is none
+            write(NO_BUNDLE, None)
+
+
 def main(words=None):
+    words = sys.argv[1:] if words is None else words
+    owed = not any(word.startswith("-o") for word in words)  # whether standard output waits for a bundle
     try:
         options = options_of(words)
         if options.help:
+            owed = False
             write(__doc__.encode(), None)
             return 0
         if options.out is None and os.isatty(1):
             raise Trouble("a bundle is not text, and standard output is a terminal: give -o FILE, or pipe it into target/bin/list")
-        write(bundle_of(options), options.out)
+        bundle = bundle_of(options)
+        owed = False
+        write(bundle, options.out)
     except Trouble as trouble:
         say(trouble)
         return 2
@@ -391,6 +424,9 @@ def main(words=None):
         return 2
     except KeyboardInterrupt:
         return 130
+    finally:
+        if owed:
+            write_no_bundle()
     return 0
 
 

@@ -50,7 +50,7 @@ def parts(bundle):
         if (kind == SEGMENTS and size % 32) or (kind > SEGMENTS and size < 8):
             return 2
         bodies[kind] = bundle[at - size : at]
-    return bodies if IMAGE in bodies else 2
+    return bodies if IMAGE in bodies or not bundle else 2
 
 
 def wrapping(numbers):
@@ -84,7 +84,7 @@ def broken(bundle):
         if kind > SEGMENTS and size < 8:
             return "a section body has no room for its address of 8 bytes", at
         at, last, image = at + 6 + size, kind, image or kind == IMAGE
-    return None if image else ("there is no image", at)
+    return None if image or not bundle else ("there is no image", at)
 
 
 MAGICS = [bytes.fromhex(magic) for magic in ("cffaedfe", "cefaedfe", "feedfacf", "feedface", "cafebabe", "cafebabf")]
@@ -177,7 +177,7 @@ def listing(bundle):
     bodies = parts(bundle)
     if isinstance(bodies, int):
         return b"refused %d\n" % bodies
-    image, numbers = bodies[IMAGE], segment_numbers(bodies)
+    image, numbers = bodies.get(IMAGE, b""), segment_numbers(bodies)
     if fault(numbers):
         return b"refused %d\n" % fault(numbers)
     led = bodies.get(TYPES, bytes(8))
@@ -224,6 +224,8 @@ def record_rules():
         bundle(whole[:cut])
     for size in range(1, 8):
         bundle(clue(), bytes(size))
+        for byte in (0, 1, 6, 255):
+            bundle(bytes([byte] * size))
     good = {
         1: record(IMAGE, CLUE),
         2: CLUE_SEGMENT,
@@ -255,6 +257,10 @@ def record_rules():
         bundle(clue(), struct.pack("<IH", size, 4), CLUE)
     bundle(record(IMAGE, b""))
     bundle(record(IMAGE, b""), CLUE_SEGMENT, CLUE_TYPES)
+    # Records, but no image: empty bodies, all other kinds, and a segment that wraps, since 2 comes before 9.
+    bundle(record(SEGMENTS, b""))
+    bundle(record(SEGMENTS, b""), *(section(kind, 0, b"") for kind in (TYPES, FIELDS, STRINGS)))
+    bundle(segments(TOP - 16, 16, 0, 16))
 
 
 def sizes():
@@ -561,7 +567,11 @@ def runs(program):
         for words in ([path, path], ["--help", path]):
             yield run(" ".join(words), b"", b"list: one FILE at most" + MORE, *words)
         with open(os.devnull, "rb") as empty:
-            yield run("an empty input", b"refused 2\n", said(b""), stdin=empty)
+            yield run("an empty input", b"end 0\n", b"", stdin=empty)
+        pathlib.Path(path + "0").write_bytes(b"")
+        yield run("an empty file", b"end 0\n", b"", path + "0")
+        # A read that fails is no empty bundle.
+        yield run("no standard input", b"", b"list: standard input: Bad file descriptor\n", preexec_fn=lambda: os.close(0))
         directory = os.open(folder, os.O_RDONLY)
         yield run("a folder as standard input", b"", b"list: standard input: Is a directory\n", stdin=directory)
         os.close(directory)
@@ -578,7 +588,7 @@ def runs(program):
     os.write(manager, b"\x04")
     hint = b"list: reading a bundle from the terminal; `list --help` says more\n"
     out, err = at_terminal.communicate(timeout=60)
-    yield "a terminal", at_terminal.returncode, out, err, b"refused 2\n", hint + said(b"")
+    yield "a terminal", at_terminal.returncode, out, err, b"end 0\n", hint
 
 
 def try_program(program):
@@ -599,7 +609,7 @@ def main():
         sys.exit(try_program(sys.argv[2]))
     if sys.argv[1:] not in ([], ["--check"]):
         sys.exit(__doc__)
-    assert listing(clue()) == b"0000000000001000 struct Clue\nend 1\n" and listing(b"") == b"refused 2\n"
+    assert listing(clue()) == b"0000000000001000 struct Clue\nend 1\n" and listing(b"") == b"end 0\n" and said(b"") == b""
     for name, content in files().items():
         path = ROOT / name
         if sys.argv[1:]:

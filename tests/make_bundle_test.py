@@ -15,6 +15,8 @@ import os
 import pathlib
 import pty
 import random
+import resource
+import select
 import shutil
 import struct
 import subprocess
@@ -369,6 +371,45 @@ def parts():
         expect(f"options {bad}"[:100], made(*bad), (2, f"{sentence} (--help says more)\n", None))
 
 
+def no_bundle():
+    """What a pipe gets if there is no bundle: one that the program refuses, since no bytes at all are an empty listing."""
+    nothing = bytes.fromhex("000000000200")
+    piped = {"stdout": subprocess.PIPE}
+    sentence = f"make_bundle.py: cannot read {FOLDER}/none: No such file or directory\n"
+    expect("no file, to a pipe", command("--macho", FOLDER / "none", **piped), (2, sentence, nothing))
+    expect("no file, and -o", command("--macho", FOLDER / "none", "-o", FOLDER / "out", **piped), (2, sentence, b""))
+    (FOLDER / "none.macho").write_bytes(b"")
+    sentence = f"make_bundle.py: {FOLDER}/none.macho: no Mach-O file: it is empty\n"
+    expect("an empty file, to a pipe", command("--macho", FOLDER / "none.macho", **piped), (2, sentence, nothing))
+    sentence = "make_bundle.py: unrecognized arguments: --bogus (--help says more)\n"
+    expect("options, to a pipe", command("--sample", "clue", "--bogus", **piped), (2, sentence, nothing))
+    for word in ("-o", f"-o{FOLDER}/out"):
+        words = [word, FOLDER / "out"] if word == "-o" else [word]
+        expect("options, and -o", command("--sample", "clue", "--bogus", *words, **piped), (2, sentence, b""))
+    # What goes wrong inside, whatever it is.
+    for error, status in ("MemoryError", 2), ("KeyboardInterrupt", 130), ("ZeroDivisionError", 1):
+        inside = f"import sys; sys.path[:0] = ['{SCRIPT.parent}']; import make_bundle as m\n"
+        inside += f"def fails(options): raise {error}\nm.bundle_of = fails; sys.exit(m.main(['--sample', 'clue']))"
+        ended = subprocess.run([sys.executable, "-B", "-c", inside], stderr=subprocess.DEVNULL, **piped)
+        expect(error, (ended.returncode, ended.stdout), (status, nothing))
+    # A file that cannot be written whole is not left behind; what is no file stays.
+    small = {"preexec_fn": lambda: resource.setrlimit(resource.RLIMIT_FSIZE, (0, 0))}
+    sentence = f"make_bundle.py: cannot write {FOLDER}/out: File too large\n"
+    (FOLDER / "out").write_bytes(b"before")
+    expect("no room for a file", (command("--sample", "clue", "-o", FOLDER / "out", **small), (FOLDER / "out").exists()), ((2, sentence, None), False))
+    (FOLDER / "full").symlink_to("/dev/full")
+    sentence = f"make_bundle.py: cannot write {FOLDER}/full: No space left on device\n"
+    expect("onto a full device", (command("--sample", "clue", "-o", FOLDER / "full"), (FOLDER / "full").exists()), ((2, sentence, None), True))
+    expect("no standard output", command("--sample", "clue", preexec_fn=lambda: os.close(1))[0], 2)
+    if USE_PROGRAM:
+        expect("no bundle, listed", listed(nothing), "refused 2\n")
+        for option, status in ("", 0), ("set -o pipefail; ", 2):
+            pipe = f"{option}'{SCRIPT}' --macho '{FOLDER}/none' 2> /dev/null | '{PROGRAM}' 2>&1"
+            ended = subprocess.run(["bash", "-c", pipe], stdout=subprocess.PIPE)
+            wanted = (status, "refused 2\nlist: refused 2: there is no image, at byte 6\n")
+            expect("a pipe without a bundle", (ended.returncode, ended.stdout.decode()), wanted)
+
+
 def part_of_a_file():
     """What the README says of a file above the limit: only the section with the descriptors, as an image of its own."""
     data, _ = orchard()
@@ -395,6 +436,7 @@ def commands():
     ours, theirs = pty.openpty()
     sentence = "a bundle is not text, and standard output is a terminal: give -o FILE, or pipe it into target/bin/list"
     expect("a terminal", command("--sample", "clue", stdout=theirs), (2, f"make_bundle.py: {sentence}\n", None))
+    expect("what a terminal gets", select.select([ours], [], [], 0)[0], [])
     expect("a terminal, and -o", command("--sample", "clue", "-o", FOLDER / "out", stdout=theirs), (0, "", None))
     os.close(ours)
     os.close(theirs)
@@ -491,7 +533,7 @@ def not_run(what, why):
 def main():
     if WORDS == ["--link"]:
         sys.exit(linked("x86_64", 2, KEPT))
-    for group in (whole_files, small_files, other_files, damaged_commands, cut_files, damaged_files, parts, part_of_a_file, commands, kept_file):
+    for group in (whole_files, small_files, other_files, damaged_commands, cut_files, damaged_files, parts, part_of_a_file, commands, no_bundle, kept_file):
         group()
     if WORDS == []:
         why = linked_anew()

@@ -132,8 +132,10 @@ def answer(function, a, b, data, strings, numbers):
         if found is None:
             return "nothing"
         return found[0] + " " + text_line(data if found[0] == "image" else strings, found[1:])
+    if function == "image_part":
+        return digits(bodies(data).get(1, b""))
     body = bodies(data).get(PARTS[function], bytes(8))
-    return digits(body) if function == "image_part" else f"{number_at(body, 0, 8):x} {digits(body[8:])}"
+    return f"{number_at(body, 0, 8):x} {digits(body[8:])}"
 
 
 # The vectors, in the order of the lines.
@@ -401,7 +403,7 @@ def field_names():
 
 
 def bundle_parts():
-    """The parts of bundles with every choice of the kinds besides the image."""
+    """The parts of bundles with every choice of the kinds besides the image, and of one without records."""
     records = {2: bytes(range(32)), 3: struct.pack("<Q4s", 0x2000, b"type"), 4: struct.pack("<Q6s", 0x3000, b"fields"), 5: struct.pack("<Q5s", TOP - 1, b"names")}
     for choice in range(16):
         kinds = {1: b"image"} | {kind: body for kind, body in records.items() if choice >> kind - 2 & 1}
@@ -410,6 +412,7 @@ def bundle_parts():
     # Empty bodies.
     for function in PARTS:
         vector(function, 0, data=b"".join(struct.pack("<IH", size, kind) + bytes(size) for kind, size in ((1, 0), (2, 0), (3, 8), (4, 8), (5, 8))))
+        vector(function, 0, data=b"")
 
 
 checked_lines()

@@ -4,6 +4,7 @@ use Prim.Native.Nat.{ℕ, zero, suc, _+_, _-_, _%_, _/_, _≤_, _<_}
 use mathlib.Core.Path.{_≡_}
 use mathlib.Core.List.{List, [], _∷_, _++_, map, List·Memᴰ}
 use mathlib.Core.Bool.{Bool, true, cond}
+use mathlib.Core.Logic.{_⊎_}
 use lib.ListN.{length, getD, take, drop}
 use lib.Dec.{leb, ltb, eqb}
 use Rattle.util.specs.LittleEndian.{littleEndian}
@@ -44,10 +45,10 @@ pub data Rising : ℕ → List Record → Type 0 where
 abbrev pub kinds : List Record → List ℕ
 kinds rs = map (λ (r : Record). r .kind) rs
 
--- the rules: of all kinds only the image is required
+-- the rules: of all kinds only the image is required, and nothing is if there is no record at all
 pub record Obeys (rs : List Record) : Type 0 where
   pub rising : Rising 0 rs
-  pub image : List·Memᴰ 1 (kinds rs)
+  pub image : (rs ≡ []) ⊎ List·Memᴰ 1 (kinds rs)
 
 -- a run of bytes: its start and its length
 abbrev pub part : ℕ → ℕ → Part

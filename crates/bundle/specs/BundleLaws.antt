@@ -8,7 +8,7 @@ use native.Mathlib.Omega.{arith}
 use mathlib.Core.Path.{_≡_, refl, sym, _∙_, ap, subst}
 use mathlib.Core.List.{List, [], _∷_, _++_, append-assoc, List·Memᴰ, List·Memᴰ·head, List·Memᴰ·tail, List·Memᴰ·cases-cons, List·Memᴰ·not-nil}
 use mathlib.Core.Bool.{Bool, true, false, and-false, and-eq-true-iff}
-use mathlib.Core.Logic.{⊎-elim}
+use mathlib.Core.Logic.{_⊎_, inl, inr, ⊎-elim}
 use lib.ListN.{length, take, drop, length-append, length-drop, take-append-drop, drop-of-length-le}
 use lib.Seq.{take-at, drop-at, drop-drop, getD-drop, length-take-le}
 use lib.Dec.{leb, eqb}
@@ -18,6 +18,7 @@ use Rattle.util.specs.LittleEndian.{littleEndian}
 use Rattle.bundle.specs.Bundle.{Record, littleBytes, encoded, bundleBytes, bodyFits, Bytes, Rising, kinds, Obeys, part, bodyPlace, layoutIn, layoutOf}
 use Rattle.bundle.specs.Open.{sizeAt, kindAt, isAt, takeAt, image, segments, types, fields, strings, bundleMost, openBundle}
 use Rattle.bundle.specs.OpenLaws.{untaken, takenOf, take-none, take-some, take-past, too-long, no-image, left-over, opens}
+use Rattle.bundle.specs.declared.open.Part.{Part}
 use Rattle.bundle.specs.declared.open.Layout.{Layout}
 use Rattle.bundle.specs.declared.open.Taken.{Taken}
 
@@ -249,6 +250,29 @@ recorded k at (r ∷ rs) h =
     go below true e = List·Memᴰ·head (sym (eqb-true _ _ e))
     go below false e = List·Memᴰ·tail (below (rw e at h))
 
+-- records have bytes
+some-bytes : (r : Record) (rs : List Record) → 0 < length (bundleBytes (r ∷ rs))
+unfolding bundleBytes encoded
+some-bytes r rs = simp (length-append, little-length) (omega arith)
+
+no-records : (rs : List Record) → length (bundleBytes rs) ≡ 0 → rs ≡ []
+no-records [] e = refl
+no-records (r ∷ rs) e = absurd (omega (arith, some-bytes r rs))
+
+-- what was taken for the image is as the rules have it: nothing only if there are no bytes
+module _ (s : List ℕ) (rs : List Record) (here : image s .part ≡ bodyPlace 1 0 rs) (same : bundleBytes rs ≡ s) where
+  image-taken : (rs ≡ []) ⊎ List·Memᴰ 1 (kinds rs) → image s .part .start ≡ 0 → length s ≡ 0
+  unfolding bundleBytes
+  image-taken (inl e) q = ap length (sym same ∙ ap bundleBytes e)
+  image-taken (inr m) q = let there : 0 < image s .part .start = rw here (placed 1 0 rs m) in absurd (omega arith)
+
+  image-recorded : (image s .part .start ≡ 0 → length s ≡ 0) → (rs ≡ []) ⊎ List·Memᴰ 1 (kinds rs)
+  image-recorded required =
+      elim (decLt 0 (image s .part .start)) [
+        | yes there ↦ inr (recorded 1 0 rs (rw here at there))
+        | no there ↦ inl (no-records rs (ap length same ∙ required (omega arith)))
+      ]
+
 none-left : (s : List ℕ) (at : ℕ) (rs : List Record) → Stage s at 5 rs → length s ≤ at
 unfolding bundleBytes
 none-left s at rs st = go (st .rising) (st .bytes)
@@ -256,6 +280,14 @@ none-left s at rs st = go (st .rising) (st .bytes)
     go : {rs : List Record} → Rising 5 rs → drop at s ≡ bundleBytes rs → length s ≤ at
     go Rising.done e = omega (arith, length-drop at s, ap length e)
     go (Rising.next lo hi fit more) e = absurd (omega arith)
+
+-- records without an image are refused, if there are any
+pub imageless : (r : Record) (rs : List Record) → Rising 1 (r ∷ rs) → length (bundleBytes (r ∷ rs)) ≤ bundleMost → openBundle (bundleBytes (r ∷ rs)) ≡ refused 2
+imageless r rs rising short =
+    let s : List ℕ = bundleBytes (r ∷ rs) in
+    let f = forward s 0 0 (r ∷ rs) short (weaken (omega arith) rising) refl in
+    let missing : image s .part ≡ part 0 0 = f .step .here ∙ sym (absent rising 1 0 (omega arith)) in
+    sym (no-image s refl refl refl refl refl (ap (λ (p : Part). p .start) missing) (some-bytes r rs) short)
 
 pub complete : (rs : List Record) → Obeys rs → length (bundleBytes rs) ≤ bundleMost → openBundle (bundleBytes rs) ≡ answered (layoutOf rs)
 complete rs obeys short =
@@ -265,8 +297,7 @@ complete rs obeys short =
     let f3 = forward s (segments s .next) 2 (f2 .rest) short (f2 .stage .rising) (f2 .stage .bytes) in
     let f4 = forward s (types s .next) 3 (f3 .rest) short (f3 .stage .rising) (f3 .stage .bytes) in
     let f5 = forward s (fields s .next) 4 (f4 .rest) short (f4 .stage .rising) (f4 .stage .bytes) in
-    let there : 0 < image s .part .start = rw (f1 .step .here) (placed 1 0 rs (obeys .image)) in
-    sym (opens s refl refl refl refl refl refl refl refl (λ q. omega arith) (none-left s (strings s .next) (f5 .rest) (f5 .stage)) short)
+    sym (opens s refl refl refl refl refl refl refl refl (image-taken s rs (f1 .step .here) refl (obeys .image)) (none-left s (strings s .next) (f5 .rest) (f5 .stage)) short)
     ∙ ap answered (laid s rs (f1 .rest) (f2 .rest) (f3 .rest) (f4 .rest) (f5 .rest) (f1 .step) (f2 .step) (f3 .step) (f4 .step) (f5 .step) refl)
 
 -- records whose bytes have a layout
@@ -285,12 +316,12 @@ opened-short s l e =
       | no h ↦ let f = too-long s (omega arith) in let z : _≡_ {A = ℕ} 0 1 = cc in absurd (omega arith)
     ]
 
-pub opened-image : (s : List ℕ) (l : Layout) → openBundle s ≡ answered l → 0 < image s .part .start
-opened-image s l e =
-    elim (decLt 0 (image s .part .start)) [
-      | yes h ↦ h
+pub opened-image : (s : List ℕ) (l : Layout) → openBundle s ≡ answered l → image s .part .start ≡ 0 → length s ≡ 0
+opened-image s l e missing =
+    elim (decLe (length s) 0) [
+      | yes h ↦ omega arith
       | no h ↦
-          let f = no-image s refl refl refl refl refl (omega arith) (opened-short s l e) in
+          let f = no-image s refl refl refl refl refl missing (omega arith) (opened-short s l e) in
           let z : _≡_ {A = ℕ} 0 1 = cc in
           absurd (omega arith)
     ]
@@ -309,20 +340,20 @@ pub sound : (s : List ℕ) (l : Layout) → Bytes s → openBundle s ≡ answere
 unfolding bundleBytes
 sound s l bytes e =
     let short : length s ≤ bundleMost = opened-short s l e in
-    let there : 0 < image s .part .start = opened-image s l e in
+    let there : image s .part .start ≡ 0 → length s ≡ 0 = opened-image s l e in
     let all : length s ≤ strings s .next = opened-all s l e in
     let b5 = backward s bytes (fields s .next) 4 [] (omega arith) (record { rising = Rising.done; bytes = drop-of-length-le s all }) in
     let b4 = backward s bytes (types s .next) 3 (b5 .records) (omega arith) (b5 .stage) in
     let b3 = backward s bytes (segments s .next) 2 (b4 .records) (omega arith) (b4 .stage) in
     let b2 = backward s bytes (image s .next) 1 (b3 .records) (omega arith) (b3 .stage) in
     let b1 = backward s bytes 0 0 (b2 .records) (omega arith) (b2 .stage) in
-    let found : answered (takenLayout s) ≡ answered l = opens s refl refl refl refl refl refl refl refl (λ q. omega arith) all short ∙ e in
+    let found : answered (takenLayout s) ≡ answered l = opens s refl refl refl refl refl refl refl refl there all short ∙ e in
     let same : bundleBytes (b1 .records) ≡ s = sym {b = bundleBytes (b1 .records)} (b1 .stage .bytes) in
     let from = laid s (b1 .records) (b2 .records) (b3 .records) (b4 .records) (b5 .records) [] (b1 .step) (b2 .step) (b3 .step) (b4 .step) (b5 .step) same in
     let layout : layoutOf (b1 .records) ≡ l = cc in
     record {
       records = b1 .records;
-      obeys = record { rising = b1 .stage .rising; image = recorded 1 0 (b1 .records) (rw (b1 .step .here) at there) };
+      obeys = record { rising = b1 .stage .rising; image = image-recorded s (b1 .records) (b1 .step .here) same there };
       bytes = same;
       layout = layout;
       short = short;
@@ -332,16 +363,23 @@ sound s l bytes e =
 module _ (s : List ℕ) where
   pub broken-refused : Bytes s → length s ≤ bundleMost → ((rs : List Record) → Obeys rs → bundleBytes rs ≡ s → ⊥) → openBundle s ≡ refused 2
   broken-refused bytes short broken =
-      elim (decLt 0 (image s .part .start)) [
-        | yes there ↦
-            elim (decLe (length s) (strings s .next)) [
-              | yes all ↦
-                  let found = sound s _ bytes (sym (opens s refl refl refl refl refl refl refl refl (λ q. omega arith) all short)) in
-                  absurd (broken (found .records) (found .obeys) (found .bytes))
-              | no all ↦ sym (left-over s refl refl refl refl refl (omega arith) short)
+      elim (decLe (length s) (strings s .next)) [
+        | no all ↦ sym (left-over s refl refl refl refl refl (omega arith) short)
+        | yes all ↦
+            elim (decLe (length s) 0) [
+              | yes none ↦ obeyed all (λ q. omega arith)
+              | no some ↦
+                  elim (decLt 0 (image s .part .start)) [
+                    | yes there ↦ obeyed all (λ q. omega arith)
+                    | no there ↦ sym (no-image s refl refl refl refl refl (omega arith) (omega arith) short)
+                  ]
             ]
-        | no there ↦ sym (no-image s refl refl refl refl refl (omega arith) short)
       ]
+    where
+      obeyed : length s ≤ strings s .next → (image s .part .start ≡ 0 → length s ≡ 0) → openBundle s ≡ refused 2
+      obeyed all there =
+          let found = sound s _ bytes (sym (opens s refl refl refl refl refl refl refl refl there all short)) in
+          absurd (broken (found .records) (found .obeys) (found .bytes))
 
   pub refused-broken : openBundle s ≡ refused 2 → (rs : List Record) → Obeys rs → bundleBytes rs ≡ s → ⊥
   refused-broken e rs obeys same =

@@ -3,7 +3,7 @@
 -- `BundleLaws.complete` say that the records of `Bundle` that obey the rules, and no other bytes, are opened, with their layout.
 use Prim.Native.Nat.{ℕ, _+_, _≤_}
 use mathlib.Core.List.{List}
-use mathlib.Core.Bool.{Bool, cond, _&&_}
+use mathlib.Core.Bool.{Bool, cond, _&&_, _||_}
 use lib.ListN.{length, take, drop}
 use lib.Dec.{leb, ltb, eqb}
 use Rattle.refusal.specs.Refusal.{Guarded, answered, refused, refusalNumber}
@@ -32,10 +32,10 @@ takeAt kind s at =
     (record { part = part (at + 6) (sizeAt s at); next = at + 6 + sizeAt s at })
     (record { part = part 0 0; next = at })
 
--- from what was taken for each kind: there must be an image, and no byte may be left
+-- from what was taken for each kind: there must be an image, or no byte at all, and no byte may be left
 unfoldable pub answer : List ℕ → Taken → Taken → Taken → Taken → Taken → Guarded Layout
 answer s image segments types fields strings =
-    cond (ltb 0 (image .part .start) && leb (length s) (strings .next))
+    cond ((ltb 0 (image .part .start) || eqb (length s) 0) && leb (length s) (strings .next))
     (answered (layoutIn s (image .part) (segments .part) (types .part) (fields .part) (strings .part)))
     (refused 2)
 

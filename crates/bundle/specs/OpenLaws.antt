@@ -1,12 +1,12 @@
 -- What the tests of the code, one after the other, say about the definitions of `Open`. Assumes nothing.
-use Prim.Native.Nat.{ℕ, _+_, _-_, _%_, _≤_, _<_}
+use Prim.Native.Nat.{ℕ, zero, suc, _+_, _-_, _%_, _≤_, _<_}
 use native.Mathlib.Omega.{arith}
 use mathlib.Core.Path.{_≡_, refl, sym, _∙_, ap}
 use mathlib.Core.List.{List}
-use mathlib.Core.Bool.{Bool, true, false, and-false, and-eq-true-iff}
+use mathlib.Core.Bool.{Bool, true, false, _||_, and-false, and-eq-true-iff}
 use mathlib.Core.Option.{some}
 use lib.ListN.{length}
-use lib.Dec.{leb, eqb}
+use lib.Dec.{leb, ltb, eqb}
 use borrow.Author.Tests.{le-leb, lt-leb, lt-ltb, le-ltb, eq-eqb, ne-eqb, leb-true}
 use Rattle.refusal.specs.Refusal.{answered, refused}
 use Rattle.util.specs.LittleEndian.{littleAt}
@@ -103,21 +103,26 @@ pub too-long : (s : List ℕ) → bundleMost < length s → refused 5 ≡ openBu
 unfolding openBundle
 too-long s h = rw (lt-ltb bundleMost (length s) h)
 
+-- an image that starts at `n`, or no byte at all
+image-or-none : (n m : ℕ) → (n ≡ 0 → m ≡ 0) → (ltb 0 n || eqb m 0) ≡ true
+image-or-none zero m h = eq-eqb m 0 (h refl)
+image-or-none (suc n) m h = rw (lt-ltb 0 (suc n) (omega arith))
+
 -- what was taken for the five kinds, one after the other
 module _ (s : List ℕ) {i g t f n : Taken} (ei : i ≡ takeAt 1 s 0) (eg : g ≡ takeAt 2 s (i .next)) (et : t ≡ takeAt 3 s (g .next)) (ef : f ≡ takeAt 4 s (t .next)) (en : n ≡ takeAt 5 s (f .next)) where
   answer-is : length s ≤ bundleMost → answer s i g t f n ≡ openBundle s
   unfolding openBundle
   answer-is h = rw (le-ltb bundleMost (length s) h, en, ef, et, eg, ei)
 
-  pub no-image : i .part .start ≡ 0 → length s ≤ bundleMost → refused 2 ≡ openBundle s
+  pub no-image : i .part .start ≡ 0 → 0 < length s → length s ≤ bundleMost → refused 2 ≡ openBundle s
   unfolding answer
-  no-image e h = sym (rw e) ∙ answer-is h
+  no-image e bytes h = sym (rw (e, ne-eqb (length s) 0 (λ q. omega arith))) ∙ answer-is h
 
   pub left-over : n .next < length s → length s ≤ bundleMost → refused 2 ≡ openBundle s
   unfolding answer
   left-over l h = sym (rw (lt-leb (length s) (n .next) l, and-false)) ∙ answer-is h
 
-  pub opens : {a b c : Section} → a ≡ sectionIn s (t .part) → b ≡ sectionIn s (f .part) → c ≡ sectionIn s (n .part) → (i .part .start ≡ 0 → ⊥) → length s ≤ n .next → length s ≤ bundleMost → answered (record { image = i .part; segments = g .part; types = a; fields = b; strings = c }) ≡ openBundle s
+  pub opens : {a b c : Section} → a ≡ sectionIn s (t .part) → b ≡ sectionIn s (f .part) → c ≡ sectionIn s (n .part) → (i .part .start ≡ 0 → length s ≡ 0) → length s ≤ n .next → length s ≤ bundleMost → answered (record { image = i .part; segments = g .part; types = a; fields = b; strings = c }) ≡ openBundle s
   unfolding answer
   opens ea eb ec there all h =
-      rw (ea, eb, ec) (sym (rw (lt-ltb 0 (i .part .start) (omega arith), le-leb (length s) (n .next) all)) ∙ answer-is h)
+      rw (ea, eb, ec) (sym (rw (image-or-none (i .part .start) (length s) there, le-leb (length s) (n .next) all)) ∙ answer-is h)

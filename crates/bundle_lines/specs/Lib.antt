@@ -1,3 +1,4 @@
+pub mod Empty
 pub mod Printed
 pub mod PrintedLaws
 pub mod PrintsLaws

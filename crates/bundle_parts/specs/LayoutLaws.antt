@@ -12,7 +12,7 @@ use Rattle.refusal.specs.Refusal.{answered}
 use Rattle.util.specs.LittleEndian.{littleEndian}
 use Rattle.util.specs.CstrLaws.{part-in}
 use Rattle.bundle.specs.Bundle.{Record, bundleBytes, bodyFits, bodyPlace, sectionIn}
-use Rattle.bundle.specs.Open.{sizeAt, kindAt, isAt, takeAt, image, bundleMost, openBundle, Within}
+use Rattle.bundle.specs.Open.{sizeAt, kindAt, isAt, takeAt, bundleMost, openBundle, Within}
 use Rattle.bundle.specs.OpenLaws.{take-none, take-some, taken-within, opens}
 use Rattle.bundle.specs.BundleLaws.{from-body, from-next, read-within, takenLayout, opened-short, opened-image, opened-all}
 use Rattle.bundle_parts.specs.Parts.{bytesOf}
@@ -86,8 +86,7 @@ pub record Fit (s : List ℕ) (l : Layout) : Type 0 where
 pub opened-fit : (s : List ℕ) (l : Layout) → openBundle s ≡ answered l → Fit s l
 opened-fit s l e =
     let short : length s ≤ bundleMost = opened-short s l e in
-    let there : 0 < image s .part .start = opened-image s l e in
-    let found : answered (takenLayout s) ≡ answered l = opens s refl refl refl refl refl refl refl refl (λ q. omega arith) (opened-all s l e) short ∙ e in
+    let found : answered (takenLayout s) ≡ answered l = opens s refl refl refl refl refl refl refl refl (opened-image s l e) (opened-all s l e) short ∙ e in
     let same : takenLayout s ≡ l = cc in
     subst (Fit s) same
     (record {

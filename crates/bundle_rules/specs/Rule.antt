@@ -35,9 +35,9 @@ abbrev pub turn : ℕ → Checked → (ℕ → ℕ → Broken) → Broken
 turn at (Checked.Breaks r) more = Broken.At r at
 turn at (Checked.Keeps kind next) more = more kind next
 
--- at the end, one of the records must have been an image
+-- at the end, one of the records must have been an image, if there were any
 abbrev pub atEnd : List ℕ → Bool → Broken
-atEnd s image = cond image Broken.Whole (Broken.At Rule.NoImage (length s))
+atEnd s image = cond (image || eqb (length s) 0) Broken.Whole (Broken.At Rule.NoImage (length s))
 
 -- from an offset on, in a bounded number of turns; whether there was an image, and the last kind
 unfoldable pub walk : ℕ → List ℕ → Bool → ℕ → ℕ → Broken

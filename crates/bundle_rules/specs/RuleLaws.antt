@@ -5,7 +5,7 @@ use native.Mathlib.Decide.{decLe}
 use native.Mathlib.Omega.{arith}
 use mathlib.Core.Path.{_≡_, refl, sym, _∙_, ap, subst}
 use mathlib.Core.List.{List, [], _∷_}
-use mathlib.Core.Bool.{Bool, true, false, cond, _&&_, _||_, and-false, and-eq-true-iff, and-comm}
+use mathlib.Core.Bool.{Bool, true, false, cond, _&&_, _||_, or-true, and-false, and-eq-true-iff, and-comm}
 use mathlib.Core.Option.{some}
 use lib.ListN.{length}
 use lib.Dec.{leb, ltb, eqb}
@@ -165,8 +165,11 @@ module _ (s : List ℕ) (image : Bool) (last at : ℕ) where
   pub walked-whole : RulesWalked s image last at → length s ≤ at → image ≡ true → Broken.Whole ≡ brokenRule s
   walked-whole w h e = sym (ap (atEnd s) e) ∙ walked-ended w h
 
-  pub walked-missing : RulesWalked s image last at → length s ≤ at → image ≡ false → Broken.At Rule.NoImage (length s) ≡ brokenRule s
-  walked-missing w h e = sym (ap (atEnd s) e) ∙ walked-ended w h
+  pub walked-empty : RulesWalked s image last at → length s ≡ 0 → Broken.Whole ≡ brokenRule s
+  walked-empty w e = sym (rw (eq-eqb (length s) 0 e, or-true)) ∙ walked-ended w (omega arith)
+
+  pub walked-missing : RulesWalked s image last at → length s ≤ at → image ≡ false → (length s ≡ 0 → ⊥) → Broken.At Rule.NoImage (length s) ≡ brokenRule s
+  walked-missing w h e bytes = sym (rw (e, ne-eqb (length s) 0 bytes)) ∙ walked-ended w h
 
 -- whether there was an image, as the code has it after a record that obeyed the rules
 module _ (s : List ℕ) (image : Bool) (k n : ℕ) where
@@ -244,14 +247,14 @@ module _ (s : List ℕ) (image : Bool) (last at : ℕ) (most : suc last ≤ 5) w
       turned s image last at n (omega arith) ∙ ap (λ (c : Checked). turn at c (λ kind next. walk n s (eqb kind 1 || image) kind next)) (sym keeps)
 
 -- past the last kind, nothing may be left
-walk-end : (n : ℕ) (s : List ℕ) (image : Bool) (at : ℕ) → isWhole (walk (suc n) s image 5 at) ≡ (leb (length s) at && image)
+walk-end : (n : ℕ) (s : List ℕ) (image : Bool) (at : ℕ) → isWhole (walk (suc n) s image 5 at) ≡ (leb (length s) at && (image || eqb (length s) 0))
 walk-end n s image at =
     elim (decLe (length s) at) [
-      | yes h ↦ ap isWhole (turned-end s image 5 at n h) ∙ rw (le-leb (length s) at h) (seen image)
+      | yes h ↦ ap isWhole (turned-end s image 5 at n h) ∙ rw (le-leb (length s) at h) (seen (image || eqb (length s) 0))
       | no h ↦ ap isWhole (turned s image 5 at n (omega arith)) ∙ breaks (checkAt s 5 at) refl ∙ rw (lt-leb (length s) at (omega arith))
     ]
   where
-    seen : (b : Bool) → isWhole (atEnd s b) ≡ b
+    seen : (b : Bool) → isWhole (cond b Broken.Whole (Broken.At Rule.NoImage (length s))) ≡ b
     seen true = refl
     seen false = refl
 
@@ -298,7 +301,7 @@ module _ (s : List ℕ) where
       either true is = rw (← take-some 1 s 0 is)
       either false is = rw (← take-none 1 s 0 is)
 
-  walk-whole : isWhole (walk 6 s false 0 0) ≡ (leb (length s) (strings s .next) && there)
+  walk-whole : isWhole (walk 6 s false 0 0) ≡ (leb (length s) (strings s .next) && (there || eqb (length s) 0))
   walk-whole =
       let two = stage-later s there 1 (image s .next) (omega arith) (omega arith) stage-image in
       let three = stage-later s there 2 (segments s .next) (omega arith) (omega arith) two in
@@ -306,7 +309,7 @@ module _ (s : List ℕ) where
       let five = stage-later s there 4 (fields s .next) (omega arith) (omega arith) four in
       five .same ∙ go (five .turns) (five .enough)
     where
-      go : (n : ℕ) → 6 ≤ n + 5 → isWhole (walk n s there 5 (strings s .next)) ≡ (leb (length s) (strings s .next) && there)
+      go : (n : ℕ) → 6 ≤ n + 5 → isWhole (walk n s there 5 (strings s .next)) ≡ (leb (length s) (strings s .next) && (there || eqb (length s) 0))
       go zero m = absurd (omega arith)
       go (suc n) m = walk-end n s there (strings s .next)
 
@@ -316,7 +319,7 @@ module _ (s : List ℕ) where
 
   opened-whole : length s ≤ bundleMost → openBundle s ≡ refusal (isWhole (brokenRule s))
   unfolding openBundle answer brokenRule
-  opened-whole h = rw (le-ltb bundleMost (length s) h, walk-whole, and-comm (leb (length s) (strings s .next)) there)
+  opened-whole h = rw (le-ltb bundleMost (length s) h, walk-whole, and-comm (leb (length s) (strings s .next)) (there || eqb (length s) 0))
 
   pub told-refused : (r : Rule) (at : ℕ) → brokenRule s ≡ Broken.At r at → openBundle s ≡ refused 2
   told-refused r at e =
@@ -342,9 +345,10 @@ module _ (s : List ℕ) where
       go (Broken.At r at) e = absurd (f (told-refused r at e))
       go Broken.Whole e = refl
 
--- each rule, broken by a bundle of a few bytes; the empty bundle has no image
+-- each rule, broken by a bundle of a few bytes; the empty bundle breaks none
 pub record Examples : Type 0 where
-  pub empty : brokenRule [] ≡ Broken.At Rule.NoImage 0
+  pub empty : brokenRule [] ≡ Broken.Whole
+  pub one-byte : brokenRule (0 ∷ []) ≡ Broken.At Rule.CutShort 0
   pub image : brokenRule (0 ∷ 0 ∷ 0 ∷ 0 ∷ 1 ∷ 0 ∷ []) ≡ Broken.Whole
   pub header-cut : brokenRule (0 ∷ 0 ∷ 0 ∷ 0 ∷ 1 ∷ []) ≡ Broken.At Rule.CutShort 0
   pub body-cut : brokenRule (0 ∷ 0 ∷ 0 ∷ 0 ∷ 1 ∷ 0 ∷ 9 ∷ 0 ∷ 0 ∷ 0 ∷ 3 ∷ 0 ∷ 7 ∷ []) ≡ Broken.At Rule.CutShort 6
@@ -357,4 +361,4 @@ pub record Examples : Type 0 where
 
 pub examples : Examples
 unfolding brokenRule walk checkAt checkKind bodyFits littleEndian
-examples = record { empty = refl; image = refl; header-cut = refl; body-cut = refl; kind-none = refl; kind-six = refl; twice = refl; ragged = refl; not-led = refl; no-image = refl }
+examples = record { empty = refl; one-byte = refl; image = refl; header-cut = refl; body-cut = refl; kind-none = refl; kind-six = refl; twice = refl; ragged = refl; not-led = refl; no-image = refl }

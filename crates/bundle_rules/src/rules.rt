@@ -17,7 +17,7 @@ pub enum Rule {
     SegmentBody,
     // A led body under 8 bytes.
     LedBody,
-    // No record is an image.
+    // There are records, and none is an image.
     NoImage,
 }
 
@@ -92,7 +92,7 @@ pub fn broken_rule(bytes: &[u8]) -> Broken
             }
         }
     }
-    if image {
+    if image || bytes.len() == 0 {
         Broken::Whole
     } else {
         Broken::At {

@@ -3,9 +3,12 @@
 use Prim.Native.Nat.{_-_}
 use native.Mathlib.Omega.{arith}
 use mathlib.Core.Path.{sym, _∙_}
+use mathlib.Core.Logic.{⊎-elim}
+use mathlib.Core.Bool.{true≢false}
 use lib.ListN.{length}
+use borrow.Author.Tests.{eqb-true, eqb-false}
 use borrow.Author.Needs.{needs}
-use Rattle.bundle_rules.specs.RuleLaws.{too-long-whole, RulesWalked, walked-none, walked-breaks, walked-keeps, walked-whole, walked-missing, seen-image, seen-other, kept-by-check}
+use Rattle.bundle_rules.specs.RuleLaws.{too-long-whole, RulesWalked, walked-none, walked-breaks, walked-keeps, walked-whole, walked-empty, walked-missing, seen-image, seen-other, kept-by-check}
 use Rattle.bundle_rules.proofs.rules.broken_rule.Statement.{statement}
 use Rattle.bundle_rules.proofs.rules.broken_rule.Tie as tie
 
@@ -37,10 +40,14 @@ loop-again-2 : tie.Need-loop-again-2 Inv-loop μ-loop
 loop-again-2 c = seen-other _ _ _ _ (c .if2 .left) (walked-keeps _ _ _ _ _ _ (c .before .before .before .before .before .before .loop .inv) (omega arith) (sym (c .before .before .kind .given .1) ∙ c .before .before .before .before .check-record .ensures))
 
 returns-3 : tie.Need-returns-3 Inv-loop μ-loop
-returns-3 c = walked-whole _ _ _ _ (c .before .before .loop .inv) (omega arith) (c .if3 .taken)
+returns-3 c =
+    let walked = c .before .before .before .loop .inv in
+    ⊎-elim (λ w. walked-whole _ _ _ _ walked (omega arith) (w .0 .taken)) (λ w. walked-empty _ _ _ _ walked (eqb-true _ _ (sym (w .1) ∙ c .if4 .taken))) (c .before .if3 .came)
 
 returns-4 : tie.Need-returns-4 Inv-loop μ-loop
-returns-4 c = walked-missing _ _ _ _ (c .before .before .loop .inv) (omega arith) (c .if3 .left)
+returns-4 c =
+    let walked = c .before .before .before .loop .inv in
+    ⊎-elim (λ w. absurd (true≢false (sym (w .0 .taken) ∙ sym (w .1) ∙ c .if4 .left))) (λ w. walked-missing _ _ _ _ walked (omega arith) (w .0 .left) (eqb-false _ _ (sym (w .1) ∙ c .if4 .left))) (c .before .if3 .came)
 
 pub broken-rule-spec : {M : Type 1} → statement M
 broken-rule-spec =
