@@ -392,7 +392,7 @@ def no_bundle():
         inside += f"def fails(options): raise {error}\nm.bundle_of = fails; sys.exit(m.main(['--sample', 'clue']))"
         ended = subprocess.run([sys.executable, "-B", "-c", inside], stderr=subprocess.DEVNULL, **piped)
         expect(error, (ended.returncode, ended.stdout), (status, nothing))
-    # A file that cannot be written whole is not left behind; what is no file stays.
+    # A file that cannot be written whole is not left behind; a device stays.
     small = {"preexec_fn": lambda: resource.setrlimit(resource.RLIMIT_FSIZE, (0, 0))}
     sentence = f"make_bundle.py: cannot write {FOLDER}/out: File too large\n"
     (FOLDER / "out").write_bytes(b"before")

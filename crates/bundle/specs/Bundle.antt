@@ -45,7 +45,7 @@ pub data Rising : ℕ → List Record → Type 0 where
 abbrev pub kinds : List Record → List ℕ
 kinds rs = map (λ (r : Record). r .kind) rs
 
--- the rules: of all kinds only the image is required, and nothing is if there is no record at all
+-- the rules: there are no records, or an image is among them; no other kind is required
 pub record Obeys (rs : List Record) : Type 0 where
   pub rising : Rising 0 rs
   pub image : (rs ≡ []) ⊎ List·Memᴰ 1 (kinds rs)

@@ -281,7 +281,7 @@ none-left s at rs st = go (st .rising) (st .bytes)
     go Rising.done e = omega (arith, length-drop at s, ap length e)
     go (Rising.next lo hi fit more) e = absurd (omega arith)
 
--- records without an image are refused, if there are any
+-- records of kinds above 1, and so without an image, are refused if there are any
 pub imageless : (r : Record) (rs : List Record) → Rising 1 (r ∷ rs) → length (bundleBytes (r ∷ rs)) ≤ bundleMost → openBundle (bundleBytes (r ∷ rs)) ≡ refused 2
 imageless r rs rising short =
     let s : List ℕ = bundleBytes (r ∷ rs) in
@@ -367,8 +367,8 @@ module _ (s : List ℕ) where
         | no all ↦ sym (left-over s refl refl refl refl refl (omega arith) short)
         | yes all ↦
             elim (decLe (length s) 0) [
-              | yes none ↦ obeyed all (λ q. omega arith)
-              | no some ↦
+              | yes empty ↦ obeyed all (λ q. omega arith)
+              | no filled ↦
                   elim (decLt 0 (image s .part .start)) [
                     | yes there ↦ obeyed all (λ q. omega arith)
                     | no there ↦ sym (no-image s refl refl refl refl refl (omega arith) (omega arith) short)

@@ -138,6 +138,7 @@ pub fn open_bundle(bytes: &[u8]) -> Opened
     let types = take_record(bytes, segments.next, 3);
     let fields = take_record(bytes, types.next, 4);
     let strings = take_record(bytes, fields.next, 5);
+    // No bytes at all are a bundle with nothing in it: an image is required only beside other records.
     if image.part.start == 0 && 0 < bytes.len() {
         return Opened::Refused(Refusal::BrokenBundle);
     }

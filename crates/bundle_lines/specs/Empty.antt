@@ -12,7 +12,7 @@ use Rattle.refusal.specs.Guarded.{anyWrapping, fault, guarded}
 use Rattle.typedescriptor.specs.Slots.{rowsFrom, rows}
 use Rattle.bundle.specs.Bundle.{part, bodyFits, sectionIn}
 use Rattle.bundle.specs.Open.{isAt, takeAt, answer, openBundle}
-use Rattle.bundle.specs.declared.open.Layout.{Layout}
+use Rattle.bundle.specs.declared.open.Section.{Section}
 use Rattle.bundle_parts.specs.Parts.{numbers}
 use Rattle.bundle_parts.specs.Accepted.{acceptBundle}
 use Rattle.type_lines.specs.Digits.{digit, decimal}
@@ -27,6 +27,9 @@ eight kind = 8 ∷ 0 ∷ 0 ∷ 0 ∷ kind ∷ 0 ∷ 0 ∷ 0 ∷ 0 ∷ 0 ∷ 0 �
 abbrev bare : ℕ → List ℕ
 bare kind = 0 ∷ 0 ∷ 0 ∷ 0 ∷ kind ∷ 0 ∷ []
 
+abbrev missing : Section
+missing = record { address = 0; part = part 0 0 }
+
 abbrev endZero : List (List ℕ)
 endZero = (letters "end 0" ++ 10 ∷ []) ∷ []
 
@@ -34,14 +37,7 @@ abbrev refusedTwo : List (List ℕ)
 refusedTwo = (letters "refused 2" ++ 10 ∷ []) ∷ []
 
 pub record EmptyWorked : Type 0 where
-  pub nothing-in-it : acceptBundle []
-      ≡ answered (record {
-        image = record { start = 0; length = 0 };
-        segments = record { start = 0; length = 0 };
-        types = record { address = 0; part = record { start = 0; length = 0 } };
-        fields = record { address = 0; part = record { start = 0; length = 0 } };
-        strings = record { address = 0; part = record { start = 0; length = 0 } };
-      })
+  pub nothing-in-it : acceptBundle [] ≡ answered (record { image = part 0 0; segments = part 0 0; types = missing; fields = missing; strings = missing })
   pub no-bytes : printed [] ≡ endZero
   pub one-byte : printed (0 ∷ []) ≡ refusedTwo
   pub two-bytes : printed (0 ∷ 0 ∷ []) ≡ refusedTwo
