@@ -571,7 +571,7 @@ def runs(program):
         pathlib.Path(path + "0").write_bytes(b"")
         yield run("an empty file", b"end 0\n", b"", path + "0")
         # A read that fails is no empty bundle.
-        yield run("no standard input", b"", b"list: standard input: Bad file descriptor\n", preexec_fn=lambda: os.close(0))
+        yield run("no standard input", b"", b"list: standard input: Bad file descriptor\n", preexec_fn=lambda: os.closerange(0, 1))
         directory = os.open(folder, os.O_RDONLY)
         yield run("a folder as standard input", b"", b"list: standard input: Is a directory\n", stdin=directory)
         os.close(directory)

@@ -400,7 +400,7 @@ def no_bundle():
     (FOLDER / "full").symlink_to("/dev/full")
     sentence = f"make_bundle.py: cannot write {FOLDER}/full: No space left on device\n"
     expect("onto a full device", (command("--sample", "clue", "-o", FOLDER / "full"), (FOLDER / "full").exists()), ((2, sentence, None), True))
-    expect("no standard output", command("--sample", "clue", preexec_fn=lambda: os.close(1))[0], 2)
+    expect("no standard output", command("--sample", "clue", preexec_fn=lambda: os.closerange(1, 2))[0], 2)
     if USE_PROGRAM:
         expect("no bundle, listed", listed(nothing), "refused 2\n")
         for option, status in ("", 0), ("set -o pipefail; ", 2):
