@@ -318,6 +318,10 @@ def texts():
             vector("read_cstr_at", off, data=text)
     vector("read_cstr_at", 0, data=mixed * 8 + b"\0" + b"\xff" * 8)
     vector("read_cstr_at", 0, data=mixed * 8 + b"\xff\0")
+    # After a sequence: the next one, a NUL and a byte that starts none, at each place of two blocks of eight.
+    for letters in range(18):
+        for next in (b"\xe2\x82\xac", b"\0", b"\x80"):
+            vector("read_cstr_at", 0, data=b"A\xc3\xa9" + b"B" * letters + next + b"C" * 9)
 
 
 def address_reads():

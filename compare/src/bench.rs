@@ -9,6 +9,7 @@ use darwinscope::swift::{
     DefaultOverrideEntryIter, FieldRecordIter, OverrideEntryIter, PrespecializationIter,
     TypeKindBody, VTableIter,
 };
+use darwinscope::util::read_cstr_at;
 use std::hint::black_box;
 use std::time::Instant;
 
@@ -738,12 +739,74 @@ fn line(what: &str, times: Times) {
 
 /// All of it, or a part.
 pub fn run(part: Option<&str>) {
-    if part != Some("full") {
+    let asked = |name| part.is_none_or(|part| part == name);
+    if asked("texts") {
+        texts();
+    }
+    if asked("rows") {
         rows_and_names();
     }
-    if part != Some("rows") {
+    if asked("full") {
         full();
     }
+}
+
+/// Letters of scripts whose sequences have one to four bytes, and of mixtures.
+const SCRIPTS: [(&str, &str); 6] = [
+    ("ASCII", "TypesOfTheGardenInTheOrchard"),
+    ("Cyrillic", "ДеревьяИКустыБольшогоСада"),
+    ("CJK", "果園的樹木和灌木以及庭中花草"),
+    ("emoji", "🌳🌲🌴🌵🌾🌿🍀🍁🍂🍃🌱🌷🌸🌹"),
+    ("Czech", "PřílišŽluťoučkýKůňÚpělĎábelskéÓdy"),
+    ("French", "LesArbresFruitiersDuGrandVergerEtLaForêt"),
+];
+
+/// `ROWS` texts of a number of bytes, one after the other with a NUL each, from different letters on; `x` where no letter fits any more.
+fn names_in(letters: &str, bytes: usize) -> Vec<u8> {
+    let mut data = Vec::new();
+    for first in 0..ROWS {
+        let end = data.len() + bytes;
+        for letter in letters
+            .chars()
+            .cycle()
+            .skip(first % letters.chars().count())
+        {
+            if data.len() + letter.len_utf8() > end {
+                break;
+            }
+            data.extend_from_slice(letter.encode_utf8(&mut [0; 4]).as_bytes());
+        }
+        data.resize(end, b'x');
+        data.push(0);
+    }
+    data
+}
+
+/// Texts by their offsets: the Rust looks for the NUL, and then checks the bytes before it.
+fn texts() {
+    println!("Texts by their offsets, nanoseconds per text.");
+    println!("texts      | bytes |      Rust |    proved | ratio");
+    for (script, letters) in SCRIPTS {
+        for bytes in [8, 40, 400] {
+            let data = names_in(letters, bytes);
+            let places = || (0..ROWS).map(|i| black_box(i * (bytes + 1)));
+            let times = both(
+                ROWS,
+                || {
+                    places()
+                        .map(|off| read_cstr_at(&data, off).map_or(0, str::len))
+                        .sum()
+                },
+                || {
+                    places()
+                        .map(|off| proved::text(&data, off).expect("no segments")[2] as usize)
+                        .sum()
+                },
+            );
+            line(&format!("{script:10} | {bytes:5}"), times);
+        }
+    }
+    println!();
 }
 
 fn rows_and_names() {

@@ -15,9 +15,9 @@ fn must(checker: &mut Checker, input: &Input) {
     }
 }
 
-/// A text at an offset, at the end of the bytes and with a NUL and more after it.
-fn text(checker: &mut Checker, bytes: &[u8]) {
-    let mut data = [0x41; 8];
+/// A text at an offset, at the end of the bytes and with a NUL and more after it: `SIZE` bytes in all.
+fn text<const SIZE: usize>(checker: &mut Checker, bytes: &[u8]) {
+    let mut data = [0x41; SIZE];
     data[1..1 + bytes.len()].copy_from_slice(bytes);
     let end = 1 + bytes.len();
     let mut shown = checker.text(&data[..end], 1);
@@ -36,22 +36,66 @@ fn text(checker: &mut Checker, bytes: &[u8]) {
 fn texts(checker: &mut Checker, few: bool) {
     const ENDS: [u8; 8] = [0x00, 0x41, 0x7f, 0x80, 0x8f, 0x90, 0xbf, 0xc0];
     for a in 0..=255u8 {
-        text(checker, &[a]);
+        text::<8>(checker, &[a]);
         for b in 0..=255u8 {
-            text(checker, &[a, b]);
+            text::<8>(checker, &[a, b]);
             if few && a < 0xc0 {
                 continue;
             }
             for c in 0..=255u8 {
-                text(checker, &[a, b, c]);
+                text::<8>(checker, &[a, b, c]);
             }
             if few || a < 0xc0 {
                 continue;
             }
             for c in 0..=255u8 {
                 for d in ENDS {
-                    text(checker, &[a, b, c, d]);
-                    text(checker, &[a, b, c, d, 0xc3]);
+                    text::<8>(checker, &[a, b, c, d]);
+                    text::<8>(checker, &[a, b, c, d, 0xc3]);
+                }
+            }
+        }
+    }
+}
+
+/// A whole sequence among letters, and then, at each place in up to three blocks of eight, a NUL, the first and the last ASCII byte, sequences
+/// of each length, whole, cut short and ill-formed, and bytes that start none.
+fn long_texts(checker: &mut Checker) {
+    const WHOLE: [&[u8]; 3] = [b"\xc3\xa9", b"\xe2\x82\xac", b"\xf0\x9f\x8c\xb3"];
+    const ODD: [&[u8]; 18] = [
+        b"\0",
+        b"\x01",
+        b"\x7f",
+        b"\x80",
+        b"\xbf",
+        b"\xc1\x80",
+        b"\xc2\x80",
+        b"\xdf\xbf",
+        b"\xe0\x80\x80",
+        b"\xe0\xa0\x80",
+        b"\xed\x9f\xbf",
+        b"\xed\xbf\xbf",
+        b"\xef\xbf",
+        b"\xf0\x90\x80",
+        b"\xf0\x90\x80\x80",
+        b"\xf4\x8f\xbf\xbf",
+        b"\xf4\x90\x80\x80",
+        b"\xf5\x80\x80\x80",
+    ];
+    for before in 0..=9 {
+        for whole in WHOLE {
+            for odd in ODD {
+                for place in 0..24 {
+                    for after in [0, 1, 2, 7, 8, 9, 17] {
+                        let letters = |n| std::iter::repeat_n(b'A', n);
+                        let bytes: Vec<u8> = letters(before)
+                            .chain(whole.iter().copied())
+                            .chain(letters(place))
+                            .chain(odd.iter().copied())
+                            .chain(letters(after))
+                            .collect();
+                        text::<64>(checker, &bytes);
+                    }
                 }
             }
         }
@@ -402,6 +446,7 @@ pub fn run(few: bool) {
     let start = Instant::now();
     let mut checker = Checker::default();
     texts(&mut checker, few);
+    long_texts(&mut checker);
     chains(&mut checker);
     segments(&mut checker);
     flags(&mut checker, few);

@@ -34,7 +34,7 @@ const USAGE: &str = "usage: compare run [--seed S] [--count N] [--seconds T] [--
        compare one LINE                               the input of one printed line
        compare sample OUT [DIR]                       inputs with the Rust's answers; in DIR as stdin and stdout of a program
        compare sample-full OUT [DIR]                  the same of bodies, blocks, entries and fields
-       compare bench [rows | full]                    nanoseconds per row or entry on both sides; of rows and names, or of all else
+       compare bench [texts | rows | full]            nanoseconds per text, row or entry on both sides; of texts, of rows and names, or of all else
        --unshrunk with run or exhaustive              a difference is printed without its input";
 
 /// Prints the difference with the smallest input that shows one (without it for `--unshrunk`), and ends the run.
@@ -184,7 +184,7 @@ fn main() {
             }
         },
         "bench" => match words(args, 1).first().map(String::as_str) {
-            part @ (None | Some("rows" | "full")) => bench::run(part),
+            part @ (None | Some("texts" | "rows" | "full")) => bench::run(part),
             Some(_) => usage(),
         },
         _ => usage(),

@@ -1,30 +1,30 @@
 -- Where a walk over the bytes stands, how it goes on by a byte, and how it ends: the laws of `scan_text`. Assumes nothing.
 use Prim.Native.Nat.{ℕ, zero, suc, _+_, _-_, _≤_, _<_}
-use native.Mathlib.Nat.{not-suc-le-zero, zero-add}
+use native.Mathlib.Nat.{not-suc-le-zero, zero-add, add-zero}
 use native.Mathlib.Numerals.{add-one}
 use native.Mathlib.Decide.{decLt}
 use native.Mathlib.Omega.{arith}
 use mathlib.Core.Path.{_≡_, refl, sym, ap, subst, _∙_}
 use mathlib.Core.List.{List, [], _∷_, List·Memᴰ, List·Memᴰ·head, List·Memᴰ·tail}
-use mathlib.Core.Bool.{Bool, true, false, _&&_, and-eq-true-iff}
+use mathlib.Core.Bool.{Bool, true, false, _&&_, and-eq-true-iff, and-false}
 use lib.Dec.{ltb}
 use borrow.Author.Count.{below-more}
 use borrow.Author.Tests.{ltb-true}
 use Rattle.utf8.specs.Plain.{Plain}
 use mathlib.Core.Option.{Option, some, none}
-use lib.ListN.{length, getD, drop, replicate, length-replicate, drop-of-length-le}
-use lib.Seq.{drop-cons}
+use lib.ListN.{length, getD, take, drop, replicate, length-replicate, length-drop, drop-of-length-le}
+use lib.Seq.{drop-cons, getD-drop, take-all}
 use Rattle.utf8.specs.Table.{ByteRange, table, _to_}
-use Rattle.utf8.specs.Text.{following, goesOn, untilNul, textLength, leads}
+use Rattle.utf8.specs.Text.{inRange, following, goesOn, untilNul, textLength, leads}
 use Rattle.utf8.specs.declared.Lead.the-variants.{Tail}
-use Rattle.utf8.specs.Utf8Laws.{within-true, within-false, following-starts}
+use Rattle.utf8.specs.Utf8Laws.{within-true, within-false, following-starts, until-nul-length}
 use Rattle.utf8.proofs.Rows.{in-row}
 
--- no row lets a NUL be the second byte, or has more than two bytes after that
+-- no row lets a NUL be the second byte
 abbrev Second : List ByteRange → Type 0
 Second [] = Unit {0}
 Second (r ∷ []) = Unit {0}
-Second (r ∷ q ∷ rs) = (0 < q .low) × (length rs ≤ 2)
+Second (r ∷ q ∷ rs) = 0 < q .low
 
 abbrev Each : List (List ByteRange) → Type 0
 Each [] = Unit {0}
@@ -34,14 +34,13 @@ second : {row : List ByteRange} {rows : List (List ByteRange)} → List·Memᴰ 
 second (List·Memᴰ·head e) all = subst Second (sym e) (all .0)
 second (List·Memᴰ·tail m) all = second m (all .1)
 
-pub tail-limits : (low high more b : ℕ) → leads (Tail low high more) ≡ following table b → (0 < low) × (more ≤ 2)
+pub tail-low : (low high more b : ℕ) → leads (Tail low high more) ≡ following table b → 0 < low
 unfolding table
-tail-limits low high more b e = rw length-replicate at (second (following-starts table b _ (sym e) .row) (omega arith))
+tail-low low high more b e = second (following-starts table b _ (sym e) .row) (omega arith)
 
--- `n` continuation bytes, the first of them between `low` and `high`
-abbrev pub tailRanges : ℕ → ℕ → ℕ → List ByteRange
-tailRanges zero low high = []
-tailRanges (suc n) low high = low to high ∷ replicate n (0x80 to 0xbf)
+-- the ranges of n more bytes of a sequence
+abbrev pub others : ℕ → List ByteRange
+others n = replicate n (0x80 to 0xbf)
 
 -- the walk is at i, with these ranges pending: the text is well-formed if what is left goes on in them, and is i bytes longer than that
 pub record Walk (s : List ℕ) (i : ℕ) (rs : List ByteRange) : Type 0 where
@@ -55,14 +54,6 @@ until-nul-cons : (b : ℕ) (t : List ℕ) → (b ≡ 0 → ⊥) → untilNul (b 
 unfolding untilNul
 until-nul-cons zero t h = absurd (h refl)
 until-nul-cons (suc b) t h = refl
-
-later : (n : ℕ) → replicate n (0x80 to 0xbf) ≡ tailRanges n 0x80 0xbf
-later zero = refl
-later (suc n) = refl
-
-pub tail-done : (s : List ℕ) (i n low high : ℕ) → n ≤ 0 → Walk s i (tailRanges n low high) → Walk s i []
-tail-done s i zero low high h w = w
-tail-done s i (suc n) low high h w = absurd (not-suc-le-zero h)
 
 module _ (s : List ℕ) (i : ℕ) (inside : i < length s) where
   here : (getD s i 0 ≡ 0 → ⊥) → untilNul (drop i s) ≡ getD s i 0 ∷ untilNul (drop (i + 1) s)
@@ -80,19 +71,13 @@ module _ (s : List ℕ) (i : ℕ) (inside : i < length s) where
   unfolding goesOn
   lead-step rs h e = step [] rs h (λ t. rw (← e, goesOn))
 
-  pub lead-tail : (low high more : ℕ) → (getD s i 0 ≡ 0 → ⊥) → leads (Tail low high more) ≡ following table (getD s i 0) → Walk s i [] → Walk s (i + 1) (tailRanges (more + 1) low high)
-  lead-tail low high more h e w = rw (add-one more) (lead-step _ h e w)
-
   pub ascii-step : (getD s i 0 ≡ 0 → ⊥) → getD s i 0 < 0x80 → Walk s i [] → Walk s (i + 1) []
   unfolding table
   ascii-step h l = lead-step [] h (in-row 0 table (getD s i 0) (omega arith))
 
-  pub tail-step : (n low high : ℕ) → 0 < n → 0 < low → low ≤ getD s i 0 → getD s i 0 ≤ high → Walk s i (tailRanges n low high) → Walk s (i + 1) (tailRanges (n - 1) 0x80 0xbf)
+  pub range-step : (r : ByteRange) (rs : List ByteRange) → 0 < r .low → r .low ≤ getD s i 0 → getD s i 0 ≤ r .high → Walk s i (r ∷ rs) → Walk s (i + 1) rs
   unfolding goesOn
-  tail-step zero low high p q l h w = absurd (not-suc-le-zero p)
-  tail-step (suc n) low high p q l h w =
-      let less : suc n - 1 ≡ n = omega arith in
-      step _ _ (λ e. omega arith) (λ t. rw (within-true (low to high) _ l h, less) (ap (goesOn t) (later n))) w
+  range-step r rs p l h = step (r ∷ rs) rs (λ e. omega arith) (λ t. rw (within-true r _ l h))
 
   pub no-lead : (getD s i 0 ≡ 0 → ⊥) → none ≡ following table (getD s i 0) → goesOn (untilNul (drop i s)) [] ≡ false
   unfolding goesOn
@@ -106,24 +91,40 @@ pub at-end : (s : List ℕ) (i : ℕ) → length s ≤ i → untilNul (drop i s)
 unfolding untilNul
 at-end s i h = rw (drop-of-length-le s h)
 
--- ranges are pending, and there is no byte for them
-none-left : (n low high : ℕ) → 0 < n → goesOn [] (tailRanges n low high) ≡ false
-unfolding goesOn
-none-left zero low high h = absurd (not-suc-le-zero h)
-none-left (suc n) low high h = refl
-
-refused : (b : ℕ) (t : List ℕ) (n low high : ℕ) → 0 < n → (low ≤ b → b ≤ high → ⊥) → goesOn (untilNul (b ∷ t)) (tailRanges n low high) ≡ false
+refused : (b : ℕ) (t : List ℕ) (r : ByteRange) (rs : List ByteRange) → (r .low ≤ b → b ≤ r .high → ⊥) → goesOn (untilNul (b ∷ t)) (r ∷ rs) ≡ false
 unfolding goesOn untilNul
-refused b t zero low high h out = absurd (not-suc-le-zero h)
-refused zero t (suc n) low high h out = refl
-refused (suc b) t (suc n) low high h out = rw (within-false (low to high) (suc b) out)
+refused zero t r rs out = refl
+refused (suc b) t r rs out = rw (within-false r (suc b) out)
 
-pub no-tail : (s : List ℕ) (i n low high : ℕ) → 0 < n → (i < length s → low ≤ getD s i 0 → getD s i 0 ≤ high → ⊥) → goesOn (untilNul (drop i s)) (tailRanges n low high) ≡ false
-no-tail s i n low high h out =
-    elim (decLt i (length s)) [
-      | yes l ↦ rw (drop-cons s i 0 l) (refused _ _ n low high h (out l))
-      | no l ↦ rw (at-end s i (omega arith)) (none-left n low high h)
-    ]
+-- a range is pending, and the byte there is not in it
+pub no-range : (s : List ℕ) (i : ℕ) (r : ByteRange) (rs : List ByteRange) → i < length s → (r .low ≤ getD s i 0 → getD s i 0 ≤ r .high → ⊥) → goesOn (untilNul (drop i s)) (r ∷ rs) ≡ false
+no-range s i r rs l out = rw (drop-cons s i 0 l) (refused _ _ r rs out)
+
+-- ---- the bytes after the second: i has the one before, `last` the last one
+
+one-more : (i last : ℕ) → i < last → last - i ≡ suc (last - (i + 1))
+one-more i last h = omega arith
+
+pub tail-step : (s : List ℕ) (i last : ℕ) → i < last → last < length s → 0x80 ≤ getD s (i + 1) 0 → getD s (i + 1) 0 ≤ 0xbf → Walk s (i + 1) (others (last - i)) → Walk s (i + 1 + 1) (others (last - (i + 1)))
+tail-step s i last h l low high w =
+    range-step s (i + 1) (omega arith) (0x80 to 0xbf) _ (omega arith) low high (subst (λ n. Walk s (i + 1) (others n)) (one-more i last h) w)
+
+pub tail-done : (s : List ℕ) (i last : ℕ) → last ≤ i → Walk s (i + 1) (others (last - i)) → Walk s (i + 1) []
+tail-done s i last h w = let none-left : last - i ≡ 0 = omega arith in rw none-left at w
+
+pub no-tail : (s : List ℕ) (i last : ℕ) → i < last → last < length s → (0x80 ≤ getD s (i + 1) 0 → getD s (i + 1) 0 ≤ 0xbf → ⊥) → goesOn (untilNul (drop (i + 1) s)) (others (last - i)) ≡ false
+no-tail s i last h l out = rw (one-more i last h) (no-range s (i + 1) _ _ (omega arith) out)
+
+fewer : (t : List ℕ) (rs : List ByteRange) → length t < length rs → goesOn t rs ≡ false
+unfolding goesOn
+fewer t [] h = absurd (omega arith)
+fewer [] (r ∷ rs) h = refl
+fewer (b ∷ t) (r ∷ rs) h = rw (fewer t rs (omega arith)) (and-false (inRange r b))
+
+-- fewer bytes are left than ranges are pending
+pub too-few : (s : List ℕ) (i more : ℕ) (r : ByteRange) → length s - i ≤ more → goesOn (untilNul (drop i s)) (r ∷ others more) ≡ false
+too-few s i more r h =
+    fewer _ _ (omega (arith, until-nul-length (drop i s), length-drop i s, length-replicate more (0x80 to 0xbf)))
 
 -- what a walk that was left at i answers
 abbrev pub outcome : Bool → ℕ → Option ℕ
@@ -163,9 +164,21 @@ plain-join s i n p q = record { each = each }
               rw j at (q .each (k - i) (omega arith))
         ]
 
-pub plain-walk : (s : List ℕ) (n : ℕ) → Plain s 0 n → n ≤ length s → Walk s n []
-plain-walk s zero p h = start s
-plain-walk s (suc n) p h =
-    let b : (0 < getD s n 0) × (getD s n 0 < 0x80) = rw zero-add at (p .each n (omega arith)) in
-    let w : Walk s (n + 1) [] = ascii-step s n (omega arith) (λ e. omega arith) (b .1) (plain-walk s n (record { each = λ k l. p .each k (omega arith) }) (omega arith)) in
-    rw add-one at w
+pub plain-walk : (s : List ℕ) (i n : ℕ) → Plain (drop i s) 0 n → n ≤ length s - i → Walk s i [] → Walk s (i + n) []
+plain-walk s i zero p h w = rw add-zero w
+plain-walk s i (suc n) p h w =
+    let b : (0 < getD s (i + n) 0) × (getD s (i + n) 0 < 0x80) = rw (zero-add, getD-drop) at (p .each n (omega arith)) in
+    let before = plain-walk s i n (record { each = λ k l. p .each k (omega arith) }) (omega arith) w in
+    let after : Walk s (i + n + 1) [] = ascii-step s (i + n) (omega arith) (λ e. omega arith) (b .1) before in
+    subst (λ k. Walk s k []) (omega arith) after
+
+-- what `plain_prefix` tells of the bytes from i on, which a range of a slice gives
+module _ (s : List ℕ) (i n : ℕ) (l : n ≤ length (take (length s - i) (drop i s))) where
+  rest : take (length s - i) (drop i s) ≡ drop i s
+  rest = take-all (length s - i) (drop i s) (omega (arith, length-drop i s))
+
+  pub rest-within : n ≤ length s - i
+  rest-within = omega (arith, ap length rest, length-drop i s)
+
+  pub rest-walk : Plain (take (length s - i) (drop i s)) 0 n → Walk s i [] → Walk s (i + n) []
+  rest-walk p = plain-walk s i n (rw rest at p) rest-within

@@ -1,3 +1,5 @@
+pub mod LeadBytes
+pub mod LeadLaws
 pub mod Plain
 pub mod Table
 pub mod Text

@@ -11,6 +11,7 @@ use mathlib.Core.Logic.{⊎-elim}
 use lib.ListN.{length, take, replicate, length-replicate}
 use borrow.Author.Tests.{le-leb, leb-true}
 use Rattle.utf8.specs.Table.{ByteRange, table, _to_, Sequence, WellFormed}
+use Rattle.utf8.specs.LeadBytes.{Starts}
 use Rattle.utf8.specs.Text.{inRange, following, goesOn, wellFormed, untilNul, textLength, leads}
 use Rattle.utf8.specs.declared.Lead.{Lead}
 use Rattle.utf8.specs.declared.Lead.the-variants.{Alone, Tail, Invalid}
@@ -37,12 +38,6 @@ within-false r b out = go (inRange r b) refl
     go : (t : Bool) → inRange r b ≡ t → inRange r b ≡ false
     go true w = let bounds = within-bounds r b w in absurd (out (bounds .0) (bounds .1))
     go false w = w
-
--- a byte that starts a sequence of a row, and what the row requires after it
-pub record Starts (rows : List (List ByteRange)) (b : ℕ) (rs : List ByteRange) : Type 0 where
-  pub lead : ByteRange
-  pub row : List·Memᴰ (lead ∷ rs) rows
-  pub bounds : (lead .low ≤ b) × (b ≤ lead .high)
 
 starts-later : {row : List ByteRange} {rows : List (List ByteRange)} {b : ℕ} {rs : List ByteRange} → Starts rows b rs → Starts (row ∷ rows) b rs
 starts-later s = record { lead = s .lead; row = List·Memᴰ·tail (s .row); bounds = s .bounds }
@@ -75,6 +70,9 @@ starts-following n ((r ∷ rs′) ∷ rows) b rs o s =
     let later = starts-following (suc (r .high)) rows b rs (o .2) (record { lead = s .lead; row = m; bounds = s .bounds }) in
     (omega arith, rw (within-false r b (λ l h. omega arith), following) (later .1)))
     (List·Memᴰ·cases-cons (s .row))
+
+pub row-found : {b : ℕ} {rs : List ByteRange} → Starts table b rs → following table b ≡ some rs
+row-found s = starts-following 0 table _ _ table-ordered s .1
 
 -- where a text goes on in the pending ranges: a sequence of these, and then a well-formed text
 record Split (rs : List ByteRange) (s : List ℕ) : Type 0 where
@@ -134,7 +132,7 @@ utf8-complete _ (WellFormed.sequence {t = t} m q w) = go m q (utf8-complete t w)
     go : {row : List ByteRange} {s : List ℕ} → List·Memᴰ row table → Sequence row s → wellFormed t ≡ true → wellFormed (s ++ t) ≡ true
     go m Sequence.none e = e
     go m (Sequence.byte {r = r} {rs = rs} {b = b} l h q) e =
-        rw (starts-following 0 table b rs table-ordered (record { lead = r; row = m; bounds = (l, h) }) .1, goesOn) (goes-on t q e)
+        rw (row-found {b = b} {rs = rs} (record { lead = r; row = m; bounds = (l, h) }), goesOn) (goes-on t q e)
 
 -- two answers about a lead byte that ask for the same ranges are the same answer
 pub leads-injective : (a b : Lead) → leads a ≡ leads b → a ≡ b

@@ -138,32 +138,39 @@ pub fn scan_text(s: &[u8]) -> Scan
     let mut formed = true;
     'scan: while i < s.len() {
         let b = s[i];
-        if b == 0 {
-            break 'scan;
-        }
-        i += 1;
-        if b >= 0x80 {
+        if b < 0x80 {
+            if b == 0 {
+                break 'scan;
+            }
+            i += 1;
+            // Blocks are tried at every eighth byte: more often, and short words between other sequences would pay for it.
+            if i % 8 == 0 {
+                i += plain_prefix(&s[i..]);
+            }
+        } else {
+            i += 1;
             match lead_limits(b) {
                 Lead::Alone => {}
                 Lead::Tail { low, high, more } => {
-                    let mut left = more + 1;
-                    let mut least = low;
-                    let mut most = high;
-                    while left > 0 {
-                        if s.len() <= i {
-                            formed = false;
-                            break 'scan;
-                        }
-                        let c = s[i];
-                        if c < least || most < c {
-                            formed = false;
-                            break 'scan;
-                        }
-                        least = 0x80;
-                        most = 0xbf;
-                        left -= 1;
-                        i += 1;
+                    if s.len() - i <= more {
+                        formed = false;
+                        break 'scan;
                     }
+                    let second = s[i];
+                    if second < low || high < second {
+                        formed = false;
+                        break 'scan;
+                    }
+                    let last = i + more;
+                    while i < last {
+                        i += 1;
+                        let c = s[i];
+                        if c < 0x80 || 0xbf < c {
+                            formed = false;
+                            break 'scan;
+                        }
+                    }
+                    i += 1;
                 }
                 Lead::Invalid => {
                     formed = false;

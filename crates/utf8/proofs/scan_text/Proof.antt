@@ -1,25 +1,27 @@
 -- `utf8::scan_text` meets its contract. Both loops carry where the walk stands (`Walk`): the outer one with nothing pending, the inner one with
--- the ranges of the bytes that the sequence still needs. `formed` is true in both, since each way that makes it false leaves at once. Assumes nothing.
-use Prim.Native.Nat.{_≤_, _<_, _-_}
+-- the ranges of the bytes up to the sequence's last. `formed` is true in both, since each way that makes it false leaves at once. Assumes nothing.
+use Prim.Native.Nat.{_+_, _≤_, _<_, _-_}
+use native.Mathlib.Nat.{zero-add}
 use native.Mathlib.Omega.{arith}
 use borrow.Author.Needs.{needs}
 use borrow.Author.Tests.{ltb-false, ltb-true}
 use mathlib.Core.Path.{_≡_, refl, sym, ap, _∙_}
 use mathlib.Core.Logic.{⊎-elim}
 use mathlib.Core.Bool.{true}
-use mathlib.Core.List.{[]}
+use mathlib.Core.List.{[], _∷_}
 use lib.ListN.{length}
+use Rattle.utf8.specs.Table.{_to_}
 use Rattle.utf8.specs.Text.{textLength, leads}
-use Rattle.utf8.proofs.Walk.{Walk, tailRanges, plain-walk, tail-limits, lead-step, lead-tail, ascii-step, tail-step, tail-done, no-lead, no-tail, at-nul, at-end, outcome, ends, ill-formed}
+use Rattle.utf8.proofs.Walk.{Walk, others, start, plain-walk, rest-within, rest-walk, tail-low, lead-step, ascii-step, range-step, tail-step, tail-done, no-lead, no-range, no-tail, too-few, at-nul, at-end, outcome, ends, ill-formed}
 use Rattle.utf8.proofs.scan_text.Statement.{statement}
 use Rattle.utf8.proofs.scan_text.Tie as tie
 
 abbrev Inv-loop : tie.InvT-loop
-Inv-loop s i₀ formed₀ b low high more left₀ least₀ most₀ i formed left least most =
-    (i₀ ≤ i) × (i ≤ length s) × (formed ≡ true) × (0 < left → 0 < least) × Walk s i (tailRanges left least most)
+Inv-loop s i₀ formed₀ b low high more second last i formed =
+    (i₀ ≤ i) × (i ≤ last) × (last < length s) × (formed ≡ true) × Walk s (i + 1) (others (last - i))
 
 abbrev μ-loop : tie.MeasureT-loop
-μ-loop s i₀ formed₀ b low high more left₀ least₀ most₀ i formed left least most = left
+μ-loop s i₀ formed₀ b low high more second last i formed = last - i
 
 abbrev Inv-scan : tie.InvT-scan
 Inv-scan s i₀ formed₀ i formed = (i ≤ length s) × (formed ≡ true) × Walk s i []
@@ -30,52 +32,71 @@ abbrev μ-scan : tie.MeasureT-scan
 scan-holds : tie.Need-scan-holds Inv-loop μ-loop Inv-scan μ-scan
 scan-holds c =
     let p = c .plain-prefix .ensures in
-    (p .0, refl, plain-walk _ _ (p .1) (p .0))
+    (p .0, refl, rw zero-add at (plain-walk _ 0 _ (p .1) (omega arith) (start _)))
+
+-- what the blocks after a letter take is there
+within : (c : tie.After-plain-prefix2 Inv-loop μ-loop Inv-scan μ-scan) → c .plain-prefix2 .result ≤ length (c .before .before .before .before .before .before .before .before .before .before .args .s .now) - (c .before .before .before .before .before .before .before .scan .i + 1)
+within c = rest-within (c .before .before .before .before .before .before .before .before .before .before .args .s .now) (c .before .before .before .before .before .before .before .scan .i + 1) _ (c .plain-prefix2 .ensures .0)
+
+add-i-2 : tie.Need-add-i-2 Inv-loop μ-loop Inv-scan μ-scan
+add-i-2 c = let left = within c in omega arith
+
+scan-less : tie.Need-scan-less Inv-loop μ-loop Inv-scan μ-scan
+scan-less c = let left = within c in omega arith
 
 scan-again : tie.Need-scan-again Inv-loop μ-loop Inv-scan μ-scan
 scan-again c =
-    let byte = c .before .before .before .before in
-    let at = byte .before .before .before .scan in
-    let asked = sym (ap leads (c .enum-told .given .1)) ∙ c .before .before .lead-limits .ensures in
-    (omega arith, at .inv .1, lead-step _ _ (byte .before .before .scan-test .taken) _ (byte .if1 .left) asked (at .inv .2))
-
-add-left : tie.Need-add-left Inv-loop μ-loop Inv-scan μ-scan
-add-left c =
-    let asked = sym (ap leads (c .before .low .given .1)) ∙ c .before .before .before .lead-limits .ensures in
-    let more = c .before .low .given .0 .1 .1 .0 in
-    let limits = tail-limits _ _ more _ asked in
-    omega arith
-
-loop-holds : tie.Need-loop-holds Inv-loop μ-loop Inv-scan μ-scan
-loop-holds c =
-    let called = c .before .before .before in
-    let byte = called .before .before in
-    let at = byte .before .before .before .scan in
-    let asked = sym (ap leads (c .before .low .given .1)) ∙ called .lead-limits .ensures in
-    let more = c .before .low .given .0 .1 .1 .0 in
-    let walk = lead-tail _ _ (byte .before .before .scan-test .taken) _ _ more (byte .if1 .left) asked (at .inv .2) in
-    (omega arith, omega arith, at .inv .1, λ h. tail-limits _ _ more _ asked .0, walk)
+    let letter = c .before .before .before in
+    let at = letter .before .before .before .before .scan in
+    let p = c .plain-prefix2 .ensures in
+    let left = within c in
+    let walk = ascii-step _ _ (letter .before .before .before .scan-test .taken) (letter .if2 .left) (letter .before .if1 .taken) (at .inv .2) in
+    (omega arith, at .inv .1, rest-walk (c .before .before .before .before .before .before .before .before .before .before .args .s .now) (at .i + 1) _ (p .0) (p .1) walk)
 
 scan-again-2 : tie.Need-scan-again-2 Inv-loop μ-loop Inv-scan μ-scan
 scan-again-2 c =
-    let at = c .before .loop in
-    (at .inv .1, at .inv .2, tail-done _ _ _ _ _ (c .loop-test .left) (at .inv .4))
+    let letter = c .before in
+    let at = letter .before .before .before .before .scan in
+    (omega arith, at .inv .1, ascii-step _ _ (letter .before .before .before .scan-test .taken) (letter .if2 .left) (letter .before .if1 .taken) (at .inv .2))
+
+scan-again-3 : tie.Need-scan-again-3 Inv-loop μ-loop Inv-scan μ-scan
+scan-again-3 c =
+    let called = c .before .before in
+    let byte = called .before in
+    let at = byte .before .before .before .scan in
+    let asked = sym (ap leads (c .enum-told .given .1)) ∙ called .lead-limits .ensures in
+    (omega arith, at .inv .1, lead-step _ _ (byte .before .before .scan-test .taken) _ (λ e. omega arith) asked (at .inv .2))
+
+loop-holds : tie.Need-loop-holds Inv-loop μ-loop Inv-scan μ-scan
+loop-holds c =
+    let told = c .before .before .before .before .before in
+    let called = told .before .before in
+    let byte = called .before in
+    let at = byte .before .before .before .scan in
+    let low = told .low .given .0 .0 in
+    let high = told .low .given .0 .1 .0 in
+    let more = told .low .given .0 .1 .1 .0 in
+    let asked = sym (ap leads (told .low .given .1)) ∙ called .lead-limits .ensures in
+    let lead = lead-step _ _ (byte .before .before .scan-test .taken) _ (λ e. omega arith) asked (at .inv .2) in
+    let left : more < length (c .before .before .before .before .before .before .before .before .before .before .before .before .before .before .args .s .now) - (at .i + 1) = c .before .before .before .if4 .left in
+    let walk = range-step _ _ (omega arith) (low to high) _ (tail-low _ _ more _ asked) (c .before .if5 .left) (ltb-false _ _ (c .if6 .left)) lead in
+    let all : at .i + 1 + more - (at .i + 1) ≡ more = omega arith in
+    (omega arith, omega arith, omega arith, at .inv .1, rw all walk)
 
 loop-again : tie.Need-loop-again Inv-loop μ-loop Inv-scan μ-scan
 loop-again c =
     let inside = c .before .before .before in
-    let at = inside .before .before .loop in
-    let more = inside .before .loop-test .taken in
-    let walk = tail-step _ _ (inside .if3 .left) _ _ _ more (at .inv .3 more) (c .before .if4 .left) (ltb-false _ _ (c .if5 .left)) (at .inv .4) in
-    (omega arith, omega arith, at .inv .2, omega arith, walk)
+    let at = inside .before .loop in
+    let walk = tail-step _ _ _ (inside .loop-test .taken) (at .inv .2) (c .before .if7 .left) (ltb-false _ _ (c .if8 .left)) (at .inv .4) in
+    (omega arith, omega arith, at .inv .2, at .inv .3, walk)
 
-scan-again-3 : tie.Need-scan-again-3 Inv-loop μ-loop Inv-scan μ-scan
-scan-again-3 c =
-    let inside = c .before .before .before in
-    let at = inside .before .scan in
-    (omega arith, at .inv .1, ascii-step _ _ (inside .scan-test .taken) (c .before .if1 .left) (c .if2 .left) (at .inv .2))
+scan-again-4 : tie.Need-scan-again-4 Inv-loop μ-loop Inv-scan μ-scan
+scan-again-4 c =
+    let at = c .before .loop in
+    (omega arith, at .inv .3, tail-done _ _ _ (c .loop-test .left) (at .inv .4))
 
--- the five ways out: the bytes' end, a NUL, the end in a sequence, a byte that does not go on with it, and a byte that starts none
+-- the six ways out: the bytes' end, a NUL, too few bytes for a sequence, a second byte that is none, a later one that is none, and a byte that starts
+-- no sequence
 left-scan : (c : tie.Left-scan Inv-loop μ-loop Inv-scan μ-scan) → outcome (c .scan-test .formed) (c .scan-test .i) ≡ textLength (c .before .before .before .before .args .s .now)
 left-scan c =
     let s = c .before .before .before .before .args .s .now in
@@ -84,27 +105,37 @@ left-scan c =
     ⊎-elim
     (λ w. ends s (w .1) (w .2 ∙ at .inv .1) (at .inv .2) (at-end s _ (w .0 .left)))
     (⊎-elim
-    (λ w. ends s (w .3) (w .4 ∙ at .inv .1) (at .inv .2) (at-nul s _ (w .0 .taken) (w .2 .taken)))
-    (⊎-elim
-    (λ w. ill-formed s i (w .12) (w .8 .inv .4) (no-tail s (w .8 .i) _ _ _ (w .9 .taken) (λ l low high. omega arith)))
+    (λ w. ends s (w .4) (w .5 ∙ at .inv .1) (at .inv .2) (at-nul s _ (w .0 .taken) (w .3 .taken)))
     (⊎-elim
     (λ w.
-    ill-formed s i (w .14) (w .8 .inv .4)
-    (no-tail s (w .8 .i) _ _ _ (w .9 .taken)
-    (λ l low high. ⊎-elim (λ v. omega arith) (λ v. omega (arith, ltb-true)) (w .12 .came))))
-    (λ w. ill-formed s i (w .8) (at .inv .2) (no-lead s _ (w .0 .taken) (w .2 .left) (sym (ap leads (w .6 .given .1)) ∙ w .4 .ensures))))))
+    let asked = sym (ap leads (w .5 .given .1)) ∙ w .3 .ensures in
+    let lead = lead-step s _ (w .0 .taken) _ (λ e. omega arith) asked (at .inv .2) in
+    ill-formed s i (w .9) lead (too-few s _ _ _ (w .7 .taken)))
+    (⊎-elim
+    (λ w.
+    let asked = sym (ap leads (w .5 .given .1)) ∙ w .3 .ensures in
+    let lead = lead-step s _ (w .0 .taken) _ (λ e. omega arith) asked (at .inv .2) in
+    ill-formed s i (w .11) lead
+    (no-range s (at .i + 1) (w .5 .given .0 .0 to w .5 .given .0 .1 .0) _ (omega arith) (λ low high. ⊎-elim (λ v. omega arith) (λ v. omega (arith, ltb-true)) (w .9 .came))))
+    (⊎-elim
+    (λ w.
+    ill-formed s i (w .16) (w .11 .inv .4)
+    (no-tail s _ _ (w .12 .taken) (w .11 .inv .2) (λ low high. ⊎-elim (λ v. omega arith) (λ v. omega (arith, ltb-true)) (w .14 .came))))
+    (λ w. ill-formed s i (w .7) (at .inv .2) (no-lead s _ (w .0 .taken) (λ e. omega arith) (sym (ap leads (w .5 .given .1)) ∙ w .3 .ensures)))))))
     (c .scan-test .came)
 
 returns : tie.Need-returns Inv-loop μ-loop Inv-scan μ-scan
-returns c = rw (c .if6 .taken) at (left-scan (c .before))
+returns c = rw (c .if9 .taken) at (left-scan (c .before))
 
 returns-2 : tie.Need-returns-2 Inv-loop μ-loop Inv-scan μ-scan
-returns-2 c = rw (c .if6 .left) at (left-scan (c .before))
+returns-2 c = rw (c .if9 .left) at (left-scan (c .before))
 
 pub scan-text-spec : {M : Type 1} → statement M
 scan-text-spec =
     tie.close
     (tie.spec
-    Inv-loop μ-loop Inv-scan μ-scan (λ c κs. search needs) scan-holds (λ c. search needs) (λ c. search needs) (λ c κs. search needs)
-    (λ c. search needs) (λ c. search needs) scan-again (λ c. search needs) add-left loop-holds (λ c. search needs) scan-again-2 (λ c. search needs)
-    (λ c. search needs) (λ c. search needs) (λ c. search needs) loop-again (λ c. search needs) (λ c. search needs) scan-again-3 returns returns-2)
+    Inv-loop μ-loop Inv-scan μ-scan (λ c κs. search needs) scan-holds (λ c. search needs) (λ c. search needs) (λ c. search needs)
+    (λ c. search needs) (λ c. search needs) (λ c κs. search needs) add-i-2 scan-less scan-again (λ c. search needs) scan-again-2 (λ c. search needs)
+    (λ c κs. search needs) (λ c. search needs) (λ c. search needs) scan-again-3 (λ c. search needs) (λ c. search needs) (λ c. search needs)
+    (λ c. search needs) loop-holds (λ c. search needs) (λ c. search needs) (λ c. search needs) loop-again (λ c. search needs) (λ c. search needs)
+    scan-again-4 (λ c. search needs) returns returns-2)
