@@ -100,20 +100,19 @@ refused (suc b) t r rs out = rw (within-false r (suc b) out)
 pub no-range : (s : List ℕ) (i : ℕ) (r : ByteRange) (rs : List ByteRange) → i < length s → (r .low ≤ getD s i 0 → getD s i 0 ≤ r .high → ⊥) → goesOn (untilNul (drop i s)) (r ∷ rs) ≡ false
 no-range s i r rs l out = rw (drop-cons s i 0 l) (refused _ _ r rs out)
 
--- ---- the bytes after the second: i has the one before, `last` the last one
+-- ---- the bytes after the second
 
-one-more : (i last : ℕ) → i < last → last - i ≡ suc (last - (i + 1))
-one-more i last h = omega arith
+one-more : (left : ℕ) → 0 < left → left ≡ suc (left - 1)
+one-more left h = omega arith
 
-pub tail-step : (s : List ℕ) (i last : ℕ) → i < last → last < length s → 0x80 ≤ getD s (i + 1) 0 → getD s (i + 1) 0 ≤ 0xbf → Walk s (i + 1) (others (last - i)) → Walk s (i + 1 + 1) (others (last - (i + 1)))
-tail-step s i last h l low high w =
-    range-step s (i + 1) (omega arith) (0x80 to 0xbf) _ (omega arith) low high (subst (λ n. Walk s (i + 1) (others n)) (one-more i last h) w)
+pub tail-step : (s : List ℕ) (i left : ℕ) → 0 < left → i + left ≤ length s → 0x80 ≤ getD s i 0 → getD s i 0 ≤ 0xbf → Walk s i (others left) → Walk s (i + 1) (others (left - 1))
+tail-step s i left h l low high w = range-step s i (omega arith) (0x80 to 0xbf) _ (omega arith) low high (subst (λ n. Walk s i (others n)) (one-more left h) w)
 
-pub tail-done : (s : List ℕ) (i last : ℕ) → last ≤ i → Walk s (i + 1) (others (last - i)) → Walk s (i + 1) []
-tail-done s i last h w = let none-left : last - i ≡ 0 = omega arith in rw none-left at w
+pub tail-done : (s : List ℕ) (i left : ℕ) → left ≤ 0 → Walk s i (others left) → Walk s i []
+tail-done s i left h w = let none-left : left ≡ 0 = omega arith in rw none-left at w
 
-pub no-tail : (s : List ℕ) (i last : ℕ) → i < last → last < length s → (0x80 ≤ getD s (i + 1) 0 → getD s (i + 1) 0 ≤ 0xbf → ⊥) → goesOn (untilNul (drop (i + 1) s)) (others (last - i)) ≡ false
-no-tail s i last h l out = rw (one-more i last h) (no-range s (i + 1) _ _ (omega arith) out)
+pub no-tail : (s : List ℕ) (i left : ℕ) → 0 < left → i + left ≤ length s → (0x80 ≤ getD s i 0 → getD s i 0 ≤ 0xbf → ⊥) → goesOn (untilNul (drop i s)) (others left) ≡ false
+no-tail s i left h l out = subst (λ n. goesOn (untilNul (drop i s)) (others n) ≡ false) (sym (one-more left h)) (no-range s i _ _ (omega arith) out)
 
 fewer : (t : List ℕ) (rs : List ByteRange) → length t < length rs → goesOn t rs ≡ false
 unfolding goesOn

@@ -161,16 +161,17 @@ pub fn scan_text(s: &[u8]) -> Scan
                         formed = false;
                         break 'scan;
                     }
-                    let last = i + more;
-                    while i < last {
-                        i += 1;
+                    i += 1;
+                    let mut left = more;
+                    while left > 0 {
                         let c = s[i];
                         if c < 0x80 || 0xbf < c {
                             formed = false;
                             break 'scan;
                         }
+                        i += 1;
+                        left -= 1;
                     }
-                    i += 1;
                 }
                 Lead::Invalid => {
                     formed = false;

@@ -17,11 +17,11 @@ use Rattle.utf8.proofs.scan_text.Statement.{statement}
 use Rattle.utf8.proofs.scan_text.Tie as tie
 
 abbrev Inv-loop : tie.InvT-loop
-Inv-loop s i₀ formed₀ b low high more second last i formed =
-    (i₀ ≤ i) × (i ≤ last) × (last < length s) × (formed ≡ true) × Walk s (i + 1) (others (last - i))
+Inv-loop s i₀ formed₀ b low high more second left₀ i formed left =
+    (i₀ ≤ i) × (i + left ≤ length s) × (formed ≡ true) × Walk s i (others left)
 
 abbrev μ-loop : tie.MeasureT-loop
-μ-loop s i₀ formed₀ b low high more second last i formed = last - i
+μ-loop s i₀ formed₀ b low high more second left₀ i formed left = left
 
 abbrev Inv-scan : tie.InvT-scan
 Inv-scan s i₀ formed₀ i formed = (i ≤ length s) × (formed ≡ true) × Walk s i []
@@ -80,20 +80,19 @@ loop-holds c =
     let lead = lead-step _ _ (byte .before .before .scan-test .taken) _ (λ e. omega arith) asked (at .inv .2) in
     let left : more < length (c .before .before .before .before .before .before .before .before .before .before .before .before .before .before .args .s .now) - (at .i + 1) = c .before .before .before .if4 .left in
     let walk = range-step _ _ (omega arith) (low to high) _ (tail-low _ _ more _ asked) (c .before .if5 .left) (ltb-false _ _ (c .if6 .left)) lead in
-    let all : at .i + 1 + more - (at .i + 1) ≡ more = omega arith in
-    (omega arith, omega arith, omega arith, at .inv .1, rw all walk)
+    (omega arith, omega arith, at .inv .1, walk)
 
 loop-again : tie.Need-loop-again Inv-loop μ-loop Inv-scan μ-scan
 loop-again c =
     let inside = c .before .before .before in
     let at = inside .before .loop in
-    let walk = tail-step _ _ _ (inside .loop-test .taken) (at .inv .2) (c .before .if7 .left) (ltb-false _ _ (c .if8 .left)) (at .inv .4) in
-    (omega arith, omega arith, at .inv .2, at .inv .3, walk)
+    let walk = tail-step _ _ _ (inside .loop-test .taken) (at .inv .1) (c .before .if7 .left) (ltb-false _ _ (c .if8 .left)) (at .inv .3) in
+    (omega arith, omega arith, at .inv .2, walk)
 
 scan-again-4 : tie.Need-scan-again-4 Inv-loop μ-loop Inv-scan μ-scan
 scan-again-4 c =
     let at = c .before .loop in
-    (omega arith, at .inv .3, tail-done _ _ _ (c .loop-test .left) (at .inv .4))
+    (omega arith, at .inv .2, tail-done _ _ _ (c .loop-test .left) (at .inv .3))
 
 -- the six ways out: the bytes' end, a NUL, too few bytes for a sequence, a second byte that is none, a later one that is none, and a byte that starts
 -- no sequence
@@ -119,8 +118,8 @@ left-scan c =
     (no-range s (at .i + 1) (w .5 .given .0 .0 to w .5 .given .0 .1 .0) _ (omega arith) (λ low high. ⊎-elim (λ v. omega arith) (λ v. omega (arith, ltb-true)) (w .9 .came))))
     (⊎-elim
     (λ w.
-    ill-formed s i (w .16) (w .11 .inv .4)
-    (no-tail s _ _ (w .12 .taken) (w .11 .inv .2) (λ low high. ⊎-elim (λ v. omega arith) (λ v. omega (arith, ltb-true)) (w .14 .came))))
+    ill-formed s i (w .16) (w .11 .inv .3)
+    (no-tail s _ _ (w .12 .taken) (w .11 .inv .1) (λ low high. ⊎-elim (λ v. omega arith) (λ v. omega (arith, ltb-true)) (w .14 .came))))
     (λ w. ill-formed s i (w .7) (at .inv .2) (no-lead s _ (w .0 .taken) (λ e. omega arith) (sym (ap leads (w .5 .given .1)) ∙ w .3 .ensures)))))))
     (c .scan-test .came)
 
@@ -134,8 +133,4 @@ pub scan-text-spec : {M : Type 1} → statement M
 scan-text-spec =
     tie.close
     (tie.spec
-    Inv-loop μ-loop Inv-scan μ-scan (λ c κs. search needs) scan-holds (λ c. search needs) (λ c. search needs) (λ c. search needs)
-    (λ c. search needs) (λ c. search needs) (λ c κs. search needs) add-i-2 scan-less scan-again (λ c. search needs) scan-again-2 (λ c. search needs)
-    (λ c κs. search needs) (λ c. search needs) (λ c. search needs) scan-again-3 (λ c. search needs) (λ c. search needs) (λ c. search needs)
-    (λ c. search needs) loop-holds (λ c. search needs) (λ c. search needs) (λ c. search needs) loop-again (λ c. search needs) (λ c. search needs)
-    scan-again-4 (λ c. search needs) returns returns-2)
+    Inv-loop μ-loop Inv-scan μ-scan (λ c κs. search needs) scan-holds (λ c. search needs) (λ c. search needs) (λ c. search needs) (λ c. search needs) (λ c. search needs) (λ c κs. search needs) add-i-2 scan-less scan-again (λ c. search needs) scan-again-2 (λ c. search needs) (λ c κs. search needs) (λ c. search needs) (λ c. search needs) scan-again-3 (λ c. search needs) (λ c. search needs) (λ c. search needs) (λ c. search needs) loop-holds (λ c. search needs) scan-again-4 (λ c. search needs) (λ c. search needs) (λ c. search needs) (λ c. search needs) loop-again (λ c. search needs) returns returns-2)
