@@ -7,15 +7,16 @@ use native.Mathlib.Omega.{arith}
 use mathlib.Core.Path.{_≡_, refl, sym, ap, subst, _∙_}
 use mathlib.Core.List.{List, [], _∷_, List·Memᴰ, List·Memᴰ·head, List·Memᴰ·tail}
 use mathlib.Core.Bool.{Bool, true, false, _&&_, and-eq-true-iff, and-false}
-use lib.Dec.{ltb}
+use lib.Dec.{leb, ltb}
 use borrow.Author.Count.{below-more}
-use borrow.Author.Tests.{ltb-true}
+use borrow.Author.Tests.{leb-true, ltb-true}
 use Rattle.utf8.specs.Plain.{Plain}
 use mathlib.Core.Option.{Option, some, none}
 use lib.ListN.{length, getD, take, drop, replicate, length-replicate, length-drop, drop-of-length-le}
 use lib.Seq.{drop-cons, getD-drop, take-all}
 use Rattle.utf8.specs.Table.{ByteRange, table, _to_}
 use Rattle.utf8.specs.Text.{inRange, following, goesOn, untilNul, textLength, leads}
+use Rattle.utf8.specs.Walk.{Walk, RowOf, others}
 use Rattle.utf8.specs.declared.Lead.the-variants.{Tail}
 use Rattle.utf8.specs.Utf8Laws.{within-true, within-false, following-starts, until-nul-length}
 use Rattle.utf8.proofs.Rows.{in-row}
@@ -37,15 +38,6 @@ second (List·Memᴰ·tail m) all = second m (all .1)
 pub tail-low : (low high more b : ℕ) → leads (Tail low high more) ≡ following table b → 0 < low
 unfolding table
 tail-low low high more b e = second (following-starts table b _ (sym e) .row) (omega arith)
-
--- the ranges of n more bytes of a sequence
-abbrev pub others : ℕ → List ByteRange
-others n = replicate n (0x80 to 0xbf)
-
--- the walk is at i, with these ranges pending: the text is well-formed if what is left goes on in them, and is i bytes longer than that
-pub record Walk (s : List ℕ) (i : ℕ) (rs : List ByteRange) : Type 0 where
-  pub formed : goesOn (untilNul s) [] ≡ goesOn (untilNul (drop i s)) rs
-  pub size : length (untilNul s) ≡ i + length (untilNul (drop i s))
 
 pub start : (s : List ℕ) → Walk s 0 []
 start s = record { formed = refl; size = omega arith }
@@ -181,3 +173,22 @@ module _ (s : List ℕ) (i n : ℕ) (l : n ≤ length (take (length s - i) (drop
 
   pub rest-walk : Plain (take (length s - i) (drop i s)) 0 n → Walk s i [] → Walk s (i + n) []
   rest-walk p = plain-walk s i n (rw rest at p) rest-within
+
+-- ---- sequences of one row, in blocks
+
+pub block-lead : (s : List ℕ) (at k : ℕ) (all : Bool) {first last low more : ℕ} → RowOf first last low more → at + k + 1 < length s → (all ≡ true → Walk s (at + k) []) → all && leb first (getD s (at + k) 0) && leb (getD s (at + k) 0) last && leb low (getD s (at + k + 1) 0) && leb (getD s (at + k + 1) 0) 0xbf ≡ true → Walk s (at + (k + 2)) (others more)
+block-lead s at k all {more = more} row l inv e =
+    let a = and-eq-true-iff _ _ .0 e in
+    let b = and-eq-true-iff _ _ .0 (a .0) in
+    let c = and-eq-true-iff _ _ .0 (b .0) in
+    let d = and-eq-true-iff _ _ .0 (c .0) in
+    let above = leb-true _ _ (d .1) in
+    let lead = lead-step s (at + k) (omega arith) _ (λ z. omega (arith, row .bounds)) (row .each _ above (leb-true _ _ (c .1))) (inv (d .0)) in
+    let second = range-step s (at + k + 1) l _ _ (row .bounds .1) (leb-true _ _ (b .1)) (leb-true _ _ (a .1)) lead in
+    subst (λ i. Walk s i (others more)) (omega arith) second
+
+pub block-tail : (s : List ℕ) (at k left : ℕ) (all : Bool) → 0 < left → at + k + left ≤ length s → (all ≡ true → Walk s (at + k) (others left)) → all && leb 0x80 (getD s (at + k) 0) && leb (getD s (at + k) 0) 0xbf ≡ true → Walk s (at + (k + 1)) (others (left - 1))
+block-tail s at k left all h l inv e =
+    let a = and-eq-true-iff _ _ .0 e in
+    let b = and-eq-true-iff _ _ .0 (a .0) in
+    subst (λ i. Walk s i (others (left - 1))) (omega arith) (tail-step s (at + k) left h l (leb-true _ _ (b .1)) (leb-true _ _ (a .1)) (inv (b .0)))

@@ -4,3 +4,4 @@ pub mod Plain
 pub mod Table
 pub mod Text
 pub mod Utf8Laws
+pub mod Walk

@@ -4,8 +4,10 @@ ghost use mathlib.Core.Path.{_≡_};
 ghost use Prim.Native.Nat.{_+_, _≤_, _<_};
 ghost use lib.ListN.{length};
 ghost use mathlib.Core.Bool.{true};
+ghost use mathlib.Core.List.{[]};
 ghost use Rattle.utf8.specs.Plain.{Plain};
 ghost use Rattle.utf8.specs.Table.{table};
+ghost use Rattle.utf8.specs.Walk.{Walk, RowOf};
 ghost use Rattle.utf8.specs.Text.{textLength, scanned, following, leads};
 
 // What the bytes at the start of a slice are.
@@ -131,10 +133,66 @@ fn plain_prefix(s: &[u8]) -> usize
     i
 }
 
+// How many bytes from `at` on are sequences of one row of the table, all of 12 bytes or none: lead bytes from `first` to `last`, second bytes
+// from `low` on. Twelve bytes are a number of sequences of two, of three and of four bytes. No branch for each.
+fn row_block(s: &[u8], at: usize, first: u8, last: u8, low: u8, more: usize) -> usize
+    requires { ⌜ (at + 16 ≤ length (now s)) × RowOf first last low more × Walk (now s) at [] ⌝ }
+    ensures { λ r. ⌜ (r ≤ 16) × Walk (now (s .entry)) (at + r) [] ⌝ }
+{
+    let mut all = true;
+    let mut k = 0;
+    while k < 12 {
+        let lead = s[at + k];
+        let second = s[at + k + 1];
+        all = all & (first <= lead) & (lead <= last) & (low <= second) & (second <= 0xbf);
+        k += 2;
+        let mut left = more;
+        while left > 0 {
+            let c = s[at + k];
+            all = all & (0x80 <= c) & (c <= 0xbf);
+            k += 1;
+            left -= 1;
+        }
+    }
+    if all { k } else { 0 }
+}
+
+// Where blocks of one row end.
+fn row_blocks(s: &[u8], at: usize, first: u8, last: u8, low: u8, more: usize) -> usize
+    requires { ⌜ (at ≤ length (now s)) × RowOf first last low more × Walk (now s) at [] ⌝ }
+    ensures { λ r. ⌜ (at ≤ r) × (r ≤ length (now (s .entry))) × Walk (now (s .entry)) r [] ⌝ }
+{
+    let mut i = at;
+    while 16 <= s.len() - i {
+        let n = row_block(s, i, first, last, low, more);
+        if n == 0 {
+            return i;
+        }
+        i += n;
+    }
+    i
+}
+
+// Where blocks of sequences end that are like the one with this lead byte: of the row that most of its length are of.
+fn blocks_like(s: &[u8], at: usize, b: u8) -> usize
+    requires { ⌜ (at ≤ length (now s)) × Walk (now s) at [] ⌝ }
+    ensures { λ r. ⌜ (at ≤ r) × (r ≤ length (now (s .entry))) × Walk (now (s .entry)) r [] ⌝ }
+{
+    if b < 0xe0 {
+        return row_blocks(s, at, 0xc2, 0xdf, 0x80, 0);
+    }
+    if b < 0xf0 {
+        return row_blocks(s, at, 0xe1, 0xec, 0x80, 1);
+    }
+    row_blocks(s, at, 0xf0, 0xf0, 0x90, 2)
+}
+
 pub fn scan_text(s: &[u8]) -> Scan
     ensures { λ r. ⌜ scanned r ≡ textLength (now (s .entry)) ⌝ }
 {
     let mut i = plain_prefix(s);
+    // Where the last letter ended, or the last try for blocks.
+    let mut word = i;
     let mut formed = true;
     'scan: while i < s.len() {
         let b = s[i];
@@ -147,6 +205,7 @@ pub fn scan_text(s: &[u8]) -> Scan
             if i % 8 == 0 {
                 i += plain_prefix(&s[i..]);
             }
+            word = i;
         } else {
             i += 1;
             match lead_limits(b) {
@@ -171,6 +230,10 @@ pub fn scan_text(s: &[u8]) -> Scan
                         }
                         i += 1;
                         left -= 1;
+                    }
+                    if i - word > 8 {
+                        i = blocks_like(s, i, b);
+                        word = i;
                     }
                 }
                 Lead::Invalid => {
