@@ -106,6 +106,19 @@ tail-done s i left h w = let none-left : left ≡ 0 = omega arith in rw none-lef
 pub no-tail : (s : List ℕ) (i left : ℕ) → 0 < left → i + left ≤ length s → (0x80 ≤ getD s i 0 → getD s i 0 ≤ 0xbf → ⊥) → goesOn (untilNul (drop i s)) (others left) ≡ false
 no-tail s i left h l out = subst (λ n. goesOn (untilNul (drop i s)) (others n) ≡ false) (sym (one-more left h)) (no-range s i _ _ (omega arith) out)
 
+-- the same up to the last byte, at `last`, from the one after i on
+module _ (s : List ℕ) (i last : ℕ) where
+  pub last-step : i < last → last < length s → 0x80 ≤ getD s (i + 1) 0 → getD s (i + 1) 0 ≤ 0xbf → Walk s (i + 1) (others (last - i)) → Walk s (i + 1 + 1) (others (last - (i + 1)))
+  last-step h l low high w =
+      let less : last - i - 1 ≡ last - (i + 1) = omega arith in
+      rw less at (tail-step s (i + 1) (last - i) (omega arith) (omega arith) low high w)
+
+  pub last-done : last ≤ i → Walk s (i + 1) (others (last - i)) → Walk s (i + 1) []
+  last-done h = tail-done s (i + 1) (last - i) (omega arith)
+
+  pub no-last : i < last → last < length s → (0x80 ≤ getD s (i + 1) 0 → getD s (i + 1) 0 ≤ 0xbf → ⊥) → goesOn (untilNul (drop (i + 1) s)) (others (last - i)) ≡ false
+  no-last h l = no-tail s (i + 1) (last - i) (omega arith) (omega arith)
+
 fewer : (t : List ℕ) (rs : List ByteRange) → length t < length rs → goesOn t rs ≡ false
 unfolding goesOn
 fewer t [] h = absurd (omega arith)

@@ -173,11 +173,18 @@ fn row_blocks(s: &[u8], at: usize, first: u8, last: u8, low: u8, more: usize) ->
     i
 }
 
-// Where blocks of sequences end that are like the one with this lead byte: of the row that most of its length are of.
-fn blocks_like(s: &[u8], at: usize, b: u8) -> usize
+// Where blocks end that are like the sequence at `at`: of letters, or of the row that most sequences of its length are of.
+fn blocks(s: &[u8], at: usize) -> usize
     requires { ⌜ (at ≤ length (now s)) × Walk (now s) at [] ⌝ }
     ensures { λ r. ⌜ (at ≤ r) × (r ≤ length (now (s .entry))) × Walk (now (s .entry)) r [] ⌝ }
 {
+    if s.len() <= at {
+        return at;
+    }
+    let b = s[at];
+    if b < 0x80 {
+        return at + plain_prefix(&s[at..]);
+    }
     if b < 0xe0 {
         return row_blocks(s, at, 0xc2, 0xdf, 0x80, 0);
     }
@@ -187,61 +194,65 @@ fn blocks_like(s: &[u8], at: usize, b: u8) -> usize
     row_blocks(s, at, 0xf0, 0xf0, 0x90, 2)
 }
 
+// Where the next 16 bytes end, or all.
+fn stretch(at: usize, end: usize) -> usize
+    requires { ⌜ at < end ⌝ }
+    ensures { λ r. ⌜ (at < r) × (r ≤ end) ⌝ }
+{
+    if end - at < 16 {
+        return end;
+    }
+    at + 16
+}
+
 pub fn scan_text(s: &[u8]) -> Scan
     ensures { λ r. ⌜ scanned r ≡ textLength (now (s .entry)) ⌝ }
 {
     let mut i = plain_prefix(s);
-    // Where the last letter ended, or the last try for blocks.
-    let mut word = i;
     let mut formed = true;
     'scan: while i < s.len() {
-        let b = s[i];
-        if b < 0x80 {
-            if b == 0 {
-                break 'scan;
-            }
-            i += 1;
-            // Blocks are tried at every eighth byte: more often, and short words between other sequences would pay for it.
-            if i % 8 == 0 {
-                i += plain_prefix(&s[i..]);
-            }
-            word = i;
-        } else {
-            i += 1;
-            match lead_limits(b) {
-                Lead::Alone => {}
-                Lead::Tail { low, high, more } => {
-                    if s.len() - i <= more {
-                        formed = false;
-                        break 'scan;
-                    }
-                    let second = s[i];
-                    if second < low || high < second {
-                        formed = false;
-                        break 'scan;
-                    }
-                    i += 1;
-                    let mut left = more;
-                    while left > 0 {
-                        let c = s[i];
-                        if c < 0x80 || 0xbf < c {
+        // Sequence by sequence for a stretch; then blocks are tried again.
+        let stop = stretch(i, s.len());
+        while i < stop {
+            let b = s[i];
+            if b < 0x80 {
+                if b == 0 {
+                    break 'scan;
+                }
+                i += 1;
+            } else {
+                i += 1;
+                match lead_limits(b) {
+                    Lead::Alone => {}
+                    Lead::Tail { low, high, more } => {
+                        if s.len() - i <= more {
                             formed = false;
                             break 'scan;
                         }
+                        let second = s[i];
+                        if second < low || high < second {
+                            formed = false;
+                            break 'scan;
+                        }
+                        let last = i + more;
+                        while i < last {
+                            i += 1;
+                            let c = s[i];
+                            if c < 0x80 || 0xbf < c {
+                                formed = false;
+                                break 'scan;
+                            }
+                        }
                         i += 1;
-                        left -= 1;
                     }
-                    if i - word > 8 {
-                        i = blocks_like(s, i, b);
-                        word = i;
+                    Lead::Invalid => {
+                        formed = false;
+                        break 'scan;
                     }
-                }
-                Lead::Invalid => {
-                    formed = false;
-                    break 'scan;
                 }
             }
         }
+        i = blocks(s, i);
     }
     if formed {
         Scan::Text(i)
