@@ -133,8 +133,8 @@ fn plain_prefix(s: &[u8]) -> usize
     i
 }
 
-// How many bytes from `at` on are sequences of one row of the table, all of 12 bytes or none: lead bytes from `first` to `last`, second bytes
-// from `low` on. Twelve bytes are a number of sequences of two, of three and of four bytes. No branch for each.
+// How many bytes from `at` on are sequences of one row of the table: a block of 12 bytes, which is a number of sequences of two, of three and of
+// four, or none. The row has lead bytes from `first` to `last`, and second bytes from `low` on.
 fn row_block(s: &[u8], at: usize, first: u8, last: u8, low: u8, more: usize) -> usize
     requires { ⌜ (at + 16 ≤ length (now s)) × RowOf first last low more × Walk (now s) at [] ⌝ }
     ensures { λ r. ⌜ (r ≤ 16) × Walk (now (s .entry)) (at + r) [] ⌝ }
