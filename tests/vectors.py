@@ -320,8 +320,13 @@ def texts():
     vector("read_cstr_at", 0, data=mixed * 8 + b"\xff\0")
     # After a sequence: the next one, a NUL and a byte that starts none, at each place of two blocks of eight.
     for letters in range(18):
-        for next in (b"\xe2\x82\xac", b"\0", b"\x80"):
-            vector("read_cstr_at", 0, data=b"A\xc3\xa9" + b"B" * letters + next + b"C" * 9)
+        for then in (b"\xe2\x82\xac", b"\0", b"\x80"):
+            vector("read_cstr_at", 0, data=b"A\xc3\xa9" + b"B" * letters + then + b"C" * 9)
+    # Many sequences of one length: a NUL, a byte that starts none, a surrogate and an overlong form among them, after the fifth to the thirteenth.
+    for character in (b"\xc3\xa9", b"\xe7\x95\x8c", b"\xf0\x9f\x8c\xb3"):
+        for count in range(5, 14):
+            for then in (b"", b"\0", b"\x80", b"\xed\xbf\xbf", b"\xf0\x80\x80\x80"):
+                vector("read_cstr_at", 0, data=character * count + then + character * 8)
 
 
 def address_reads():

@@ -58,10 +58,18 @@ fn texts(checker: &mut Checker, few: bool) {
     }
 }
 
-/// A whole sequence among letters, and then, at each place in up to three blocks of eight, a NUL, the first and the last ASCII byte, sequences
-/// of each length, whole, cut short and ill-formed, and bytes that start none.
+/// Letters, and then letters after a sequence, sequences of one length, or of all lengths, and at each place among up to 24 of them and before up to
+/// 17 more: a NUL, the first and the last ASCII byte, sequences of each length, whole, cut short and ill-formed, and bytes that start none.
 fn long_texts(checker: &mut Checker) {
-    const WHOLE: [&[u8]; 3] = [b"\xc3\xa9", b"\xe2\x82\xac", b"\xf0\x9f\x8c\xb3"];
+    const FILLED: [[&str; 2]; 7] = [
+        ["é", "A"],
+        ["€", "A"],
+        ["🌳", "A"],
+        ["", "é"],
+        ["", "界"],
+        ["", "🌳"],
+        ["", "é界🌳A"],
+    ];
     const ODD: [&[u8]; 18] = [
         b"\0",
         b"\x01",
@@ -83,18 +91,16 @@ fn long_texts(checker: &mut Checker) {
         b"\xf5\x80\x80\x80",
     ];
     for before in 0..=9 {
-        for whole in WHOLE {
+        for [first, filler] in FILLED {
             for odd in ODD {
                 for place in 0..24 {
                     for after in [0, 1, 2, 7, 8, 9, 17] {
-                        let letters = |n| std::iter::repeat_n(b'A', n);
-                        let bytes: Vec<u8> = letters(before)
-                            .chain(whole.iter().copied())
-                            .chain(letters(place))
-                            .chain(odd.iter().copied())
-                            .chain(letters(after))
-                            .collect();
-                        text::<64>(checker, &bytes);
+                        let mut bytes = "A".repeat(before).into_bytes();
+                        bytes.extend_from_slice(first.as_bytes());
+                        bytes.extend_from_slice(filler.repeat(place).as_bytes());
+                        bytes.extend_from_slice(odd);
+                        bytes.extend_from_slice(filler.repeat(after).as_bytes());
+                        text::<512>(checker, &bytes);
                     }
                 }
             }

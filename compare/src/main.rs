@@ -29,7 +29,7 @@ use input::Input;
 use std::time::Instant;
 
 const USAGE: &str = "usage: compare run [--seed S] [--count N] [--seconds T] [--full]   seeded inputs, N of them or as many as T seconds allow
-       compare exhaustive [--few]                     all short texts, all flags, chains around the limit, segments and blocks around 2^64, all cuts
+       compare exhaustive [--few]                     all short texts and some long ones, all flags, chains around the limit, segments and blocks around 2^64, all cuts
        compare cuts [--seed S] [--count N]            listings of cut images, against the whole ones filtered by paths
        compare one LINE                               the input of one printed line
        compare sample OUT [DIR]                       inputs with the Rust's answers; in DIR as stdin and stdout of a program

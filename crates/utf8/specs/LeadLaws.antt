@@ -1,15 +1,16 @@
 -- The theorem about lead bytes (`lead-bytes`): for each of the 256 bytes, an answer that keeps the promise of `lead_limits` is what the rows of
--- Table 3-7 have of the byte, and it is the one in the list of `classes`. What the rows have is one answer (`has-one`).
+-- Table 3-7 have of the byte, and it is the one in the list of `classes`. What the rows have is one answer (`has-one`). `texts-worked` has, for
+-- each row with limits of its own, a text and bytes next to it that are none.
 -- Assumes nothing.
 use Prim.Native.Nat.{ℕ, zero, suc, _+_, _<_}
 use native.Mathlib.Omega.{arith}
 use mathlib.Core.Path.{_≡_, refl, sym, ap, _∙_}
 use mathlib.Core.List.{List, [], _∷_, map}
 use mathlib.Core.Option.{Option, some, none}
-use lib.ListN.{length, getD, List·getD-map}
+use lib.ListN.{getD, List·getD-map}
 use Rattle.utf8.specs.Table.{ByteRange, table}
-use Rattle.utf8.specs.Text.{following, leads}
-use Rattle.utf8.specs.LeadBytes.{Starts, TableHas, classes}
+use Rattle.utf8.specs.Text.{following, goesOn, untilNul, textLength, leads}
+use Rattle.utf8.specs.LeadBytes.{TableHas, classes}
 use Rattle.utf8.specs.Utf8Laws.{following-starts, row-found, leads-injective}
 use Rattle.utf8.specs.declared.Lead.{Lead}
 use Rattle.utf8.specs.declared.Lead.the-variants.{Alone, Tail, Invalid}
@@ -48,3 +49,19 @@ in-classes b h = sym (List·getD-map leads classes b Invalid) ∙ ap (λ l. getD
 
 pub lead-bytes : (b : ℕ) → b < 256 → (r : Lead) → leads r ≡ following table b → TableHas b r × (r ≡ getD classes b Invalid)
 lead-bytes b h r e = (has b r e, leads-injective r _ (e ∙ sym (in-classes b h)))
+
+pub texts-worked :
+    (textLength (0x41 ∷ []) ≡ some 1) ×
+    (textLength (0xc2 ∷ 0x80 ∷ []) ≡ some 2) ×
+    (textLength (0xc1 ∷ 0x80 ∷ []) ≡ none) ×
+    (textLength (0xe0 ∷ 0xa0 ∷ 0x80 ∷ []) ≡ some 3) ×
+    (textLength (0xe0 ∷ 0x80 ∷ 0x80 ∷ []) ≡ none) ×
+    (textLength (0xed ∷ 0x9f ∷ 0xbf ∷ []) ≡ some 3) ×
+    (textLength (0xed ∷ 0xbf ∷ 0xbf ∷ []) ≡ none) ×
+    (textLength (0xf0 ∷ 0x90 ∷ 0x80 ∷ 0x80 ∷ []) ≡ some 4) ×
+    (textLength (0xf0 ∷ 0x90 ∷ 0x80 ∷ []) ≡ none) ×
+    (textLength (0xf4 ∷ 0x8f ∷ 0xbf ∷ 0xbf ∷ []) ≡ some 4) ×
+    (textLength (0xf4 ∷ 0x90 ∷ 0x80 ∷ 0x80 ∷ []) ≡ none) ×
+    (textLength (0xf5 ∷ 0x80 ∷ 0x80 ∷ 0x80 ∷ []) ≡ none)
+unfolding table following goesOn untilNul textLength
+texts-worked = (refl, refl, refl, refl, refl, refl, refl, refl, refl, refl, refl, refl)

@@ -1,5 +1,6 @@
--- `utf8::scan_text` meets its contract. Both loops carry where the walk stands (`Walk`): the outer one with nothing pending, the inner one with
--- the ranges of the bytes up to the sequence's last. `formed` is true in both, since each way that makes it false leaves at once. Assumes nothing.
+-- `utf8::scan_text` meets its contract. All three loops carry where the walk stands (`Walk`): the two over sequences with nothing pending, the one
+-- over a sequence's bytes with the ranges up to its last. `formed` is true in all, since each way that makes it false leaves at once.
+-- Assumes nothing.
 use Prim.Native.Nat.{_+_, _≤_, _<_, _-_}
 use native.Mathlib.Nat.{zero-add}
 use native.Mathlib.Omega.{arith}
@@ -8,7 +9,7 @@ use borrow.Author.Tests.{ltb-false, ltb-true}
 use mathlib.Core.Path.{_≡_, refl, sym, ap, _∙_}
 use mathlib.Core.Logic.{⊎-elim}
 use mathlib.Core.Bool.{true}
-use mathlib.Core.List.{[], _∷_}
+use mathlib.Core.List.{[]}
 use lib.ListN.{length}
 use Rattle.utf8.specs.Table.{_to_}
 use Rattle.utf8.specs.Text.{textLength, leads}
