@@ -205,10 +205,12 @@ fn stretch(at: usize, end: usize) -> usize
     at + 16
 }
 
-pub fn scan_text(s: &[u8]) -> Scan
+// The scan from `at` on, where the first byte is that is not ASCII. Most texts have none, and stay out of it.
+fn scan_from(s: &[u8], at: usize) -> Scan
+    requires { ⌜ (at ≤ length (now s)) × Walk (now s) at [] ⌝ }
     ensures { λ r. ⌜ scanned r ≡ textLength (now (s .entry)) ⌝ }
 {
-    let mut i = plain_prefix(s);
+    let mut i = at;
     let mut formed = true;
     'scan: while i < s.len() {
         // Sequence by sequence for a stretch; then blocks are tried again.
@@ -259,4 +261,21 @@ pub fn scan_text(s: &[u8]) -> Scan
     } else {
         Scan::IllFormed
     }
+}
+
+pub fn scan_text(s: &[u8]) -> Scan
+    ensures { λ r. ⌜ scanned r ≡ textLength (now (s .entry)) ⌝ }
+{
+    let mut i = plain_prefix(s);
+    while i < s.len() {
+        let b = s[i];
+        if b == 0 {
+            return Scan::Text(i);
+        }
+        if b >= 0x80 {
+            return scan_from(s, i);
+        }
+        i += 1;
+    }
+    Scan::Text(i)
 }
