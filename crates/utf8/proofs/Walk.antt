@@ -16,7 +16,7 @@ use lib.ListN.{length, getD, take, drop, replicate, length-replicate, length-dro
 use lib.Seq.{drop-cons, getD-drop, take-all}
 use Rattle.utf8.specs.Table.{ByteRange, table, _to_}
 use Rattle.utf8.specs.Text.{inRange, following, goesOn, untilNul, textLength, leads}
-use Rattle.utf8.specs.Walk.{Walk, RowOf, others}
+use Rattle.utf8.specs.ScanAt.{ScanAt, RowOf, others}
 use Rattle.utf8.specs.declared.Lead.the-variants.{Tail}
 use Rattle.utf8.specs.Utf8Laws.{within-true, within-false, following-starts, until-nul-length}
 use Rattle.utf8.proofs.Rows.{in-row}
@@ -39,7 +39,7 @@ pub tail-low : (low high more b : ℕ) → leads (Tail low high more) ≡ follow
 unfolding table
 tail-low low high more b e = second (following-starts table b _ (sym e) .row) (omega arith)
 
-pub start : (s : List ℕ) → Walk s 0 []
+pub start : (s : List ℕ) → ScanAt s 0 []
 start s = record { formed = refl; size = omega arith }
 
 until-nul-cons : (b : ℕ) (t : List ℕ) → (b ≡ 0 → ⊥) → untilNul (b ∷ t) ≡ b ∷ untilNul t
@@ -52,22 +52,22 @@ module _ (s : List ℕ) (i : ℕ) (inside : i < length s) where
   here h = rw (add-one, drop-cons s i 0 inside) (until-nul-cons _ _ h)
 
   -- on by a byte that is no NUL
-  step : (rs rs′ : List ByteRange) → (getD s i 0 ≡ 0 → ⊥) → ((t : List ℕ) → goesOn (getD s i 0 ∷ t) rs ≡ goesOn t rs′) → Walk s i rs → Walk s (i + 1) rs′
+  step : (rs rs′ : List ByteRange) → (getD s i 0 ≡ 0 → ⊥) → ((t : List ℕ) → goesOn (getD s i 0 ∷ t) rs ≡ goesOn t rs′) → ScanAt s i rs → ScanAt s (i + 1) rs′
   step rs rs′ h g w =
       record {
         formed = w .formed ∙ ap (λ t. goesOn t rs) (here h) ∙ g _;
         size = omega (arith, w .size, ap length (here h));
       }
 
-  pub lead-step : (rs : List ByteRange) → (getD s i 0 ≡ 0 → ⊥) → some rs ≡ following table (getD s i 0) → Walk s i [] → Walk s (i + 1) rs
+  pub lead-step : (rs : List ByteRange) → (getD s i 0 ≡ 0 → ⊥) → some rs ≡ following table (getD s i 0) → ScanAt s i [] → ScanAt s (i + 1) rs
   unfolding goesOn
   lead-step rs h e = step [] rs h (λ t. rw (← e, goesOn))
 
-  pub ascii-step : (getD s i 0 ≡ 0 → ⊥) → getD s i 0 < 0x80 → Walk s i [] → Walk s (i + 1) []
+  pub ascii-step : (getD s i 0 ≡ 0 → ⊥) → getD s i 0 < 0x80 → ScanAt s i [] → ScanAt s (i + 1) []
   unfolding table
   ascii-step h l = lead-step [] h (in-row 0 table (getD s i 0) (omega arith))
 
-  pub range-step : (r : ByteRange) (rs : List ByteRange) → 0 < r .low → r .low ≤ getD s i 0 → getD s i 0 ≤ r .high → Walk s i (r ∷ rs) → Walk s (i + 1) rs
+  pub range-step : (r : ByteRange) (rs : List ByteRange) → 0 < r .low → r .low ≤ getD s i 0 → getD s i 0 ≤ r .high → ScanAt s i (r ∷ rs) → ScanAt s (i + 1) rs
   unfolding goesOn
   range-step r rs p l h = step (r ∷ rs) rs (λ e. omega arith) (λ t. rw (within-true r _ l h))
 
@@ -97,10 +97,10 @@ no-range s i r rs l out = rw (drop-cons s i 0 l) (refused _ _ r rs out)
 one-more : (left : ℕ) → 0 < left → left ≡ suc (left - 1)
 one-more left h = omega arith
 
-pub tail-step : (s : List ℕ) (i left : ℕ) → 0 < left → i + left ≤ length s → 0x80 ≤ getD s i 0 → getD s i 0 ≤ 0xbf → Walk s i (others left) → Walk s (i + 1) (others (left - 1))
-tail-step s i left h l low high w = range-step s i (omega arith) (0x80 to 0xbf) _ (omega arith) low high (subst (λ n. Walk s i (others n)) (one-more left h) w)
+pub tail-step : (s : List ℕ) (i left : ℕ) → 0 < left → i + left ≤ length s → 0x80 ≤ getD s i 0 → getD s i 0 ≤ 0xbf → ScanAt s i (others left) → ScanAt s (i + 1) (others (left - 1))
+tail-step s i left h l low high w = range-step s i (omega arith) (0x80 to 0xbf) _ (omega arith) low high (subst (λ n. ScanAt s i (others n)) (one-more left h) w)
 
-pub tail-done : (s : List ℕ) (i left : ℕ) → left ≤ 0 → Walk s i (others left) → Walk s i []
+pub tail-done : (s : List ℕ) (i left : ℕ) → left ≤ 0 → ScanAt s i (others left) → ScanAt s i []
 tail-done s i left h w = let none-left : left ≡ 0 = omega arith in rw none-left at w
 
 pub no-tail : (s : List ℕ) (i left : ℕ) → 0 < left → i + left ≤ length s → (0x80 ≤ getD s i 0 → getD s i 0 ≤ 0xbf → ⊥) → goesOn (untilNul (drop i s)) (others left) ≡ false
@@ -108,12 +108,12 @@ no-tail s i left h l out = subst (λ n. goesOn (untilNul (drop i s)) (others n) 
 
 -- the same up to the last byte, at `last`, from the one after i on
 module _ (s : List ℕ) (i last : ℕ) where
-  pub last-step : i < last → last < length s → 0x80 ≤ getD s (i + 1) 0 → getD s (i + 1) 0 ≤ 0xbf → Walk s (i + 1) (others (last - i)) → Walk s (i + 1 + 1) (others (last - (i + 1)))
+  pub last-step : i < last → last < length s → 0x80 ≤ getD s (i + 1) 0 → getD s (i + 1) 0 ≤ 0xbf → ScanAt s (i + 1) (others (last - i)) → ScanAt s (i + 1 + 1) (others (last - (i + 1)))
   last-step h l low high w =
       let less : last - i - 1 ≡ last - (i + 1) = omega arith in
       rw less at (tail-step s (i + 1) (last - i) (omega arith) (omega arith) low high w)
 
-  pub last-done : last ≤ i → Walk s (i + 1) (others (last - i)) → Walk s (i + 1) []
+  pub last-done : last ≤ i → ScanAt s (i + 1) (others (last - i)) → ScanAt s (i + 1) []
   last-done h = tail-done s (i + 1) (last - i) (omega arith)
 
   pub no-last : i < last → last < length s → (0x80 ≤ getD s (i + 1) 0 → getD s (i + 1) 0 ≤ 0xbf → ⊥) → goesOn (untilNul (drop (i + 1) s)) (others (last - i)) ≡ false
@@ -135,13 +135,13 @@ abbrev pub outcome : Bool → ℕ → Option ℕ
 outcome true i = some i
 outcome false i = none
 
-pub ends : (s : List ℕ) {i j : ℕ} {formed : Bool} → j ≡ i → formed ≡ true → Walk s i [] → untilNul (drop i s) ≡ [] → outcome formed j ≡ textLength s
+pub ends : (s : List ℕ) {i j : ℕ} {formed : Bool} → j ≡ i → formed ≡ true → ScanAt s i [] → untilNul (drop i s) ≡ [] → outcome formed j ≡ textLength s
 unfolding goesOn textLength
 ends s {i} p f w e =
     let g : goesOn (untilNul s) [] ≡ true = w .formed ∙ ap (λ t. goesOn t []) e in
     rw (f, g, textLength) (ap some (omega (arith, w .size, ap length e)))
 
-pub ill-formed : (s : List ℕ) (j : ℕ) {i : ℕ} {rs : List ByteRange} {formed : Bool} → formed ≡ false → Walk s i rs → goesOn (untilNul (drop i s)) rs ≡ false → outcome formed j ≡ textLength s
+pub ill-formed : (s : List ℕ) (j : ℕ) {i : ℕ} {rs : List ByteRange} {formed : Bool} → formed ≡ false → ScanAt s i rs → goesOn (untilNul (drop i s)) rs ≡ false → outcome formed j ≡ textLength s
 unfolding textLength
 ill-formed s j f w e = rw (f, w .formed ∙ e, textLength)
 
@@ -168,13 +168,13 @@ plain-join s i n p q = record { each = each }
               rw j at (q .each (k - i) (omega arith))
         ]
 
-pub plain-walk : (s : List ℕ) (i n : ℕ) → Plain (drop i s) 0 n → n ≤ length s - i → Walk s i [] → Walk s (i + n) []
+pub plain-walk : (s : List ℕ) (i n : ℕ) → Plain (drop i s) 0 n → n ≤ length s - i → ScanAt s i [] → ScanAt s (i + n) []
 plain-walk s i zero p h w = rw add-zero w
 plain-walk s i (suc n) p h w =
     let b : (0 < getD s (i + n) 0) × (getD s (i + n) 0 < 0x80) = rw (zero-add, getD-drop) at (p .each n (omega arith)) in
     let before = plain-walk s i n (record { each = λ k l. p .each k (omega arith) }) (omega arith) w in
-    let after : Walk s (i + n + 1) [] = ascii-step s (i + n) (omega arith) (λ e. omega arith) (b .1) before in
-    subst (λ k. Walk s k []) (omega arith) after
+    let after : ScanAt s (i + n + 1) [] = ascii-step s (i + n) (omega arith) (λ e. omega arith) (b .1) before in
+    subst (λ k. ScanAt s k []) (omega arith) after
 
 -- what `plain_prefix` tells of the bytes from i on, which a range of a slice gives
 module _ (s : List ℕ) (i n : ℕ) (l : n ≤ length (take (length s - i) (drop i s))) where
@@ -184,12 +184,12 @@ module _ (s : List ℕ) (i n : ℕ) (l : n ≤ length (take (length s - i) (drop
   pub rest-within : n ≤ length s - i
   rest-within = omega (arith, ap length rest, length-drop i s)
 
-  pub rest-walk : Plain (take (length s - i) (drop i s)) 0 n → Walk s i [] → Walk s (i + n) []
+  pub rest-walk : Plain (take (length s - i) (drop i s)) 0 n → ScanAt s i [] → ScanAt s (i + n) []
   rest-walk p = plain-walk s i n (rw rest at p) rest-within
 
 -- ---- sequences of one row, in blocks
 
-pub block-lead : (s : List ℕ) (at k : ℕ) (all : Bool) {first last low more : ℕ} → RowOf first last low more → at + k + 1 < length s → (all ≡ true → Walk s (at + k) []) → all && leb first (getD s (at + k) 0) && leb (getD s (at + k) 0) last && leb low (getD s (at + k + 1) 0) && leb (getD s (at + k + 1) 0) 0xbf ≡ true → Walk s (at + (k + 2)) (others more)
+pub block-lead : (s : List ℕ) (at k : ℕ) (all : Bool) {first last low more : ℕ} → RowOf first last low more → at + k + 1 < length s → (all ≡ true → ScanAt s (at + k) []) → all && leb first (getD s (at + k) 0) && leb (getD s (at + k) 0) last && leb low (getD s (at + k + 1) 0) && leb (getD s (at + k + 1) 0) 0xbf ≡ true → ScanAt s (at + (k + 2)) (others more)
 block-lead s at k all {more = more} row l inv e =
     let a = and-eq-true-iff _ _ .0 e in
     let b = and-eq-true-iff _ _ .0 (a .0) in
@@ -198,10 +198,10 @@ block-lead s at k all {more = more} row l inv e =
     let above = leb-true _ _ (d .1) in
     let lead = lead-step s (at + k) (omega arith) _ (λ z. omega (arith, row .bounds)) (row .each _ above (leb-true _ _ (c .1))) (inv (d .0)) in
     let second = range-step s (at + k + 1) l _ _ (row .bounds .1) (leb-true _ _ (b .1)) (leb-true _ _ (a .1)) lead in
-    subst (λ i. Walk s i (others more)) (omega arith) second
+    subst (λ i. ScanAt s i (others more)) (omega arith) second
 
-pub block-tail : (s : List ℕ) (at k left : ℕ) (all : Bool) → 0 < left → at + k + left ≤ length s → (all ≡ true → Walk s (at + k) (others left)) → all && leb 0x80 (getD s (at + k) 0) && leb (getD s (at + k) 0) 0xbf ≡ true → Walk s (at + (k + 1)) (others (left - 1))
+pub block-tail : (s : List ℕ) (at k left : ℕ) (all : Bool) → 0 < left → at + k + left ≤ length s → (all ≡ true → ScanAt s (at + k) (others left)) → all && leb 0x80 (getD s (at + k) 0) && leb (getD s (at + k) 0) 0xbf ≡ true → ScanAt s (at + (k + 1)) (others (left - 1))
 block-tail s at k left all h l inv e =
     let a = and-eq-true-iff _ _ .0 e in
     let b = and-eq-true-iff _ _ .0 (a .0) in
-    subst (λ i. Walk s i (others (left - 1))) (omega arith) (tail-step s (at + k) left h l (leb-true _ _ (b .1)) (leb-true _ _ (a .1)) (inv (b .0)))
+    subst (λ i. ScanAt s i (others (left - 1))) (omega arith) (tail-step s (at + k) left h l (leb-true _ _ (b .1)) (leb-true _ _ (a .1)) (inv (b .0)))

@@ -1,7 +1,7 @@
 pub mod LeadBytes
 pub mod LeadLaws
 pub mod Plain
+pub mod ScanAt
 pub mod Table
 pub mod Text
 pub mod Utf8Laws
-pub mod Walk

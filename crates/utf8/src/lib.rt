@@ -7,7 +7,7 @@ ghost use mathlib.Core.Bool.{true};
 ghost use mathlib.Core.List.{[]};
 ghost use Rattle.utf8.specs.Plain.{Plain};
 ghost use Rattle.utf8.specs.Table.{table};
-ghost use Rattle.utf8.specs.Walk.{Walk, RowOf};
+ghost use Rattle.utf8.specs.ScanAt.{ScanAt, RowOf};
 ghost use Rattle.utf8.specs.Text.{textLength, scanned, following, leads};
 
 // What the bytes at the start of a slice are.
@@ -136,8 +136,8 @@ fn plain_prefix(s: &[u8]) -> usize
 // How many bytes from `at` on are sequences of one row of the table: a block of 12 bytes, which is a number of sequences of two, of three and of
 // four, or none. The row has lead bytes from `first` to `last`, and second bytes from `low` on.
 fn row_block(s: &[u8], at: usize, first: u8, last: u8, low: u8, more: usize) -> usize
-    requires { ⌜ (at + 16 ≤ length (now s)) × RowOf first last low more × Walk (now s) at [] ⌝ }
-    ensures { λ r. ⌜ (r ≤ 16) × Walk (now (s .entry)) (at + r) [] ⌝ }
+    requires { ⌜ (at + 16 ≤ length (now s)) × RowOf first last low more × ScanAt (now s) at [] ⌝ }
+    ensures { λ r. ⌜ (r ≤ 16) × ScanAt (now (s .entry)) (at + r) [] ⌝ }
 {
     let mut all = true;
     let mut k = 0;
@@ -159,8 +159,8 @@ fn row_block(s: &[u8], at: usize, first: u8, last: u8, low: u8, more: usize) -> 
 
 // Where blocks of one row end.
 fn row_blocks(s: &[u8], at: usize, first: u8, last: u8, low: u8, more: usize) -> usize
-    requires { ⌜ (at ≤ length (now s)) × RowOf first last low more × Walk (now s) at [] ⌝ }
-    ensures { λ r. ⌜ (at ≤ r) × (r ≤ length (now (s .entry))) × Walk (now (s .entry)) r [] ⌝ }
+    requires { ⌜ (at ≤ length (now s)) × RowOf first last low more × ScanAt (now s) at [] ⌝ }
+    ensures { λ r. ⌜ (at ≤ r) × (r ≤ length (now (s .entry))) × ScanAt (now (s .entry)) r [] ⌝ }
 {
     let mut i = at;
     while 16 <= s.len() - i {
@@ -175,8 +175,8 @@ fn row_blocks(s: &[u8], at: usize, first: u8, last: u8, low: u8, more: usize) ->
 
 // Where blocks end that are like the sequence at `at`: of letters, or of the row that most sequences of its length are of.
 fn blocks(s: &[u8], at: usize) -> usize
-    requires { ⌜ (at ≤ length (now s)) × Walk (now s) at [] ⌝ }
-    ensures { λ r. ⌜ (at ≤ r) × (r ≤ length (now (s .entry))) × Walk (now (s .entry)) r [] ⌝ }
+    requires { ⌜ (at ≤ length (now s)) × ScanAt (now s) at [] ⌝ }
+    ensures { λ r. ⌜ (at ≤ r) × (r ≤ length (now (s .entry))) × ScanAt (now (s .entry)) r [] ⌝ }
 {
     if s.len() <= at {
         return at;
@@ -207,7 +207,7 @@ fn stretch(at: usize, end: usize) -> usize
 
 // The scan from `at` on, where the first byte is that is not ASCII. Most texts have none, and stay out of it.
 fn scan_from(s: &[u8], at: usize) -> Scan
-    requires { ⌜ (at ≤ length (now s)) × Walk (now s) at [] ⌝ }
+    requires { ⌜ (at ≤ length (now s)) × ScanAt (now s) at [] ⌝ }
     ensures { λ r. ⌜ scanned r ≡ textLength (now (s .entry)) ⌝ }
 {
     let mut i = at;

@@ -2,7 +2,7 @@
 use borrow.Author.Needs.{needs}
 use native.Mathlib.Omega.{arith}
 use Rattle.utf8.specs.Table.{table}
-use Rattle.utf8.specs.Walk.{RowOf}
+use Rattle.utf8.specs.ScanAt.{RowOf}
 use Rattle.utf8.proofs.Rows.{in-row}
 use Rattle.utf8.proofs.Walk.{rest-within, rest-walk}
 use Rattle.utf8.proofs.blocks.Statement.{statement}

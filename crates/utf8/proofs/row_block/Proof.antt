@@ -7,19 +7,19 @@ use Prim.Native.Nat.{_+_, _-_, _≤_}
 use mathlib.Core.Path.{_≡_}
 use mathlib.Core.Bool.{true}
 use mathlib.Core.List.{[]}
-use Rattle.utf8.specs.Walk.{Walk, others}
+use Rattle.utf8.specs.ScanAt.{ScanAt, others}
 use Rattle.utf8.proofs.Walk.{block-lead, block-tail, tail-done}
 use Rattle.utf8.proofs.row_block.Statement.{statement}
 use Rattle.utf8.proofs.row_block.Tie as tie
 
 abbrev Inv-loop2 : tie.InvT-loop2
-Inv-loop2 s at first last low more all₀ k₀ lead second left₀ all k left = (k₀ ≤ k) × (k + left ≤ 15) × (all ≡ true → Walk s (at + k) (others left))
+Inv-loop2 s at first last low more all₀ k₀ lead second left₀ all k left = (k₀ ≤ k) × (k + left ≤ 15) × (all ≡ true → ScanAt s (at + k) (others left))
 
 abbrev μ-loop2 : tie.MeasureT-loop2
 μ-loop2 s at first last low more all₀ k₀ lead second left₀ all k left = left
 
 abbrev Inv-loop : tie.InvT-loop
-Inv-loop s at first last low more all₀ k₀ all k = (k ≤ 15) × (all ≡ true → Walk s (at + k) [])
+Inv-loop s at first last low more all₀ k₀ all k = (k ≤ 15) × (all ≡ true → ScanAt s (at + k) [])
 
 abbrev μ-loop : tie.MeasureT-loop
 μ-loop s at first last low more all₀ k₀ all k = 12 - k

@@ -4,12 +4,12 @@ use native.Mathlib.Omega.{arith}
 use Prim.Native.Nat.{_-_, _≤_}
 use mathlib.Core.List.{[]}
 use lib.ListN.{length}
-use Rattle.utf8.specs.Walk.{Walk}
+use Rattle.utf8.specs.ScanAt.{ScanAt}
 use Rattle.utf8.proofs.row_blocks.Statement.{statement}
 use Rattle.utf8.proofs.row_blocks.Tie as tie
 
 abbrev Inv-loop : tie.InvT-loop
-Inv-loop s at first last low more i₀ i = (at ≤ i) × (i ≤ length s) × Walk s i []
+Inv-loop s at first last low more i₀ i = (at ≤ i) × (i ≤ length s) × ScanAt s i []
 
 abbrev μ-loop : tie.MeasureT-loop
 μ-loop s at first last low more i₀ i = length s - i

@@ -1,4 +1,4 @@
--- `utf8::scan_from` meets its contract. All three loops carry where the walk stands (`Walk`): the two over sequences with nothing pending, the one
+-- `utf8::scan_from` meets its contract. All three loops carry where the walk stands (`ScanAt`): the two over sequences with nothing pending, the one
 -- over a sequence's bytes with the ranges up to its last. `formed` is true in all, since each way that makes it false leaves at once.
 -- Assumes nothing.
 use Prim.Native.Nat.{_+_, _≤_, _<_, _-_}
@@ -12,26 +12,26 @@ use mathlib.Core.List.{[]}
 use lib.ListN.{length}
 use Rattle.utf8.specs.Table.{_to_}
 use Rattle.utf8.specs.Text.{textLength, leads}
-use Rattle.utf8.specs.Walk.{Walk, others}
+use Rattle.utf8.specs.ScanAt.{ScanAt, others}
 use Rattle.utf8.proofs.Walk.{tail-low, lead-step, ascii-step, range-step, last-step, last-done, no-lead, no-range, no-last, too-few, at-nul, at-end, outcome, ends, ill-formed}
 use Rattle.utf8.proofs.scan_from.Statement.{statement}
 use Rattle.utf8.proofs.scan_from.Tie as tie
 
 abbrev Inv-loop2 : tie.InvT-loop2
 Inv-loop2 s at i₀ formed₀ stop b low high more second last i formed =
-    (i₀ ≤ i) × (i ≤ last) × (last < length s) × (formed ≡ true) × Walk s (i + 1) (others (last - i))
+    (i₀ ≤ i) × (i ≤ last) × (last < length s) × (formed ≡ true) × ScanAt s (i + 1) (others (last - i))
 
 abbrev μ-loop2 : tie.MeasureT-loop2
 μ-loop2 s at i₀ formed₀ stop b low high more second last i formed = last - i
 
 abbrev Inv-loop : tie.InvT-loop
-Inv-loop s at i₀ formed₀ stop i formed = (i ≤ length s) × (formed ≡ true) × Walk s i [] × (i₀ ≤ i)
+Inv-loop s at i₀ formed₀ stop i formed = (i ≤ length s) × (formed ≡ true) × ScanAt s i [] × (i₀ ≤ i)
 
 abbrev μ-loop : tie.MeasureT-loop
 μ-loop s at i₀ formed₀ stop i formed = stop - i
 
 abbrev Inv-scan : tie.InvT-scan
-Inv-scan s at i₀ formed₀ i formed = (i ≤ length s) × (formed ≡ true) × Walk s i []
+Inv-scan s at i₀ formed₀ i formed = (i ≤ length s) × (formed ≡ true) × ScanAt s i []
 
 abbrev μ-scan : tie.MeasureT-scan
 μ-scan s at i₀ formed₀ i formed = length s - i

@@ -7,13 +7,13 @@ use mathlib.Core.Path.{refl}
 use mathlib.Core.Bool.{true}
 use mathlib.Core.List.{[]}
 use lib.ListN.{length}
-use Rattle.utf8.specs.Walk.{Walk}
+use Rattle.utf8.specs.ScanAt.{ScanAt}
 use Rattle.utf8.proofs.Walk.{start, plain-walk, ascii-step, at-nul, at-end, ends}
 use Rattle.utf8.proofs.scan_text.Statement.{statement}
 use Rattle.utf8.proofs.scan_text.Tie as tie
 
 abbrev Inv-loop : tie.InvT-loop
-Inv-loop s i₀ i = (i ≤ length s) × Walk s i []
+Inv-loop s i₀ i = (i ≤ length s) × ScanAt s i []
 
 abbrev μ-loop : tie.MeasureT-loop
 μ-loop s i₀ i = length s - i

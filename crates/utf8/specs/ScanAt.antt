@@ -8,7 +8,7 @@ use Rattle.utf8.specs.Table.{ByteRange, table, _to_}
 use Rattle.utf8.specs.Text.{following, goesOn, untilNul}
 
 -- the walk is at i, with these ranges pending: the text is well-formed if what is left goes on in them, and is i bytes longer than that
-pub record Walk (s : List ℕ) (i : ℕ) (rs : List ByteRange) : Type 0 where
+pub record ScanAt (s : List ℕ) (i : ℕ) (rs : List ByteRange) : Type 0 where
   pub formed : goesOn (untilNul s) [] ≡ goesOn (untilNul (drop i s)) rs
   pub size : length (untilNul s) ≡ i + length (untilNul (drop i s))
 
