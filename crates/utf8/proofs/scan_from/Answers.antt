@@ -1,0 +1,69 @@
+use Rattle.std.specs.Prelude.{◌≡◌, ◌+◌, ◌-◌, ◌<◌, ◌≤◌, true, [], length}
+use native.Mathlib.Omega.{arith}
+use borrow.Author.Rules.{rules}
+use borrow.Author.Tests.{ltb-false, ltb-true}
+use mathlib.Core.Path.{refl, sym, ap, ◌∙◌}
+use mathlib.Core.Logic.{⊎_elim}
+use Rattle.utf8.specs.Table.{◌to◌}
+use Rattle.utf8.specs.Text.{text_length, leads}
+use Rattle.utf8.specs.ScanAt.{ScanAt, others}
+use Rattle.utf8.proofs.Walk.{tail_low, lead_step, ascii_step, range_step, last_step, last_done, no_lead, no_range, no_last, too_few, at_nul, at_end_lem, outcome, ends, ill_formed}
+use Rattle.utf8.proofs.scan_from.Goals as goal
+
+pub scan-init : goal.scan-init
+scan-init c = let pre = c.requires in (pre.0, refl, pre.1)
+
+pub loop-i-init : goal.loop-i-init
+loop-i-init c = let at = c.scan in (at.invariant.0, at.invariant.1, at.invariant.2, omega arith)
+
+pub loop-i-preserved-then-b-lt128 : goal.loop-i-preserved-then-b-lt128
+loop-i-preserved-then-b-lt128 c =
+    let at = c.loop-i in
+    (omega arith, at.invariant.1, ascii_step _ _ (omega arith) c.if-b-eq0.false c.if-b-lt128.true at.invariant.2, omega arith)
+
+pub loop-i-preserved-in-Alone : goal.loop-i-preserved-in-Alone
+loop-i-preserved-in-Alone c =
+    let at = c.loop-i in
+    let asked = sym (ap leads c.in-Alone.is) ∙ c.lead_limits.ensures in
+    (omega arith, at.invariant.1, lead_step _ _ (omega arith) _ (λ e. omega arith) asked at.invariant.2, omega arith)
+
+pub loop-i-2-init : goal.loop-i-2-init
+loop-i-2-init c =
+    let at = c.loop-i in
+    let low = c.in-Tail.low in
+    let high = c.in-Tail.high in
+    let more = c.in-Tail.more in
+    let asked = sym (ap leads c.in-Tail.is) ∙ c.lead_limits.ensures in
+    let lead = lead_step _ _ (omega arith) _ (λ e. omega arith) asked at.invariant.2 in
+    let left : more < length c.args.s.now - (at.i + 1) = c.if-s-i.false in
+    let walk = range_step _ _ (omega arith) (low to high) _ (tail_low _ _ more _ asked) c.if-second-low.false (ltb-false _ _ c.if-high-second.false-raw) lead in
+    let all : at.i + 1 + more - (at.i + 1) ≡ more = omega arith in
+    (omega arith, omega arith, omega arith, at.invariant.1, rw all walk)
+
+pub loop-i-2-preserved : goal.loop-i-2-preserved
+loop-i-2-preserved c =
+    let at = c.loop-i-2 in
+    let walk = last_step _ _ _ c.loop-i-2-test.true at.invariant.2 c.if-c-lt128.false (ltb-false _ _ c.if-c-gt191.false-raw) at.invariant.4 in
+    (omega arith, omega arith, at.invariant.2, at.invariant.3, walk)
+
+pub loop-i-preserved : goal.loop-i-preserved
+loop-i-preserved c =
+    let at = c.loop-i-2 in
+    (omega arith, at.invariant.3, last_done _ _ _ c.loop-i-2-test.false at.invariant.4, omega arith)
+
+pub blocks-i-requires : goal.blocks-i-requires
+blocks-i-requires c = let at = c.loop-i in (at.invariant.0, at.invariant.2)
+
+pub scan-smaller : goal.scan-smaller
+scan-smaller c = let next = c.blocks-i.ensures in omega arith
+
+pub scan-preserved : goal.scan-preserved
+scan-preserved c =
+    let next = c.blocks-i.ensures in
+    (next.1, c.loop-i.invariant.1, next.2)
+
+pub returns-then-formed : goal.returns-then-formed
+returns-then-formed c = ?
+
+pub returns-else-formed : goal.returns-else-formed
+returns-else-formed c = let h = c.scan in ?

@@ -1,0 +1,32 @@
+-- `utf8::scan_from` meets its contract. All three loops carry where the walk stands (`ScanAt`): the two over sequences with nothing pending, the one
+-- over a sequence's bytes with the ranges up to its last. `formed` is true in all, since each way that makes it false leaves at once.
+use Rattle.std.specs.Prelude.{◌≡◌, ◌+◌, ◌-◌, ◌<◌, ◌≤◌, true, [], length}
+use native.Mathlib.Omega.{arith}
+use borrow.Author.Rules.{rules}
+use borrow.Author.Tests.{ltb-false, ltb-true}
+use mathlib.Core.Path.{refl, sym, ap, ◌∙◌}
+use mathlib.Core.Logic.{⊎_elim}
+use Rattle.utf8.specs.Table.{◌to◌}
+use Rattle.utf8.specs.Text.{text_length, leads}
+use Rattle.utf8.specs.ScanAt.{ScanAt, others}
+use Rattle.utf8.proofs.Walk.{tail_low, lead_step, ascii_step, range_step, last_step, last_done, no_lead, no_range, no_last, too_few, at_nul, at_end_lem, outcome, ends, ill_formed}
+use Rattle.utf8.proofs.scan_from.Given as goal
+
+abbrev pub invariant-loop-i-2 : goal.invariant-loop-i-2
+invariant-loop-i-2 l =
+    (l.initial.i ≤ l.i) × (l.i ≤ l.last) × (l.last < length l.s) × (l.formed ≡ true) × ScanAt l.s (l.i + 1) (others (l.last - l.i))
+
+abbrev pub decreases-loop-i-2 : goal.decreases-loop-i-2
+decreases-loop-i-2 l = l.last - l.i
+
+abbrev pub invariant-loop-i : goal.invariant-loop-i
+invariant-loop-i l = (l.i ≤ length l.s) × (l.formed ≡ true) × ScanAt l.s l.i [] × (l.initial.i ≤ l.i)
+
+abbrev pub decreases-loop-i : goal.decreases-loop-i
+decreases-loop-i l = l.stop - l.i
+
+abbrev pub invariant-scan : goal.invariant-scan
+invariant-scan l = (l.i ≤ length l.s) × (l.formed ≡ true) × ScanAt l.s l.i []
+
+abbrev pub decreases-scan : goal.decreases-scan
+decreases-scan l = length l.s - l.i
