@@ -1,4 +1,6 @@
 // The bundle: an image with its segments and three sections, in one list of bytes.
+#![tactic(auto)]
+
 mod open;
 
 pub use open::{BUNDLE_BYTES, Layout, Opened, Part, Section, body_fits, open_bundle};

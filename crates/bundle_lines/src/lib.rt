@@ -1,4 +1,6 @@
 // The printed listing of a bundle.
+#![tactic(auto)]
+
 mod lines;
 
 pub use lines::{BundleLineIter, LINES, PrintStep, start};

@@ -1,4 +1,6 @@
 // What lies in an opened bundle: the image, its sections and its segments. And which bundles are accepted, segments and all.
+#![tactic(auto)]
+
 mod accepted;
 mod parts;
 mod segments;

@@ -1,6 +1,8 @@
 // The walk over the blocks that trail a descriptor, for programs in C or Rust, by the rules of the crate `c_rows`, in an archive of its
 // own: a reader that only one call uses is compiled into that call. A kind is its number in the order in which blocks follow each other,
 // and a block's three numbers are those of a full row.
+#![tactic(auto)]
+
 ghost use Rattle.std.specs.Prelude.{◌≡◌};
 ghost use Rattle.refusal.specs.Refusal.{answered, mapped};
 ghost use Rattle.classtrailers.specs.Blocks.{next_block};

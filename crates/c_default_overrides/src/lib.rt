@@ -1,4 +1,6 @@
 // Default overrides for programs in C or Rust, one at a time and as whole tables, by the rules of the crates `c_rows` and `c_tables`.
+#![tactic(auto)]
+
 ghost use Rattle.std.specs.Prelude.{◌≡◌};
 ghost use Rattle.refusal.specs.Refusal.{answered, mapped};
 ghost use Rattle.refusal.specs.Guarded.{guarded};

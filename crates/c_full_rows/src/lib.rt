@@ -1,5 +1,7 @@
 // The rows of a types section with body and all trailing blocks for programs in C or Rust, by the rules of the crate `c_rows`, in an
 // archive of its own: a reader that only one loop uses is compiled into that loop.
+#![tactic(auto)]
+
 ghost use Rattle.std.specs.Prelude.{◌≡◌, length};
 ghost use Rattle.refusal.specs.Refusal.{answered, mapped, answer_of};
 ghost use Rattle.util.specs.Buffer.{overwritten};

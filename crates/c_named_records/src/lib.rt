@@ -1,5 +1,7 @@
 // The records of a field descriptor with both names for programs in C or Rust, by the rules of the crate `c_rows`, in an archive of its
 // own: a reader that only one loop uses is compiled into that loop.
+#![tactic(auto)]
+
 ghost use Rattle.named_records.specs.NamedRecords.{guarded_named};
 ghost use Rattle.c_tables.specs.Tables.{TellsTable};
 

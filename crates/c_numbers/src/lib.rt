@@ -1,5 +1,7 @@
 // The readers of numbers, texts and flag words for programs in C or Rust, by the rules of the crate `c_rows`. They are compared with the
 // Rust, and no listing needs them.
+#![tactic(auto)]
+
 mod flags;
 mod readers;
 

@@ -1,5 +1,7 @@
 // What the calls for C over tables share. Each kind of table has an archive of its own, by the rules of the crate `c_rows`: with one kind
 // in an archive, the compiler makes the step and the loop for that kind.
+#![tactic(auto)]
+
 ghost use Rattle.std.specs.Prelude.{◌≡◌};
 ghost use Rattle.refusal.specs.Refusal.{mapped};
 ghost use Rattle.entry_tables.specs.Tables.{table_answer};

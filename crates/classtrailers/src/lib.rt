@@ -1,4 +1,6 @@
 // The blocks that trail a class, a struct or an enum descriptor, carried over from darwinscope's src/swift/classtrailers.rs.
+#![tactic(auto)]
+
 mod block;
 mod decode;
 mod iter;

@@ -1,4 +1,6 @@
 // Kinds and flags of Swift's descriptors, carried over from darwinscope's src/swift/context.rs: functions of the number alone.
+#![tactic(auto)]
+
 mod conformance;
 mod descriptor;
 mod field;

@@ -1,4 +1,6 @@
 // The fields section and its records, carried over from darwinscope's src/swift/field.rs.
+#![tactic(auto)]
+
 mod iter;
 mod record;
 

@@ -1,5 +1,7 @@
 // The rows of a types section with body and all trailing blocks in one call, as records of a fixed number of numbers in the caller's list.
 // The call tests its segments before anything else (refusals 1 and 9).
+#![tactic(auto)]
+
 mod calls;
 mod rows;
 

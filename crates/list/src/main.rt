@@ -1,4 +1,6 @@
 // Prints the listing of a bundle, from a file or from standard input: each step's line is written, and nothing else.
+#![tactic(auto)]
+
 ghost use Rattle.std.specs.Prelude.{◌≡◌, ◌<◌, ◌≤◌, length};
 ghost use Rattle.std.proofs.Math.Option.{some, none};
 ghost use Rattle.refusal.specs.Refusal.{answered};

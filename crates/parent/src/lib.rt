@@ -1,4 +1,6 @@
 // The contexts that enclose a type, carried over from darwinscope's src/swift/parent.rs.
+#![tactic(auto)]
+
 mod chain;
 mod header;
 

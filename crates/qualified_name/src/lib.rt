@@ -1,4 +1,6 @@
 // The joined name of a type, carried over from darwinscope's src/swift/parent.rs.
+#![tactic(auto)]
+
 mod name;
 
 pub use name::{QualifiedName, around_parent, qualified_name, qualified_name_near};

@@ -1,4 +1,6 @@
 // What a call refuses: the refusals of every call, the number of each, and the test of a call's segments.
+#![tactic(auto)]
+
 ghost use Rattle.std.specs.Prelude.{◌≡◌};
 ghost use Rattle.refusal.specs.Refusal.{refusal_number};
 ghost use Rattle.segment.specs.Segments.{segments_of};

@@ -1,5 +1,7 @@
 // Bytes and texts at an address: what darwinscope's src/swift/mod.rs, section.rs and reflstr.rs do for the readers above. The
 // image, the segments and a section's bytes and address are parameters in place of `SwiftRuntime`.
+#![tactic(auto)]
+
 mod reads;
 mod reflstr;
 

@@ -1,5 +1,7 @@
 // Between addresses and file offsets, carried over from darwinscope's src/util.rs. A crate of its own: nothing here needs the rest of util, and
 // its proofs are long.
+#![tactic(auto)]
+
 mod file_offset;
 mod segment;
 

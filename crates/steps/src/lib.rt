@@ -1,4 +1,6 @@
 // The product's calls over an image, its segments and its sections, with their refusals.
+#![tactic(auto)]
+
 mod blocks;
 mod bodies;
 mod calls;

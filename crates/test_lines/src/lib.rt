@@ -1,4 +1,6 @@
 // Reads the fields of the test programs' lines.
+#![tactic(auto)]
+
 mod hex;
 mod line;
 

@@ -7,6 +7,8 @@
 //                                            what the calls of the full level answer: a number of it, `nothing`, `unreadable`, `end`, or a refusal
 //   name COUNT PARENT SIZE ANSWER BUFFER     what joined_name answers, and the eight bytes of which SIZE were its buffer
 // tests/bundles.py writes the answers.
+#![tactic(auto)]
+
 use classtrailers::{Block, BlockBody, BlockIter, BlockKind, Trailing};
 use parent::ParentChain;
 use qualified_name::QualifiedName;

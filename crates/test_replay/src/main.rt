@@ -17,6 +17,8 @@
 //   text OFFSET PLACE LENGTH                                the text at the image's offset ADDRESS % (length + 2)
 // with `nothing` where there is none. `target/compare/compare sample OUT crates/test_replay` (after compare/build) makes both
 // files, stdin and stdout, anew from the Rust; OUT gets them as one.
+#![tactic(auto)]
+
 use parent::{ParentChain, ParentContext};
 use qualified_name::QualifiedName;
 use refusal::Refusal;

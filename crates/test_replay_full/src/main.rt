@@ -33,6 +33,8 @@
 //   end                                                    where the walk ends; it goes on from there up to a second end
 // A kind of block is its number in their order. `target/compare/compare sample-full OUT crates/test_replay_full` (after compare/build)
 // makes both files, stdin and stdout, anew from the Rust; OUT gets them as one, with what each input is for.
+#![tactic(auto)]
+
 mod entries;
 mod fields;
 mod rows;

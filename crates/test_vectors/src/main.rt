@@ -3,6 +3,8 @@
 // A line is FUNCTION A B BYTES STRINGS SEGMENT.., with one space between: the function called, two numbers, the image's (or the
 // slice's, or the bundle's) bytes, the string section's bytes and the segments' numbers, as many as there are. Numbers and bytes are in lowercase
 // hexadecimal; `-` stands for no bytes. tests/vectors.py writes the lines and the answers.
+#![tactic(auto)]
+
 use bundle::{Layout, Opened, Section};
 use runtime::{Bytes, FieldName};
 use segment::FileOffset;

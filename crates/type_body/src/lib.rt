@@ -1,5 +1,7 @@
 // What belongs to a type row, carried over from darwinscope's src/swift/typedescriptor.rs: its body, the start of its trailing blocks, and
 // the singleton records.
+#![tactic(auto)]
+
 mod body;
 mod singleton;
 mod trailers;

@@ -1,4 +1,6 @@
 // The lines of the printed listing.
+#![tactic(auto)]
+
 mod digits;
 mod lines;
 

@@ -1,5 +1,7 @@
 // Type rows, carried over from darwinscope's src/swift/typedescriptor.rs: the types section is a list of relative pointers, one to
 // a slot, to descriptors in the image.
+#![tactic(auto)]
+
 mod descriptor;
 mod iter;
 

@@ -1,5 +1,7 @@
 // The check that a text is well-formed UTF-8 (Unicode Table 3-7), in one walk with the search for the NUL that ends it:
 // what `core::str::from_utf8` and `position` do for the Rust.
+#![tactic(auto)]
+
 ghost use Rattle.std.specs.Prelude.{◌≡◌, ◌+◌, ◌<◌, ◌≤◌, true, [], length};
 ghost use Rattle.utf8.specs.Plain.{Plain};
 ghost use Rattle.utf8.specs.Table.{table};

@@ -1,4 +1,6 @@
 // The lowest layer, carried over from darwinscope's src/util.rs: numbers in bytes, relative pointers, addresses, texts.
+#![tactic(auto)]
+
 mod big_endian;
 mod buffer;
 mod cstr;

@@ -1,5 +1,7 @@
 // The entries of a class's tables and of the prespecializations, carried over from darwinscope's src/swift/vtable.rs and
 // classtrailers.rs.
+#![tactic(auto)]
+
 mod entry;
 mod iter;
 mod walk;
