@@ -141,7 +141,7 @@ class Turned:
             if new is None:
                 self.left.append(f"{m[0]}: no step {rest[0]}")
                 return "c." + ".".join(rest)
-            return "c." + new
+            return "c." + new.replace(".type-inv", ".type_inv")
 
         return PATH.sub(path, text)
 

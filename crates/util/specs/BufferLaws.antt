@@ -1,5 +1,5 @@
 -- Pieces put into a buffer, one after the other.
-use Rattle.std.specs.Prelude.{◌≡◌, ℕ, ◌+◌, ◌-◌, ◌<◌, ◌≤◌, List, [], ◌++◌, length, take, drop}
+use Rattle.std.specs.Prelude.{◌≡◌, refl, ℕ, ◌+◌, ◌-◌, ◌<◌, ◌≤◌, List, [], ◌++◌, length, take, drop}
 use Rattle.std.proofs.Common.{add_assoc, add-zero, arith, sym, ◌∙◌, ap, append_assoc, append-nil, length-append, length-drop, drop_of_length-le, take-append-drop, take_all, drop-drop, take_at, drop_at, length-take-le, le-leb}
 use Rattle.std.proofs.Math.Seq.{take-length}
 use Rattle.std.proofs.lemmas.Bool.{lt-leb}
@@ -16,6 +16,11 @@ put_in b p ys at n en e h =
       ends = ap (λ (k : ℕ). at + k) en;
       holds = ap (λ (l : List ℕ). take at b ++ l) (rw (past, e, append-nil, take-length, all, drop-drop));
     }
+
+-- a piece copied into the buffer's part of its length
+pub put_whole : (b p ys : List ℕ) (at k : ℕ) → k ≡ length p → ys ≡ p → Put b at p (at + length p) (put_mid at k b ys)
+put_whole b p ys at k ek e =
+    record { ends = refl; holds = ap (λ (l : List ℕ). take at b ++ l) (rw (e, ek, drop-drop) refl) }
 
 -- nothing put
 pub put_none : (b : List ℕ) (at : ℕ) → Put b at [] at b

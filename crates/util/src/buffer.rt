@@ -14,5 +14,7 @@ pub fn put(piece: &[u8], buffer: &mut [u8], at: usize) -> usize
     if buffer.len() - at < piece.len() {
         return at;
     }
-    at + bytes::copy(piece, &mut buffer[at..])
+    let end = at + piece.len();
+    buffer[at..end].copy_from_slice(piece);
+    end
 }

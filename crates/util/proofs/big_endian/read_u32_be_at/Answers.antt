@@ -1,0 +1,15 @@
+-- `util::big_endian::read_u32_be_at` meets its contract, by the law over the width at 4 bytes.
+use Rattle.std.proofs.Common.{ℕ, get_or, ap, add-zero, arith, rules}
+use Rattle.util.specs.BigEndianLaws.{big_found, big_nothing}
+use Rattle.util.proofs.big_endian.read_u32_be_at.Goals as goal
+
+pub returns-then-data-lt4 : goal.returns-then-data-lt4
+returns-then-data-lt4 c = big_nothing 4 _ _ (omega arith)
+
+pub returns-then-data-off : goal.returns-then-data-off
+returns-then-data-off c = big_nothing 4 _ _ (omega arith)
+
+pub returns : goal.returns
+returns c =
+    let a = c.args in
+    big_found 4 _ _ _ (omega arith) (omega (arith, ap (λ (k : ℕ). get_or a.«data».now k 0) (add-zero a.off)))
