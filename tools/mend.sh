@@ -6,9 +6,9 @@ log=$(mktemp)
 for turn in 1 2 3 4 5; do
     rt check > "$log" 2>&1
     grep -q '^logic=proved' "$log" && break
+    was=$(cat $(find proofs specs -name '*.antt') | md5sum)
     said=$(python3 /opt/rattle/port/notes/2026-11-18-clauses-have-names/mend_clauses.py "$log" . 2>&1)
-    echo "$said" | grep '^left' | head -5
-    echo "$said" | grep -qi 'changed' || break
+    [ "$was" != "$(cat $(find proofs specs -name '*.antt') | md5sum)" ] || break
 done
 grep -v "^checked\|must-fail\|^statements\|: proved$\|^logic /\|^rt: \|is rattle's own name\|took the first instance" "$log"
 rm -f "$log"

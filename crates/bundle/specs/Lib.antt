@@ -1,4 +1,2 @@
 pub mod Bundle
-pub mod BundleLaws
 pub mod Open
-pub mod OpenLaws

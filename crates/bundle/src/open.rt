@@ -10,21 +10,21 @@ use util::{ReadU16, ReadU32, ReadU64};
 pub const BUNDLE_BYTES: usize = 65536;
 
 // A run of the bundle's bytes.
-#[derive(Drop)]
+#[derive(Clone, Copy)]
 pub struct Part {
     pub start: usize,
     pub length: usize,
 }
 
 // A section: its address, and its bytes, which follow the address.
-#[derive(Drop)]
+#[derive(Clone, Copy)]
 pub struct Section {
     pub address: u64,
     pub part: Part,
 }
 
 // Where everything lies. A part that is missing has only zeros.
-#[derive(Drop)]
+#[derive(Clone, Copy)]
 pub struct Layout {
     pub image: Part,
     pub segments: Part,
@@ -33,7 +33,7 @@ pub struct Layout {
     pub strings: Section,
 }
 
-#[derive(Drop)]
+#[derive(Clone, Copy)]
 pub enum Opened {
     Bundle(Layout),
     // LongBundle or BrokenBundle by the format; WrappingSegment too where the segments are tested.
@@ -41,7 +41,7 @@ pub enum Opened {
 }
 
 // The body of a record, and where the next one starts.
-#[derive(Drop)]
+#[derive(Clone, Copy)]
 pub struct Taken {
     pub part: Part,
     pub next: usize,

@@ -16,14 +16,14 @@ use type_lines::{LINE_BYTES, LineIter, NextLine, next_line, refused_line};
 pub const LINES: usize = 16385;
 
 // What is left to print: the lines of a bundle's rows from the walk's position on, the line of a refused bundle, or nothing.
-#[derive(Drop)]
+#[derive(Clone, Copy)]
 pub enum BundleLineIter {
     Rows { layout: Layout, walk: LineIter },
     Refused(Refusal),
     Done,
 }
 
-#[derive(Drop)]
+#[derive(Clone, Copy)]
 pub enum PrintStep {
     // A line of `length` bytes at the buffer's start, and what is then left.
     Line { length: usize, next: BundleLineIter },

@@ -5,7 +5,7 @@ ghost use Rattle.bundle_parts.specs.Parts.{bytes_of};
 use bundle::Layout;
 
 // Where a segment lies, in memory and in the file.
-#[derive(Drop)]
+#[derive(Clone, Copy)]
 pub struct Segment {
     pub vmaddr: u64,
     pub vmsize: u64,
@@ -13,7 +13,7 @@ pub struct Segment {
     pub filesize: u64,
 }
 
-#[derive(Drop)]
+#[derive(Clone, Copy)]
 pub enum SegmentRead {
     Segment(Segment),
     Nothing,

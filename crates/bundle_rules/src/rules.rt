@@ -5,7 +5,7 @@ ghost use Rattle.bundle_rules.specs.Rule.{check_at, broken_rule};
 use bundle::{BUNDLE_BYTES, body_fits};
 use util::{ReadU16, ReadU32};
 
-#[derive(Drop)]
+#[derive(Clone, Copy)]
 pub enum Rule {
     // A record's header or body runs past the end.
     CutShort,
@@ -21,7 +21,7 @@ pub enum Rule {
     NoImage,
 }
 
-#[derive(Drop)]
+#[derive(Clone, Copy)]
 pub enum Broken {
     // The rule, and the offset of the record that breaks it; for a missing image, the end of the bytes.
     At { rule: Rule, at: usize },
@@ -30,7 +30,7 @@ pub enum Broken {
 }
 
 // A record by itself, after one of the kind `last`.
-#[derive(Drop)]
+#[derive(Clone, Copy)]
 pub enum Checked {
     Breaks(Rule),
     Keeps { kind: u16, next: usize },

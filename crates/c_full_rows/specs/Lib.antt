@@ -1,2 +1,1 @@
 pub mod FullRows
-pub mod FullRowsLaws

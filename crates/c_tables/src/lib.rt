@@ -16,7 +16,7 @@ use vtable::{EntryIter, EntryStep};
 const UNREADABLE: u64 = 2;
 
 // The numbers of a step. A call writes as many of them as its kind has.
-#[derive(Drop)]
+#[derive(Clone, Copy)]
 pub struct StepNumbers {
     pub told: u64,
     pub next: u64,

@@ -1,9 +1,3 @@
 pub mod Calls
 pub mod Certain
-pub mod CertainLaws
-pub mod ItemLaws
 pub mod JoinedName
-pub mod JoinedNameLaws
-pub mod OpenLaws
-pub mod ReadLaws
-pub mod Worked

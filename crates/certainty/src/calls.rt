@@ -13,7 +13,7 @@ use refusal::{Fault, Refusal};
 use typedescriptor::Descriptor;
 
 // Whether an answer for the bytes that arrived stays the same, whatever bytes follow.
-#[derive(Drop)]
+#[derive(Clone, Copy)]
 pub enum Certainty {
     Certain,
     // A read met the end of what arrived.

@@ -1,5 +1,5 @@
 // The kinds of blocks, in the order in which they follow a descriptor.
-#[derive(Drop)]
+#[derive(Clone, Copy)]
 pub enum BlockKind {
     Generic,
     ResilientSuperclass,
@@ -16,7 +16,7 @@ pub enum BlockKind {
 
 // What is recorded of a block: where it lies; for a table, where its entries lie and how many there are, with a vtable's offset (0
 // in every other table); or the invertible set, with the number of protocols it names.
-#[derive(Drop)]
+#[derive(Clone, Copy)]
 pub enum BlockBody {
     At(u64),
     Table {
@@ -30,7 +30,7 @@ pub enum BlockBody {
     },
 }
 
-#[derive(Drop)]
+#[derive(Clone, Copy)]
 pub struct Block {
     pub kind: BlockKind,
     pub body: BlockBody,

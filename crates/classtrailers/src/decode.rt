@@ -18,7 +18,7 @@ const DEFAULT_OVERRIDE: u64 = 8;
 const PRESPECIALIZATION: u64 = 8;
 
 // A block with the address where the next one starts; a block whose end overflows, so that none follows; or nothing.
-#[derive(Drop)]
+#[derive(Clone, Copy)]
 pub enum BlockAt {
     Block { block: Block, end: u64 },
     Last(Block),

@@ -15,20 +15,20 @@ use segment::{Mapping, VmAddress};
 pub const ROWS: u32 = 11;
 
 // A walk over the blocks: the number of the kind that comes next, and the address of what follows.
-#[derive(Drop)]
+#[derive(Clone, Copy)]
 pub struct BlockIter {
     pub trailing: Trailing,
     pub row: u32,
     pub address: u64,
 }
 
-#[derive(Drop)]
+#[derive(Clone, Copy)]
 pub enum BlockStep {
     Block { block: Block, next: BlockIter },
     End,
 }
 
-#[derive(Drop)]
+#[derive(Clone, Copy)]
 pub enum BlockRead {
     Block(Block),
     Nothing,

@@ -7,14 +7,14 @@ use crate::block::BlockKind;
 use context::ContextDescriptorFlags;
 
 // What decides it: the flags word, whether it is a class, and the extra class flags (0 if there are none).
-#[derive(Drop)]
+#[derive(Clone, Copy)]
 pub struct Trailing {
     pub flags: u32,
     pub is_class: bool,
     pub extra: u32,
 }
 
-#[derive(Drop)]
+#[derive(Clone, Copy)]
 pub enum KindRead {
     Kind(BlockKind),
     Nothing,

@@ -5,7 +5,7 @@ ghost use Rattle.context.specs.TypeContext.{reference_of};
 
 use crate::types::TypeReferenceKind;
 
-#[derive(Drop)]
+#[derive(Clone, Copy)]
 pub struct ConformanceFlags(pub u32);
 
 impl ConformanceFlags {

@@ -5,7 +5,7 @@ ghost use Rattle.context.specs.Context.{kind_of, context_kind, has_invertible_pr
 
 use crate::types::TypeContextDescriptorFlags;
 
-#[derive(Drop)]
+#[derive(Clone, Copy)]
 pub enum ContextDescriptorKind {
     Module,
     Extension,
@@ -71,7 +71,7 @@ impl ContextDescriptorKind {
     }
 }
 
-#[derive(Drop)]
+#[derive(Clone, Copy)]
 pub struct ContextDescriptorFlags(pub u32);
 
 impl ContextDescriptorFlags {

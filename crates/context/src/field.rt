@@ -3,7 +3,7 @@ ghost use Rattle.std.specs.Prelude.{◌≡◌};
 ghost use Rattle.context.specs.Bits.{bit};
 ghost use Rattle.context.specs.Field.{field_kind};
 
-#[derive(Drop)]
+#[derive(Clone, Copy)]
 pub enum FieldDescriptorKind {
     Struct,
     Class,
@@ -35,7 +35,7 @@ impl FieldDescriptorKind {
     }
 }
 
-#[derive(Drop)]
+#[derive(Clone, Copy)]
 pub struct FieldRecordFlags(pub u32);
 
 impl FieldRecordFlags {

@@ -3,7 +3,7 @@ ghost use Rattle.std.specs.Prelude.{◌≡◌};
 ghost use Rattle.context.specs.Bits.{bit, bits, low};
 ghost use Rattle.context.specs.Method.{method_of};
 
-#[derive(Drop)]
+#[derive(Clone, Copy)]
 pub enum SwiftMethodKind {
     Method,
     Init,
@@ -32,7 +32,7 @@ impl SwiftMethodKind {
     }
 }
 
-#[derive(Drop)]
+#[derive(Clone, Copy)]
 pub struct MethodDescriptorFlags(pub u32);
 
 impl MethodDescriptorFlags {

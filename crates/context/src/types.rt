@@ -3,7 +3,7 @@ ghost use Rattle.std.specs.Prelude.{◌≡◌};
 ghost use Rattle.context.specs.Bits.{bit, bits, low};
 ghost use Rattle.context.specs.TypeContext.{initialization_of, reference_of, has_canonical_metadata_prespecializations, has_singleton_metadata_pointer, class_has_default_override_table, class_has_resilient_superclass, class_has_override_table, class_has_vTable};
 
-#[derive(Drop)]
+#[derive(Clone, Copy)]
 pub enum MetadataInitializationKind {
     None,
     Singleton,
@@ -25,7 +25,7 @@ impl MetadataInitializationKind {
     }
 }
 
-#[derive(Drop)]
+#[derive(Clone, Copy)]
 pub enum TypeReferenceKind {
     DirectTypeDescriptor,
     IndirectTypeDescriptor,
@@ -50,7 +50,7 @@ impl TypeReferenceKind {
     }
 }
 
-#[derive(Drop)]
+#[derive(Clone, Copy)]
 pub struct TypeContextDescriptorFlags(pub u16);
 
 impl TypeContextDescriptorFlags {

@@ -1,4 +1,1 @@
-pub mod CutBundles
 pub mod CutLines
-pub mod CutLinesLaws
-pub mod OakLines

@@ -1,3 +1,1 @@
-pub mod PastedLaws
 pub mod Tables
-pub mod TablesLaws

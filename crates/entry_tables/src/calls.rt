@@ -8,7 +8,7 @@ use field::FieldRecordIter;
 use refusal::{Fault, Refusal};
 use vtable::EntryIter;
 
-#[derive(Drop)]
+#[derive(Clone, Copy)]
 pub enum TableAnswer {
     Listed(Listed),
     Refused(Refusal),

@@ -15,14 +15,14 @@ const FULL: u64 = 1;
 pub const UNREADABLE: u64 = 2;
 
 // How many entries the caller's list has, and why there are no more: 0 the table ends, 1 the list is full, 2 the next entry cannot be read.
-#[derive(Drop)]
+#[derive(Clone, Copy)]
 pub struct Listed {
     pub entries: usize,
     pub stop: u64,
 }
 
 // The words of an entry; an entry of fewer than three words does not use the last ones.
-#[derive(Drop)]
+#[derive(Clone, Copy)]
 pub struct Words {
     pub first: u64,
     pub second: u64,

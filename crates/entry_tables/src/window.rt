@@ -6,7 +6,7 @@ use runtime::Bytes;
 use segment::Around;
 
 // The entry at an address is at `place`, and one that starts at most `last` bytes after that address is as far after `place`.
-#[derive(Drop)]
+#[derive(Clone, Copy)]
 pub enum Window {
     At { place: usize, last: u64 },
     Nothing,

@@ -13,7 +13,7 @@ use util::Text;
 const HEADER_SIZE: usize = 16;
 
 // What a header says. The names are texts at these addresses, which are 0 if there is none.
-#[derive(Drop)]
+#[derive(Clone, Copy)]
 pub struct FieldDescriptor {
     pub address: u64,
     pub mangled_type_name_va: u64,
@@ -24,13 +24,13 @@ pub struct FieldDescriptor {
 }
 
 // A walk over the section: the offset of the next header.
-#[derive(Drop)]
+#[derive(Clone, Copy)]
 pub struct FieldIter {
     pub at: usize,
 }
 
 // What a step gives: a descriptor, or none; and where the walk then stands.
-#[derive(Drop)]
+#[derive(Clone, Copy)]
 pub enum FieldStep {
     Descriptor {
         descriptor: FieldDescriptor,

@@ -15,7 +15,7 @@ use util::Text;
 const RECORD_SIZE: u32 = 12;
 
 // Its address, and what its words say. The names are texts at these addresses, which are 0 if there is none.
-#[derive(Drop)]
+#[derive(Clone, Copy)]
 pub struct FieldRecord {
     pub address: u64,
     pub flags: u32,
@@ -24,7 +24,7 @@ pub struct FieldRecord {
 }
 
 // A walk over records: the address of the first, how many there are, the bytes from one to the next, and the number of the next.
-#[derive(Drop)]
+#[derive(Clone, Copy)]
 pub struct FieldRecordIter {
     pub base_va: u64,
     pub count: u32,
@@ -33,7 +33,7 @@ pub struct FieldRecordIter {
 }
 
 // What a step gives: a record, or that there is one that cannot be read, each with the walk from there on; or the end.
-#[derive(Drop)]
+#[derive(Clone, Copy)]
 pub enum FieldRecordStep {
     Record {
         record: FieldRecord,

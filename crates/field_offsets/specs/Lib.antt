@@ -1,3 +1,1 @@
 pub mod Offsets
-pub mod OffsetsLaws
-pub mod Examples

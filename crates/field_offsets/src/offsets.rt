@@ -15,13 +15,13 @@ use type_body::{
 use util::ReadU32;
 
 // Where the vector lies in the image, and how many numbers of four bytes it has.
-#[derive(Drop)]
+#[derive(Clone, Copy)]
 pub enum FieldOffsets {
     At { place: usize, count: u32 },
     Nothing,
 }
 
-#[derive(Drop)]
+#[derive(Clone, Copy)]
 pub enum FieldOffset {
     At(u32),
     Nothing,

@@ -1,5 +1,1 @@
 pub mod FullRows
-pub mod FullRowsLaws
-pub mod BlocksLaws
-pub mod ItemsLaws
-pub mod OakRows

@@ -7,7 +7,7 @@ ghost use Rattle.full_rows.specs.FullRows.{full_rows_in, given_of, numbers_of, f
 use crate::rows::{Given, put_rows};
 use refusal::{Fault, Refusal};
 
-#[derive(Drop)]
+#[derive(Clone, Copy)]
 pub enum FullRows {
     Given(Given),
     Refused(Refusal),

@@ -17,7 +17,7 @@ use typedescriptor::{Descriptor, Row};
 pub const RECORD: usize = 58;
 
 // How many records were written, the slot to go on from, and whether all rows are given.
-#[derive(Drop)]
+#[derive(Clone, Copy)]
 pub struct Given {
     pub records: usize,
     pub next: usize,
@@ -181,7 +181,7 @@ const THERE: u64 = 1;
 const VTABLE: u32 = 4;
 
 // The three numbers of what is recorded of a block, 0 for those that its kind does not have.
-#[derive(Drop)]
+#[derive(Clone, Copy)]
 pub struct Recorded {
     pub first: u64,
     pub second: u64,

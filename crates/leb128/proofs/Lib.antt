@@ -1,1 +1,3 @@
 pub mod Signed
+pub mod Leb128Laws
+pub mod Leb128Theorems

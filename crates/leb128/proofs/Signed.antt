@@ -7,7 +7,7 @@ use mir.Syntax.{w64}
 use mir.Val.{SFits, to_z, of_z}
 use mir.Facts.{to_z-of_z, to_z_pos}
 use Rattle.util.specs.LittleEndian.{twos_complement}
-use Rattle.util.specs.LittleEndianLaws.{twos_negative}
+use Rattle.util.proofs.LittleEndianLaws.{twos_negative}
 
 -- the numbers of 64 bits from 2^63 on: as many below -1 as they are below the last one
 less_one : (m : ℕ) → negsuc 0 -ℤ pos m ≡ negsuc m

@@ -5,13 +5,13 @@ ghost use Rattle.leb128.specs.Leb128.{uleb128, sleb128, uleb_value, sleb_value, 
 ghost use Rattle.leb128.specs.Leb128Walk.{Running, Chunked};
 
 // The number and how many bytes it has.
-#[derive(Drop)]
+#[derive(Clone, Copy)]
 pub enum Uleb128 {
     Value { value: u64, consumed: usize },
     Nothing,
 }
 
-#[derive(Drop)]
+#[derive(Clone, Copy)]
 pub enum Sleb128 {
     Value { value: i64, consumed: usize },
     Nothing,
@@ -19,7 +19,7 @@ pub enum Sleb128 {
 
 // What the bytes of a number hold, up to eleven of them: the low 64 bits, the weight of the bit after the last (0 if it is past them),
 // the last byte, and how many bytes there are.
-#[derive(Drop)]
+#[derive(Clone, Copy)]
 pub enum Chunks {
     Number {
         bits: u64,

@@ -24,7 +24,7 @@ use util::ReadU32;
 const INPUT_BYTES: usize = BUNDLE_BYTES + 1;
 
 // How many lines were given, and whether all of them could be written.
-#[derive(Drop)]
+#[derive(Clone, Copy)]
 pub struct Written {
     pub lines: usize,
     pub all: bool,
@@ -194,7 +194,7 @@ fn print_input(space: &[u8], count: usize)
 }
 
 // What reading ended with: a count of bytes, or an error that is in errno.
-#[derive(Drop)]
+#[derive(Clone, Copy)]
 pub enum Input {
     Bytes(usize),
     Failed,

@@ -1,3 +1,1 @@
 pub mod NamedRecords
-pub mod NamedRecordsLaws
-pub mod NamedTableLaws

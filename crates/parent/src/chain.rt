@@ -7,13 +7,13 @@ use crate::header::{ContextRead, ParentContext, read_context};
 pub const CONTEXTS: usize = 256;
 
 // A walk up the enclosing contexts: the address of the next one, and how many were given.
-#[derive(Drop)]
+#[derive(Clone, Copy)]
 pub struct ParentChain {
     pub next_descriptor_va: u64,
     pub given: usize,
 }
 
-#[derive(Drop)]
+#[derive(Clone, Copy)]
 pub enum ParentStep {
     Context {
         context: ParentContext,

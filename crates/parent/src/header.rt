@@ -9,7 +9,7 @@ use segment::Mapping;
 use util::Text;
 
 // One context of a chain: its address, its flags, its own parent's address (0 if it has none), and its name if it has one.
-#[derive(Drop)]
+#[derive(Clone, Copy)]
 pub struct ParentContext {
     pub address: u64,
     pub flags: u32,
@@ -17,14 +17,14 @@ pub struct ParentContext {
     pub name: Text,
 }
 
-#[derive(Drop)]
+#[derive(Clone, Copy)]
 pub enum ContextRead {
     Context(ParentContext),
     Nothing,
 }
 
 // What the first 8 bytes of a context say.
-#[derive(Drop)]
+#[derive(Clone, Copy)]
 pub enum HeaderRead {
     Header { flags: u32, parent: u64 },
     Nothing,

@@ -1,9 +1,3 @@
 pub mod Name
 pub mod Pieces
 pub mod Walk
-pub mod DeeperLaws
-pub mod PiecesLaws
-pub mod NameLaws
-pub mod HeldLaws
-pub mod WalkLaws
-pub mod Hollow

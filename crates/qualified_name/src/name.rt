@@ -14,7 +14,7 @@ use segment::{Around, Mapping};
 use typedescriptor::Row;
 use util::Text;
 
-#[derive(Drop)]
+#[derive(Clone, Copy)]
 pub enum QualifiedName {
     Length(usize),
     Refused(Refusal),
@@ -22,7 +22,7 @@ pub enum QualifiedName {
 
 // What a walk over contexts ended with: the name, or a refusal, or that the list of names is full. The variants stand side by side, since an
 // enum within another one would be copied two numbers at a time.
-#[derive(Drop)]
+#[derive(Clone, Copy)]
 pub enum Joined {
     Length(usize),
     Refused(Refusal),

@@ -1,5 +1,2 @@
 pub mod Refusal
-pub mod RefusalLaws
 pub mod Guarded
-pub mod GuardedLaws
-pub mod Lists

@@ -6,7 +6,7 @@ ghost use Rattle.refusal.specs.Refusal.{refusal_number};
 ghost use Rattle.segment.specs.Segments.{segments_of};
 ghost use Rattle.refusal.specs.Guarded.{fault, fault_of, first_wrapping, wrapping_of};
 
-#[derive(Drop)]
+#[derive(Clone, Copy)]
 pub enum Refusal {
     // A count of segment numbers that is not a multiple of four.
     RaggedSegments,
@@ -36,7 +36,7 @@ pub fn number(refusal: Refusal) -> u64
 }
 
 // What is wrong with a call's segments.
-#[derive(Drop)]
+#[derive(Clone, Copy)]
 pub enum Fault {
     Refused(Refusal),
     Nothing,
@@ -64,7 +64,7 @@ pub fn find_fault(segments: &[u64]) -> Fault
 }
 
 // Which segment wraps, by its number from 0 on.
-#[derive(Drop)]
+#[derive(Clone, Copy)]
 pub enum Wrapping {
     At(usize),
     Nothing,

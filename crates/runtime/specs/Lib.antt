@@ -2,6 +2,4 @@ pub mod Bytes
 pub mod CallsLaws
 pub mod FieldName
 pub mod Reads
-pub mod PathLaws
 pub mod PlaceNumbers
-pub mod ReadsLaws

@@ -9,7 +9,7 @@ use segment::{FileOffset, Mapping};
 use util::Text;
 
 // Where bytes lie in the image.
-#[derive(Drop)]
+#[derive(Clone, Copy)]
 pub enum Bytes {
     At(usize),
     Nothing,

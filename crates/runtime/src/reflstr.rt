@@ -7,7 +7,7 @@ use segment::Mapping;
 use util::Text;
 
 // Where a field's name lies: in the image, or in the string section.
-#[derive(Drop)]
+#[derive(Clone, Copy)]
 pub enum FieldName {
     Image { place: usize, length: usize },
     Strings { place: usize, length: usize },

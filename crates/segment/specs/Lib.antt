@@ -1,6 +1,3 @@
 pub mod Mapping
-pub mod MappingLaws
 pub mod Segments
-pub mod SegmentsLaws
 pub mod VmAddress
-pub mod VmAddressLaws

@@ -5,7 +5,7 @@ ghost use Rattle.segment.specs.VmAddress.{vm_address, address_of};
 
 use crate::segment::{FileOffset, Lookup, look_up, lower};
 
-#[derive(Drop)]
+#[derive(Clone, Copy)]
 pub enum VmAddress {
     At(u64),
     Nothing,

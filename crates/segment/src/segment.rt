@@ -3,14 +3,14 @@ ghost use Rattle.std.specs.Prelude.{◌≡◌, true, ◌+◌, ◌≤◌, ◌<◌
 ghost use Rattle.segment.specs.Segments.{file_offset, segments_of, decides, offset_of, decided};
 ghost use Rattle.segment.specs.Mapping.{LocatedNear, Has, Covered, Clipped, Located, with_mapping};
 
-#[derive(Drop)]
+#[derive(Clone, Copy)]
 pub enum FileOffset {
     At(u64),
     Nothing,
 }
 
 // What one segment says of an address: the answer, or that the next segment decides.
-#[derive(Drop)]
+#[derive(Clone, Copy)]
 pub enum Lookup {
     Answer(FileOffset),
     Next,
@@ -67,7 +67,7 @@ pub fn vm_to_file_offset_in(segments: &[u64], vmaddr: u64) -> FileOffset
 }
 
 // Addresses that lie one after the other in the file: `size` of them from `vmaddr` on, the first at `fileoff`.
-#[derive(Drop)]
+#[derive(Clone, Copy)]
 pub struct Mapping {
     pub vmaddr: u64,
     pub size: u64,
@@ -82,7 +82,7 @@ pub const NO_MAPPING: Mapping = Mapping {
 };
 
 // What is in the file around an address.
-#[derive(Drop)]
+#[derive(Clone, Copy)]
 pub enum Around {
     Mapping(Mapping),
     // Not even the address itself.

@@ -1,9 +1,7 @@
 pub mod Calls
-pub mod CallsLaws
 pub mod Bodies
 pub mod Blocks
 pub mod Entries
 pub mod Fields
 pub mod Offsets
 pub mod Singletons
-pub mod Checked

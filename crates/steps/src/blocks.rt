@@ -15,14 +15,14 @@ use type_body::{TrailingRead, TypeBody};
 // The row of a walk that has ended: how many kinds of blocks there are.
 const OVER: u32 = 11;
 
-#[derive(Drop)]
+#[derive(Clone, Copy)]
 pub enum NextBlock {
     Block { block: Block, next: BlockIter },
     End,
     Refused(Refusal),
 }
 
-#[derive(Drop)]
+#[derive(Clone, Copy)]
 pub enum BlockAnswer {
     Block(Block),
     Nothing,

@@ -10,13 +10,13 @@ use refusal::{Fault, Refusal};
 use type_body::TypeBody;
 use util::Text;
 
-#[derive(Drop)]
+#[derive(Clone, Copy)]
 pub enum BodyAnswer {
     Body(TypeBody),
     Refused(Refusal),
 }
 
-#[derive(Drop)]
+#[derive(Clone, Copy)]
 pub enum TextAnswer {
     Text(Text),
     Refused(Refusal),

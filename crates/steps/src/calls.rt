@@ -15,7 +15,7 @@ use qualified_name::QualifiedName;
 use refusal::{Fault, Refusal};
 use typedescriptor::{Row, TypeIter, TypeStep};
 
-#[derive(Drop)]
+#[derive(Clone, Copy)]
 pub enum NextRow {
     Row {
         slot: usize,
@@ -26,7 +26,7 @@ pub enum NextRow {
     Refused(Refusal),
 }
 
-#[derive(Drop)]
+#[derive(Clone, Copy)]
 pub enum NextContext {
     Context {
         context: ParentContext,

@@ -8,7 +8,7 @@ ghost use Rattle.steps.specs.Entries.{entry_answer};
 use refusal::{Fault, Refusal};
 use vtable::{EntryIter, EntryKind, EntryStep};
 
-#[derive(Drop)]
+#[derive(Clone, Copy)]
 pub enum NextEntry {
     Step(EntryStep),
     Refused(Refusal),

@@ -14,13 +14,13 @@ use field::{FieldDescriptor, FieldIter, FieldRecord, FieldRecordIter, FieldRecor
 use refusal::{Fault, Refusal};
 use runtime::FieldName;
 
-#[derive(Drop)]
+#[derive(Clone, Copy)]
 pub enum NextFieldRecord {
     Step(FieldRecordStep),
     Refused(Refusal),
 }
 
-#[derive(Drop)]
+#[derive(Clone, Copy)]
 pub enum FieldNameAnswer {
     Name(FieldName),
     Refused(Refusal),

@@ -10,7 +10,7 @@ use field_offsets::FieldOffsets;
 use refusal::{Fault, Refusal};
 use type_body::TypeBody;
 
-#[derive(Drop)]
+#[derive(Clone, Copy)]
 pub enum OffsetsAnswer {
     Offsets(FieldOffsets),
     Refused(Refusal),

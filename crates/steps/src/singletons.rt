@@ -9,13 +9,13 @@ ghost use Rattle.steps.specs.Singletons.{init_answer, pointer_answer};
 use refusal::{Fault, Refusal};
 use type_body::{SingletonMetadataInit, SingletonMetadataPointer};
 
-#[derive(Drop)]
+#[derive(Clone, Copy)]
 pub enum InitAnswer {
     Init(SingletonMetadataInit),
     Refused(Refusal),
 }
 
-#[derive(Drop)]
+#[derive(Clone, Copy)]
 pub enum PointerAnswer {
     Pointer(SingletonMetadataPointer),
     Refused(Refusal),

@@ -7,14 +7,14 @@ ghost use Rattle.util.specs.Buffer.{overwritten};
 use crate::line::{field, same};
 
 // The number of a text.
-#[derive(Drop)]
+#[derive(Clone, Copy)]
 pub enum Number {
     Value(u64),
     Bad,
 }
 
 // How many bytes or numbers the caller's buffer got.
-#[derive(Drop)]
+#[derive(Clone, Copy)]
 pub enum Count {
     Of(usize),
     Bad,

@@ -1,9 +1,3 @@
 pub mod Body
-pub mod BodyLaws
-pub mod Checked
-pub mod Examples
 pub mod Items
-pub mod ItemsLaws
-pub mod PathLaws
 pub mod Singleton
-pub mod SingletonLaws

@@ -10,7 +10,7 @@ use util::Text;
 
 // The two words of a class whose meaning a resilient superclass changes: the metadata's sizes, or the address of its bounds (0 if it
 // has none) and the extra class flags.
-#[derive(Drop)]
+#[derive(Clone, Copy)]
 pub enum ClassSizes {
     Fixed {
         negative_words: u32,
@@ -23,7 +23,7 @@ pub enum ClassSizes {
 }
 
 // What follows the 20 bytes of a class. The superclass's name is looked up at its address, which is 0 if the class has none.
-#[derive(Drop)]
+#[derive(Clone, Copy)]
 pub struct ClassBody {
     pub superclass_va: u64,
     pub sizes: ClassSizes,
@@ -32,20 +32,20 @@ pub struct ClassBody {
     pub field_offset_vector_offset: u32,
 }
 
-#[derive(Drop)]
+#[derive(Clone, Copy)]
 pub struct StructBody {
     pub num_fields: u32,
     pub field_offset_vector_offset: u32,
 }
 
-#[derive(Drop)]
+#[derive(Clone, Copy)]
 pub struct EnumBody {
     pub num_payload_cases: u32,
     pub payload_size_offset: u8,
     pub num_empty_cases: u32,
 }
 
-#[derive(Drop)]
+#[derive(Clone, Copy)]
 pub enum TypeBody {
     Class(ClassBody),
     Struct(StructBody),

@@ -6,7 +6,7 @@ ghost use Rattle.type_body.specs.Singleton.{slot_target, singleton_init, init_of
 use segment::VmAddress;
 
 // The three addresses of a singleton initialization, each 0 if its offset is 0.
-#[derive(Drop)]
+#[derive(Clone, Copy)]
 pub enum SingletonMetadataInit {
     At {
         initialization_cache_va: u64,
@@ -17,7 +17,7 @@ pub enum SingletonMetadataInit {
 }
 
 // The address of a singleton's metadata, 0 if the offset is 0.
-#[derive(Drop)]
+#[derive(Clone, Copy)]
 pub enum SingletonMetadataPointer {
     At(u64),
     Nothing,

@@ -6,7 +6,7 @@ use crate::body::{ClassSizes, TypeBody};
 use classtrailers::Trailing;
 
 // What a walk over the blocks of a descriptor starts from: what decides which blocks there are, and the address of the first.
-#[derive(Drop)]
+#[derive(Clone, Copy)]
 pub enum TrailingRead {
     Start { trailing: Trailing, start: u64 },
     Nothing,

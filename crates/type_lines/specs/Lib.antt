@@ -1,4 +1,2 @@
 pub mod Digits
-pub mod DigitsLaws
 pub mod Lines
-pub mod LinesLaws

@@ -18,14 +18,14 @@ pub const NAME_BYTES: usize = 4096;
 pub const LINE_BYTES: usize = 4121;
 
 // A walk over the lines: the next slot to read, how many rows were given, and whether the last line was given.
-#[derive(Drop)]
+#[derive(Clone, Copy)]
 pub struct LineIter {
     pub slot: usize,
     pub given: usize,
     pub ended: bool,
 }
 
-#[derive(Drop)]
+#[derive(Clone, Copy)]
 pub enum NextLine {
     // A line of `length` bytes at the buffer's start, and the walk from there on.
     Line { length: usize, next: LineIter },

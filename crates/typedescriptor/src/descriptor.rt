@@ -7,7 +7,7 @@ use segment::Mapping;
 use util::Text;
 
 // What a type descriptor says: its address, its flags, the parent context's address (0 if it has none), and where its name lies.
-#[derive(Drop)]
+#[derive(Clone, Copy)]
 pub struct Row {
     pub address: u64,
     pub flags: u32,
@@ -16,7 +16,7 @@ pub struct Row {
     pub name_length: usize,
 }
 
-#[derive(Drop)]
+#[derive(Clone, Copy)]
 pub enum Descriptor {
     Row(Row),
     Nothing,

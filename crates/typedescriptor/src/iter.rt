@@ -10,13 +10,13 @@ use crate::descriptor::{Descriptor, Row, decode_type_descriptor};
 use segment::{Around, Mapping, VmAddress};
 
 // A walk over the types section: the number of the next slot to read.
-#[derive(Drop)]
+#[derive(Clone, Copy)]
 pub struct TypeIter {
     pub slot: usize,
 }
 
 // What a step of the walk gives: the next row with its slot's number and the walk from there on, or the end.
-#[derive(Drop)]
+#[derive(Clone, Copy)]
 pub enum TypeStep {
     Row {
         slot: usize,
@@ -62,7 +62,7 @@ pub fn slot_row(
 }
 
 // The row of a slot, and the mapping around its descriptor for what is read next.
-#[derive(Drop)]
+#[derive(Clone, Copy)]
 pub struct SlotRow {
     pub found: Descriptor,
     pub mapping: Mapping,

@@ -1,5 +1,4 @@
 pub mod LeadBytes
-pub mod LeadLaws
 pub mod Plain
 pub mod ScanAt
 pub mod Table

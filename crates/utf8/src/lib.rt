@@ -9,7 +9,7 @@ ghost use Rattle.utf8.specs.ScanAt.{ScanAt, RowOf};
 ghost use Rattle.utf8.specs.Text.{text_length, scanned, following, leads};
 
 // What the bytes at the start of a slice are.
-#[derive(Drop)]
+#[derive(Clone, Copy)]
 pub enum Scan {
     // A well-formed text of this many bytes, and then a NUL or the slice's end.
     Text(usize),
@@ -18,7 +18,7 @@ pub enum Scan {
 }
 
 // What a lead byte requires of the bytes after it.
-#[derive(Drop)]
+#[derive(Clone, Copy)]
 pub enum Lead {
     // Nothing: the byte is a sequence by itself.
     Alone,

@@ -1,12 +1,7 @@
-pub mod AnswersLaws
 pub mod BigEndian
-pub mod BigEndianLaws
 pub mod Buffer
-pub mod BufferLaws
 pub mod Cstr
 pub mod CstrLaws
 pub mod Letters
 pub mod LittleEndian
-pub mod LittleEndianLaws
 pub mod Pointer
-pub mod PointerLaws

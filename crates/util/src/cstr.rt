@@ -5,7 +5,7 @@ ghost use Rattle.util.specs.Cstr.{place, part_of, text_at, text_of, text_part, f
 use utf8::Scan;
 
 // Where a text lies; its length does not count the NUL.
-#[derive(Drop)]
+#[derive(Clone, Copy)]
 pub enum Text {
     At { place: usize, length: usize },
     Nothing,

@@ -1,4 +1,1 @@
 pub mod Entries
-pub mod EntriesLaws
-pub mod ListLaws
-pub mod PathLaws

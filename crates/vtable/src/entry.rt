@@ -5,7 +5,7 @@ ghost use Rattle.vtable.specs.Entries.{kind_layout, entry_size, entry_bytes};
 use segment::Mapping;
 
 // The kinds of tables.
-#[derive(Drop)]
+#[derive(Clone, Copy)]
 pub enum EntryKind {
     Method,
     Override,
@@ -30,7 +30,7 @@ impl EntryKind {
 // One entry: its address, and what its words say. A method's are its flags and its implementation; an override's the class, the method and the
 // implementation; a default override's the method and the implementation; a prespecialization's the metadata. A relative pointer of offset 0 gives
 // address 0, and a word that the kind does not have is 0.
-#[derive(Drop)]
+#[derive(Clone, Copy)]
 pub struct TableEntry {
     pub address: u64,
     pub first: u64,

@@ -5,7 +5,7 @@ ghost use Rattle.vtable.specs.Entries.{method, kind_layout, entry_size, entry_of
 use crate::entry::{EntryKind, TableEntry, entry_address, entry_bytes};
 
 // The table's address, how many entries it has, and the number of the next one.
-#[derive(Drop)]
+#[derive(Clone, Copy)]
 pub struct EntryIter {
     pub base_va: u64,
     pub count: u32,
@@ -13,7 +13,7 @@ pub struct EntryIter {
 }
 
 // What a step gives: an entry, or that there is one that cannot be read, each with the walk from there on; or the end.
-#[derive(Drop)]
+#[derive(Clone, Copy)]
 pub enum EntryStep {
     Entry { entry: TableEntry, next: EntryIter },
     Unreadable { next: EntryIter },

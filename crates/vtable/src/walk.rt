@@ -5,7 +5,7 @@ ghost use Rattle.vtable.specs.Entries.{method, entry_step, step_answer, method_w
 
 use crate::iter::{EntryIter, EntryStep};
 
-#[derive(Drop)]
+#[derive(Clone, Copy)]
 pub struct MethodWalk<'a, 'b> {
     pub cursor: EntryIter,
     pub image: &'a [u8],

@@ -1,9 +1,9 @@
 -- `c_block_of_kind::block_numbered` meets its contract.
 -- Assumes nothing.
-use Rattle.util.specs.AnswersLaws.{told}
+use Rattle.util.proofs.AnswersLaws.{told}
 use Rattle.steps.specs.Bodies.{body_answer}
 use Rattle.classtrailers.specs.Calls.{kind_read_of}
-use Rattle.c_blocks.specs.BlocksLaws.{kind_block, no_kind_no_block, no_body_no_block}
+use Rattle.c_blocks.proofs.BlocksLaws.{kind_block, no_kind_no_block, no_body_no_block}
 use borrow.Author.Rules.{rules}
 use Rattle.c_block_of_kind.proofs.block_numbered.Statement.{statement}
 use Rattle.c_block_of_kind.proofs.block_numbered.Tie as tie

@@ -1,10 +1,10 @@
 -- `c_block_of_kind::hodrupec_block_of_kind` meets its contract.
 -- Assumes nothing.
-use Rattle.util.specs.AnswersLaws.{told}
+use Rattle.util.proofs.AnswersLaws.{told}
 use Rattle.steps.specs.Blocks.{block_answer}
 use Rattle.c_blocks.specs.Blocks.{kind_block_numbers}
-use Rattle.c_blocks.specs.BlocksLaws.{block_known}
-use Rattle.c_rows.specs.NumbersLaws.{tells, tells_as, refuses}
+use Rattle.c_blocks.proofs.BlocksLaws.{block_known}
+use Rattle.c_rows.proofs.NumbersLaws.{tells, tells_as, refuses}
 use borrow.Author.Rules.{rules}
 use Rattle.c_block_of_kind.proofs.hodrupec_block_of_kind.Statement.{statement}
 use Rattle.c_block_of_kind.proofs.hodrupec_block_of_kind.Tie as tie

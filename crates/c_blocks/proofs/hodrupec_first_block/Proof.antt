@@ -1,12 +1,12 @@
 -- `c_blocks::hodrupec_first_block` meets its contract.
 -- Assumes nothing.
 use mathlib.Core.Path.{◌∙◌, ap}
-use Rattle.util.specs.AnswersLaws.{told}
+use Rattle.util.proofs.AnswersLaws.{told}
 use Rattle.type_body.specs.Items.{trailers}
 use Rattle.steps.specs.Bodies.{body_answer}
 use Rattle.c_blocks.specs.Blocks.{start_numbers}
-use Rattle.c_blocks.specs.BlocksLaws.{answered_then, refused_then}
-use Rattle.c_rows.specs.NumbersLaws.{tells_as, refuses}
+use Rattle.c_blocks.proofs.BlocksLaws.{answered_then, refused_then}
+use Rattle.c_rows.proofs.NumbersLaws.{tells_as, refuses}
 use borrow.Author.Rules.{rules}
 use Rattle.c_blocks.proofs.hodrupec_first_block.Statement.{statement}
 use Rattle.c_blocks.proofs.hodrupec_first_block.Tie as tie

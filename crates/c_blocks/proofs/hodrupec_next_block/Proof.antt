@@ -1,10 +1,10 @@
 -- `c_blocks::hodrupec_next_block` meets its contract.
 -- Assumes nothing.
-use Rattle.util.specs.AnswersLaws.{told}
+use Rattle.util.proofs.AnswersLaws.{told}
 use Rattle.steps.specs.Blocks.{next_block_answer}
 use Rattle.c_blocks.specs.Blocks.{block_step_numbers}
-use Rattle.c_blocks.specs.BlocksLaws.{step_known}
-use Rattle.c_rows.specs.NumbersLaws.{tells, tells_as, refuses}
+use Rattle.c_blocks.proofs.BlocksLaws.{step_known}
+use Rattle.c_rows.proofs.NumbersLaws.{tells, tells_as, refuses}
 use borrow.Author.Rules.{rules}
 use Rattle.c_blocks.proofs.hodrupec_next_block.Statement.{statement}
 use Rattle.c_blocks.proofs.hodrupec_next_block.Tie as tie

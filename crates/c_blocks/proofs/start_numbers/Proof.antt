@@ -1,6 +1,6 @@
 -- `c_blocks::start_numbers` meets its contract.
 -- Assumes nothing.
-use Rattle.c_blocks.specs.BlocksLaws.{start_known}
+use Rattle.c_blocks.proofs.BlocksLaws.{start_known}
 use borrow.Author.Rules.{rules}
 use Rattle.c_blocks.proofs.start_numbers.Statement.{statement}
 use Rattle.c_blocks.proofs.start_numbers.Tie as tie

@@ -1,6 +1,6 @@
 -- `c_default_overrides::hodrupec_default_overrides` meets its contract.
 -- Assumes nothing.
-use Rattle.c_tables.specs.TablesLaws.{tells_table}
+use Rattle.c_tables.proofs.TablesLaws.{tells_table}
 use borrow.Author.Rules.{rules}
 use Rattle.c_default_overrides.proofs.hodrupec_default_overrides.Statement.{statement}
 use Rattle.c_default_overrides.proofs.hodrupec_default_overrides.Tie as tie

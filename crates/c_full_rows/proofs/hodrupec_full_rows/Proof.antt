@@ -1,10 +1,10 @@
 -- `c_full_rows::hodrupec_full_rows` meets its contract.
 -- Assumes nothing.
-use Rattle.util.specs.AnswersLaws.{told}
+use Rattle.util.proofs.AnswersLaws.{told}
 use Rattle.full_rows.specs.FullRows.{full_rows_answer}
-use Rattle.c_rows.specs.NumbersLaws.{tells_as, refuses}
+use Rattle.c_rows.proofs.NumbersLaws.{tells_as, refuses}
 use Rattle.c_full_rows.specs.FullRows.{given_numbers}
-use Rattle.c_full_rows.specs.FullRowsLaws.{flag_known}
+use Rattle.c_full_rows.proofs.FullRowsLaws.{flag_known}
 use borrow.Author.Rules.{rules}
 use Rattle.c_full_rows.proofs.hodrupec_full_rows.Statement.{statement}
 use Rattle.c_full_rows.proofs.hodrupec_full_rows.Tie as tie

@@ -1,8 +1,8 @@
 -- `c_listing::hodrupec_listing` meets its contract.
 -- Assumes nothing.
 use Rattle.c_listing.specs.Listing.{listing_numbers, listing_bytes}
-use Rattle.c_rows.specs.NumbersLaws.{tells_accepted, tells_refused, writes_accepted, keeps_refused}
-use Rattle.util.specs.AnswersLaws.{told}
+use Rattle.c_rows.proofs.NumbersLaws.{tells_accepted, tells_refused, writes_accepted, keeps_refused}
+use Rattle.util.proofs.AnswersLaws.{told}
 use Rattle.refusal.specs.Guarded.{fault_of}
 use borrow.Author.Rules.{rules}
 use Rattle.c_listing.proofs.hodrupec_listing.Statement.{statement}

@@ -1,6 +1,6 @@
 -- `c_listing::joined` meets its contract.
 -- Assumes nothing.
-use Rattle.qualified_name.specs.NameLaws.{name_near}
+use Rattle.qualified_name.proofs.NameLaws.{name_near}
 use borrow.Author.Rules.{rules}
 use Rattle.c_listing.proofs.joined.Statement.{statement}
 use Rattle.c_listing.proofs.joined.Tie as tie

@@ -1,6 +1,6 @@
 -- `c_listing::put_head` meets its contract: one pair after the other.
 -- Assumes nothing.
-use Rattle.c_listing.specs.ListingLaws.{head_put}
+use Rattle.c_listing.proofs.ListingLaws.{head_put}
 use borrow.Author.Rules.{rules}
 use Rattle.c_listing.proofs.put_head.Statement.{statement}
 use Rattle.c_listing.proofs.put_head.Tie as tie

@@ -4,12 +4,12 @@ use native.Mathlib.Omega.{arith}
 use Prim.Native.Nat.{◌+◌, ◌-◌}
 use lib.ListN.{length}
 use mathlib.Core.Path.{sym, ◌∙◌}
-use Rattle.util.specs.AnswersLaws.{told}
-use Rattle.util.specs.BufferLaws.{past_end, past_into}
+use Rattle.util.proofs.AnswersLaws.{told}
+use Rattle.util.proofs.BufferLaws.{past_end, past_into}
 use Rattle.typedescriptor.specs.Row.{row_of}
 use Rattle.qualified_name.specs.Name.{length_of}
-use Rattle.qualified_name.specs.NameLaws.{name_length}
-use Rattle.c_listing.specs.ListingLaws.{head_long, row_long, written_bytes, refused_bytes, kept_part, part_long, record_put, head_alone}
+use Rattle.qualified_name.proofs.NameLaws.{name_length}
+use Rattle.c_listing.proofs.ListingLaws.{head_long, row_long, written_bytes, refused_bytes, kept_part, part_long, record_put, head_alone}
 use borrow.Author.Rules.{rules}
 use Rattle.c_listing.proofs.put_record.Statement.{statement}
 use Rattle.c_listing.proofs.put_record.Tie as tie

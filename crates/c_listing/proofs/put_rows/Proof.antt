@@ -3,11 +3,11 @@
 use native.Mathlib.Omega.{arith}
 use Prim.Native.Nat.{◌-◌}
 use mathlib.Core.Path.{refl, ◌∙◌}
-use Rattle.segment.specs.MappingLaws.{empty_mapped}
+use Rattle.segment.proofs.MappingLaws.{empty_mapped}
 use Rattle.typedescriptor.specs.Row.{row_of}
-use Rattle.typedescriptor.specs.GivenLaws.{Going, start_going, ended, passes, full, goes_on_lem}
+use Rattle.typedescriptor.proofs.GivenLaws.{Going, start_going, ended, passes, full, goes_on_lem}
 use Rattle.c_listing.specs.Listing.{row_bytes}
-use Rattle.c_listing.specs.ListingLaws.{row_long, not_put, was_put, listing_told}
+use Rattle.c_listing.proofs.ListingLaws.{row_long, not_put, was_put, listing_told}
 use borrow.Author.Rules.{rules}
 use Rattle.c_listing.proofs.put_rows.Statement.{statement}
 use Rattle.c_listing.proofs.put_rows.Tie as tie

@@ -1,6 +1,6 @@
 -- `c_methods::hodrupec_methods` meets its contract.
 -- Assumes nothing.
-use Rattle.c_tables.specs.TablesLaws.{tells_table}
+use Rattle.c_tables.proofs.TablesLaws.{tells_table}
 use borrow.Author.Rules.{rules}
 use Rattle.c_methods.proofs.hodrupec_methods.Statement.{statement}
 use Rattle.c_methods.proofs.hodrupec_methods.Tie as tie

@@ -1,6 +1,6 @@
 -- `c_named_records::hodrupec_named_records` meets its contract.
 -- Assumes nothing.
-use Rattle.c_tables.specs.TablesLaws.{tells_table}
+use Rattle.c_tables.proofs.TablesLaws.{tells_table}
 use borrow.Author.Rules.{rules}
 use Rattle.c_named_records.proofs.hodrupec_named_records.Statement.{statement}
 use Rattle.c_named_records.proofs.hodrupec_named_records.Tie as tie

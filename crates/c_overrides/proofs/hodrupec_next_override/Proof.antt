@@ -2,9 +2,9 @@
 -- Assumes nothing.
 use mathlib.Core.Path.{ap}
 use lib.ListN.{take}
-use Rattle.util.specs.AnswersLaws.{told}
+use Rattle.util.proofs.AnswersLaws.{told}
 use Rattle.steps.specs.Entries.{entry_answer}
-use Rattle.c_rows.specs.NumbersLaws.{tells_as, refuses}
+use Rattle.c_rows.proofs.NumbersLaws.{tells_as, refuses}
 use Rattle.c_tables.specs.Tables.{entry_step_numbers}
 use borrow.Author.Rules.{rules}
 use Rattle.c_overrides.proofs.hodrupec_next_override.Statement.{statement}

@@ -1,6 +1,6 @@
 -- `c_prespecializations::hodrupec_prespecializations` meets its contract.
 -- Assumes nothing.
-use Rattle.c_tables.specs.TablesLaws.{tells_table}
+use Rattle.c_tables.proofs.TablesLaws.{tells_table}
 use borrow.Author.Rules.{rules}
 use Rattle.c_prespecializations.proofs.hodrupec_prespecializations.Statement.{statement}
 use Rattle.c_prespecializations.proofs.hodrupec_prespecializations.Tie as tie

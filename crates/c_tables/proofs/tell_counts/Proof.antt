@@ -1,9 +1,9 @@
 -- `c_tables::tell_counts` meets its contract.
 -- Assumes nothing.
 use mathlib.Core.Path.{refl}
-use Rattle.util.specs.AnswersLaws.{told}
+use Rattle.util.proofs.AnswersLaws.{told}
 use Rattle.entry_tables.specs.Tables.{table_answer}
-use Rattle.c_rows.specs.NumbersLaws.{tells}
+use Rattle.c_rows.proofs.NumbersLaws.{tells}
 use Rattle.c_tables.specs.Tables.{count_numbers}
 use borrow.Author.Rules.{rules}
 use Rattle.c_tables.proofs.tell_counts.Statement.{statement}

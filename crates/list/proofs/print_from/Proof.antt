@@ -1,7 +1,7 @@
 -- `list::print_from` meets its contract: the space has room for one byte more than a bundle.
 -- Assumes nothing.
 use Rattle.std.proofs.Common.{arith, rules}
-use Rattle.util.specs.AnswersLaws.{case}
+use Rattle.util.proofs.AnswersLaws.{case}
 use Rattle.list.specs.Input.{Came}
 use Rattle.list.proofs.print_from.Statement.{statement}
 use Rattle.list.proofs.print_from.Tie as tie

@@ -1,11 +1,11 @@
 -- `list::print_lines` meets its contract. The invariant: the lines that are left are the others.
 -- Assumes nothing.
 use Rattle.std.proofs.Common.{◌-◌, sym, arith, rules}
-use Rattle.util.specs.AnswersLaws.{told}
-use Rattle.refusal.specs.GuardedLaws.{answered_is, never_refused}
+use Rattle.util.proofs.AnswersLaws.{told}
+use Rattle.refusal.proofs.GuardedLaws.{answered_is, never_refused}
 use Rattle.bundle_lines.specs.Printed.{lines_most, pending_of, print_answer}
-use Rattle.bundle_lines.specs.PrintedLaws.{step_part}
-use Rattle.bundle_lines.specs.PrintsLaws.{Going, going_start, lines_going_on, going_end, going_full}
+use Rattle.bundle_lines.proofs.PrintedLaws.{step_part}
+use Rattle.bundle_lines.proofs.PrintsLaws.{Going, going_start, lines_going_on, going_end, going_full}
 use Rattle.list.proofs.print_lines.Statement.{statement}
 use Rattle.list.proofs.print_lines.Tie as tie
 

@@ -2,10 +2,10 @@
 -- Assumes nothing.
 use Rattle.std.proofs.Common.{replicate, sym, ap, ◌∙◌, length-take-le, rules}
 use Rattle.bundle_parts.specs.Parts.{segment_numbers_most}
-use Rattle.bundle_parts.specs.PartsLaws.{start_fits, start_lent}
+use Rattle.bundle_parts.proofs.PartsLaws.{start_fits, start_lent}
 use Rattle.refusal.specs.Guarded.{fault}
 use Rattle.bundle_lines.specs.Printed.{pending_of, numbers_for}
-use Rattle.bundle_lines.specs.PrintsLaws.{numbers_accepted, all_lines}
+use Rattle.bundle_lines.proofs.PrintsLaws.{numbers_accepted, all_lines}
 use Rattle.list.proofs.print_listing.Statement.{statement}
 use Rattle.list.proofs.print_listing.Tie as tie
 

@@ -2,7 +2,7 @@
 -- Assumes nothing.
 use Rattle.std.proofs.Common.{replicate, sym, length-take-le, rules}
 use Rattle.bundle_parts.specs.Parts.{listed_numbers, segment_numbers_most}
-use Rattle.bundle_parts.specs.PartsLaws.{start_fits}
+use Rattle.bundle_parts.proofs.PartsLaws.{start_fits}
 use Rattle.list.proofs.say_wrapping.Statement.{statement}
 use Rattle.list.proofs.say_wrapping.Tie as tie
 

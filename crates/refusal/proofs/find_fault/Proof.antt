@@ -8,7 +8,7 @@ use mathlib.Core.Logic.{⊎_elim}
 use lib.ListN.{length}
 use Rattle.segment.specs.Segments.{segments_of}
 use Rattle.refusal.specs.Guarded.{any_wrapping}
-use Rattle.refusal.specs.GuardedLaws.{ragged, wrapped, none_wrapping, wraps_from, counted, passed, all_passed, one_wraps}
+use Rattle.refusal.proofs.GuardedLaws.{ragged, wrapped, none_wrapping, wraps_from, counted, passed, all_passed, one_wraps}
 use Rattle.refusal.proofs.find_fault.Statement.{statement}
 use Rattle.refusal.proofs.find_fault.Tie as tie
 

@@ -7,7 +7,7 @@ use mathlib.Core.Path.{◌≡◌, refl}
 use lib.ListN.{length, drop}
 use Rattle.segment.specs.Segments.{segments_of}
 use Rattle.refusal.specs.Guarded.{first_wrapping}
-use Rattle.refusal.specs.GuardedLaws.{first_here, first_passed, first_nowhere}
+use Rattle.refusal.proofs.GuardedLaws.{first_here, first_passed, first_nowhere}
 use Rattle.refusal.proofs.wrapping_segment.Statement.{statement}
 use Rattle.refusal.proofs.wrapping_segment.Tie as tie
 

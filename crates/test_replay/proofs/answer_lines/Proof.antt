@@ -1,6 +1,6 @@
 -- `test_replay::answer_lines` is safe and ends: each line starts past the one before it.
 use Rattle.std.proofs.Common.{◌-◌, ◌≤◌, length, arith, rules}
-use Rattle.test_lines.specs.LinesLaws.{after_more}
+use Rattle.test_lines.proofs.LinesLaws.{after_more}
 use Rattle.test_replay.proofs.answer_lines.Statement.{statement}
 use Rattle.test_replay.proofs.answer_lines.Tie as tie
 

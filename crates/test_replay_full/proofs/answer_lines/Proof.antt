@@ -3,7 +3,7 @@ use borrow.Author.Rules.{rules}
 use Prim.Native.Nat.{◌≤◌, ◌-◌}
 use native.Mathlib.Omega.{arith}
 use lib.ListN.{length}
-use Rattle.test_lines.specs.LinesLaws.{after_more}
+use Rattle.test_lines.proofs.LinesLaws.{after_more}
 use Rattle.test_replay_full.proofs.answer_lines.Statement.{statement}
 use Rattle.test_replay_full.proofs.answer_lines.Tie as tie
 

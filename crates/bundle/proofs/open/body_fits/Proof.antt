@@ -1,6 +1,6 @@
 -- `bundle::open::body_fits` meets its contract.
 -- Assumes nothing.
-use Rattle.bundle.specs.OpenLaws.{fits_segments, fits_image, fits_led}
+use Rattle.bundle.proofs.OpenLaws.{fits_segments, fits_image, fits_led}
 use Rattle.bundle.proofs.open.body_fits.Statement.{statement}
 use Rattle.bundle.proofs.open.body_fits.Tie as tie
 

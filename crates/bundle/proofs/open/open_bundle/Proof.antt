@@ -5,7 +5,7 @@ use native.Mathlib.Omega.{arith}
 use mathlib.Core.Logic.{⊎_elim}
 use mathlib.Core.List.{List}
 use lib.ListN.{length}
-use Rattle.bundle.specs.OpenLaws.{too_long, taken_within, no_image, left_over, opens}
+use Rattle.bundle.proofs.OpenLaws.{too_long, taken_within, no_image, left_over, opens}
 use borrow.Author.Tests.{ltb-true, ltb-false}
 use borrow.Author.Rules.{rules}
 use Rattle.bundle.proofs.open.open_bundle.Statement.{statement}

@@ -1,10 +1,10 @@
 -- `bundle::open::section_of` meets its contract: the address is read, as a body within the bytes has one.
 -- Assumes nothing.
 use native.Mathlib.Omega.{arith}
-use Rattle.util.specs.AnswersLaws.{told}
+use Rattle.util.proofs.AnswersLaws.{told}
 use Rattle.util.specs.LittleEndian.{u64_value}
-use Rattle.util.specs.LittleEndianLaws.{little_beyond}
-use Rattle.bundle.specs.OpenLaws.{section_there, section_missing}
+use Rattle.util.proofs.LittleEndianLaws.{little_beyond}
+use Rattle.bundle.proofs.OpenLaws.{section_there, section_missing}
 use borrow.Author.Rules.{rules}
 use Rattle.bundle.proofs.open.section_of.Statement.{statement}
 use Rattle.bundle.proofs.open.section_of.Tie as tie

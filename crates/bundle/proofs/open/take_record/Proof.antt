@@ -2,10 +2,10 @@
 -- Assumes nothing.
 use native.Mathlib.Omega.{arith}
 use mathlib.Core.Path.{sym, ◌∙◌}
-use Rattle.util.specs.AnswersLaws.{told}
+use Rattle.util.proofs.AnswersLaws.{told}
 use Rattle.util.specs.LittleEndian.{u16_value, u32_value}
-use Rattle.util.specs.LittleEndianLaws.{little_within, little_beyond}
-use Rattle.bundle.specs.OpenLaws.{take_past, take_cut, take_other, take_unfit, take_there}
+use Rattle.util.proofs.LittleEndianLaws.{little_within, little_beyond}
+use Rattle.bundle.proofs.OpenLaws.{take_past, take_cut, take_other, take_unfit, take_there}
 use borrow.Author.Rules.{rules}
 use Rattle.bundle.proofs.open.take_record.Statement.{statement}
 use Rattle.bundle.proofs.open.take_record.Tie as tie

@@ -1,8 +1,8 @@
 -- `bundle_lines::lines::rows_line` meets its contract.
 -- Assumes nothing.
-use Rattle.util.specs.AnswersLaws.{told}
+use Rattle.util.proofs.AnswersLaws.{told}
 use Rattle.type_lines.specs.Lines.{line_answer}
-use Rattle.bundle_lines.specs.PrintedLaws.{rows_print}
+use Rattle.bundle_lines.proofs.PrintedLaws.{rows_print}
 use borrow.Author.Rules.{rules}
 use Rattle.bundle_lines.proofs.lines.rows_line.Statement.{statement}
 use Rattle.bundle_lines.proofs.lines.rows_line.Tie as tie

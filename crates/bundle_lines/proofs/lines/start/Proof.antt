@@ -1,7 +1,7 @@
 -- `bundle_lines::lines::start` meets its contract.
 -- Assumes nothing.
 use mathlib.Core.Path.{ap}
-use Rattle.util.specs.AnswersLaws.{told}
+use Rattle.util.proofs.AnswersLaws.{told}
 use Rattle.bundle.specs.Open.{opened}
 use Rattle.bundle_lines.specs.Printed.{start_of}
 use borrow.Author.Rules.{rules}

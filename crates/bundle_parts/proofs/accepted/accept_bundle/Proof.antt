@@ -1,8 +1,8 @@
 -- `bundle_parts::accepted::accept_bundle` meets its contract.
 -- Assumes nothing.
-use Rattle.util.specs.AnswersLaws.{told}
+use Rattle.util.proofs.AnswersLaws.{told}
 use Rattle.bundle.specs.Open.{opened}
-use Rattle.bundle_parts.specs.AcceptedLaws.{accept_broken}
+use Rattle.bundle_parts.proofs.AcceptedLaws.{accept_broken}
 use borrow.Author.Rules.{rules}
 use Rattle.bundle_parts.proofs.accepted.accept_bundle.Statement.{statement}
 use Rattle.bundle_parts.proofs.accepted.accept_bundle.Tie as tie

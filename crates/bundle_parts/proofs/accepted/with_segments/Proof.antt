@@ -3,11 +3,11 @@
 use mathlib.Core.Path.{sym, ap, ◌∙◌}
 use lib.ListN.{replicate}
 use lib.Seq.{length-take-le}
-use Rattle.util.specs.AnswersLaws.{told}
+use Rattle.util.proofs.AnswersLaws.{told}
 use Rattle.refusal.specs.Guarded.{fault, fault_of}
 use Rattle.bundle_parts.specs.Parts.{listed_numbers, segment_numbers_most}
-use Rattle.bundle_parts.specs.PartsLaws.{start_fits, start_lent}
-use Rattle.bundle_parts.specs.AcceptedLaws.{accept_opened, accept_refused}
+use Rattle.bundle_parts.proofs.PartsLaws.{start_fits, start_lent}
+use Rattle.bundle_parts.proofs.AcceptedLaws.{accept_opened, accept_refused}
 use borrow.Author.Rules.{rules}
 use Rattle.bundle_parts.proofs.accepted.with_segments.Statement.{statement}
 use Rattle.bundle_parts.proofs.accepted.with_segments.Tie as tie

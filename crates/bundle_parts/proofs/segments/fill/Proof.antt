@@ -4,9 +4,9 @@ use borrow.Author.Rules.{rules}
 use native.Mathlib.Omega.{arith}
 use Prim.Native.Nat.{◌-◌, ◌/◌}
 use lib.ListN.{length-set}
-use Rattle.util.specs.AnswersLaws.{told}
+use Rattle.util.proofs.AnswersLaws.{told}
 use Rattle.bundle_parts.specs.Parts.{segment_bytes, segment_of, segment_numbers_most}
-use Rattle.bundle_parts.specs.PartsLaws.{Started, started_none, started_more, filled_all, filled_full}
+use Rattle.bundle_parts.proofs.PartsLaws.{Started, started_none, started_more, filled_all, filled_full}
 use Rattle.bundle_parts.proofs.segments.fill.Statement.{statement}
 use Rattle.bundle_parts.proofs.segments.fill.Tie as tie
 

@@ -6,7 +6,7 @@ use mathlib.Core.List.{List}
 use Prim.Native.Nat.{ℕ}
 use lib.ListN.{length}
 use Rattle.bundle_parts.specs.Parts.{segment_in}
-use Rattle.bundle_parts.specs.PartsLaws.{segment_there, segment_past}
+use Rattle.bundle_parts.proofs.PartsLaws.{segment_there, segment_past}
 use borrow.Author.Rules.{rules}
 use Rattle.bundle_parts.proofs.segments.segment.Statement.{statement}
 use Rattle.bundle_parts.proofs.segments.segment.Tie as tie

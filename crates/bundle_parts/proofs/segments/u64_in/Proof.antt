@@ -1,9 +1,9 @@
 -- `bundle_parts::segments::u64_in` meets its contract: the bytes can be read.
 -- Assumes nothing.
 use native.Mathlib.Omega.{arith}
-use Rattle.util.specs.AnswersLaws.{told}
+use Rattle.util.proofs.AnswersLaws.{told}
 use Rattle.util.specs.LittleEndian.{u64_value}
-use Rattle.util.specs.LittleEndianLaws.{little_value, little_beyond}
+use Rattle.util.proofs.LittleEndianLaws.{little_value, little_beyond}
 use borrow.Author.Rules.{rules}
 use Rattle.bundle_parts.proofs.segments.u64_in.Statement.{statement}
 use Rattle.bundle_parts.proofs.segments.u64_in.Tie as tie

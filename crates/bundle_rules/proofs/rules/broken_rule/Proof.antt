@@ -8,7 +8,7 @@ use mathlib.Core.Bool.{true≢false}
 use lib.ListN.{length}
 use borrow.Author.Tests.{eqb-true, eqb-false}
 use borrow.Author.Rules.{rules}
-use Rattle.bundle_rules.specs.RuleLaws.{too_long_whole, RulesWalked, walked_none, walked_breaks, walked_keeps, walked_whole, walked_empty, walked_missing, seen_image, seen_other, kept_by_check}
+use Rattle.bundle_rules.proofs.RuleLaws.{too_long_whole, RulesWalked, walked_none, walked_breaks, walked_keeps, walked_whole, walked_empty, walked_missing, seen_image, seen_other, kept_by_check}
 use Rattle.bundle_rules.proofs.rules.broken_rule.Statement.{statement}
 use Rattle.bundle_rules.proofs.rules.broken_rule.Tie as tie
 

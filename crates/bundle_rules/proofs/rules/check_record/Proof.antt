@@ -2,10 +2,10 @@
 -- Assumes nothing.
 use native.Mathlib.Omega.{arith}
 use mathlib.Core.Path.{sym, ◌∙◌}
-use Rattle.util.specs.AnswersLaws.{told}
+use Rattle.util.proofs.AnswersLaws.{told}
 use Rattle.util.specs.LittleEndian.{u16_value, u32_value}
-use Rattle.util.specs.LittleEndianLaws.{little_within, little_beyond}
-use Rattle.bundle_rules.specs.RuleLaws.{check_past, check_cut, check_kind_lem, kind_low, kind_high, kind_not_above, kind_kept, kind_segments, kind_led}
+use Rattle.util.proofs.LittleEndianLaws.{little_within, little_beyond}
+use Rattle.bundle_rules.proofs.RuleLaws.{check_past, check_cut, check_kind_lem, kind_low, kind_high, kind_not_above, kind_kept, kind_segments, kind_led}
 use borrow.Author.Rules.{rules}
 use Rattle.bundle_rules.proofs.rules.check_record.Statement.{statement}
 use Rattle.bundle_rules.proofs.rules.check_record.Tie as tie

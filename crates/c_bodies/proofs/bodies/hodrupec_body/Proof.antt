@@ -1,9 +1,9 @@
 -- `c_bodies::bodies::hodrupec_body` meets its contract.
 -- Assumes nothing.
-use Rattle.util.specs.AnswersLaws.{told}
+use Rattle.util.proofs.AnswersLaws.{told}
 use Rattle.steps.specs.Bodies.{body_answer}
 use Rattle.full_rows.specs.FullRows.{body_numbers}
-use Rattle.c_rows.specs.NumbersLaws.{tells_as, refuses}
+use Rattle.c_rows.proofs.NumbersLaws.{tells_as, refuses}
 use borrow.Author.Rules.{rules}
 use Rattle.c_bodies.proofs.bodies.hodrupec_body.Statement.{statement}
 use Rattle.c_bodies.proofs.bodies.hodrupec_body.Tie as tie

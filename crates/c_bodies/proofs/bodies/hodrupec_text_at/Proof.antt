@@ -1,9 +1,9 @@
 -- `c_bodies::bodies::hodrupec_text_at` meets its contract.
 -- Assumes nothing.
-use Rattle.util.specs.AnswersLaws.{told}
+use Rattle.util.proofs.AnswersLaws.{told}
 use Rattle.steps.specs.Bodies.{text_answer}
 use Rattle.runtime.specs.PlaceNumbers.{text_numbers}
-use Rattle.c_rows.specs.NumbersLaws.{tells_as, refuses}
+use Rattle.c_rows.proofs.NumbersLaws.{tells_as, refuses}
 use borrow.Author.Rules.{rules}
 use Rattle.c_bodies.proofs.bodies.hodrupec_text_at.Statement.{statement}
 use Rattle.c_bodies.proofs.bodies.hodrupec_text_at.Tie as tie

@@ -1,12 +1,12 @@
 -- `c_bodies::singletons::hodrupec_singleton_pointer` meets its contract.
 -- Assumes nothing.
 use Rattle.refusal.specs.Refusal.{answered}
-use Rattle.util.specs.AnswersLaws.{told}
+use Rattle.util.proofs.AnswersLaws.{told}
 use Rattle.type_body.specs.Singleton.{pointer_of}
 use Rattle.type_body.specs.declared.singleton.SingletonMetadataPointer.{SingletonMetadataPointer}
 use Rattle.steps.specs.Singletons.{pointer_answer}
 use Rattle.c_rows.specs.Numbers.{value_numbers}
-use Rattle.c_rows.specs.NumbersLaws.{tells, refuses}
+use Rattle.c_rows.proofs.NumbersLaws.{tells, refuses}
 use borrow.Author.Rules.{rules}
 use Rattle.c_bodies.proofs.singletons.hodrupec_singleton_pointer.Statement.{statement}
 use Rattle.c_bodies.proofs.singletons.hodrupec_singleton_pointer.Tie as tie

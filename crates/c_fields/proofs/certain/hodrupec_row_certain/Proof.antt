@@ -1,6 +1,6 @@
 -- `c_fields::certain::hodrupec_row_certain` meets its contract.
 -- Assumes nothing.
-use Rattle.c_fields.specs.CertainLaws.{tells_certain}
+use Rattle.c_fields.proofs.CertainLaws.{tells_certain}
 use borrow.Author.Rules.{rules}
 use Rattle.c_fields.proofs.certain.hodrupec_row_certain.Statement.{statement}
 use Rattle.c_fields.proofs.certain.hodrupec_row_certain.Tie as tie

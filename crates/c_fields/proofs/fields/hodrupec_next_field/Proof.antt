@@ -2,9 +2,9 @@
 -- Assumes nothing.
 use mathlib.Core.Path.{ap}
 use Rattle.refusal.specs.Refusal.{answered}
-use Rattle.util.specs.AnswersLaws.{told}
+use Rattle.util.proofs.AnswersLaws.{told}
 use Rattle.field.specs.Fields.{field_step_of}
-use Rattle.c_rows.specs.NumbersLaws.{tells, tells_as}
+use Rattle.c_rows.proofs.NumbersLaws.{tells, tells_as}
 use Rattle.c_fields.specs.Fields.{field_step_numbers}
 use borrow.Author.Rules.{rules}
 use Rattle.c_fields.proofs.fields.hodrupec_next_field.Statement.{statement}

@@ -1,10 +1,10 @@
 -- `c_fields::fields::hodrupec_next_field_record` meets its contract.
 -- Assumes nothing.
-use Rattle.util.specs.AnswersLaws.{told}
+use Rattle.util.proofs.AnswersLaws.{told}
 use Rattle.refusal.specs.Refusal.{answered}
 use Rattle.field.specs.Records.{record_step_of}
 use Rattle.steps.specs.Fields.{record_answer}
-use Rattle.c_rows.specs.NumbersLaws.{tells, refuses}
+use Rattle.c_rows.proofs.NumbersLaws.{tells, refuses}
 use Rattle.c_fields.specs.Fields.{record_numbers}
 use borrow.Author.Rules.{rules}
 use Rattle.c_fields.proofs.fields.hodrupec_next_field_record.Statement.{statement}

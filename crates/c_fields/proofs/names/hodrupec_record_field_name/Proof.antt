@@ -1,9 +1,9 @@
 -- `c_fields::names::hodrupec_record_field_name` meets its contract.
 -- Assumes nothing.
-use Rattle.util.specs.AnswersLaws.{told}
+use Rattle.util.proofs.AnswersLaws.{told}
 use Rattle.steps.specs.Fields.{field_name_answer}
 use Rattle.runtime.specs.PlaceNumbers.{field_numbers}
-use Rattle.c_rows.specs.NumbersLaws.{tells_as, refuses}
+use Rattle.c_rows.proofs.NumbersLaws.{tells_as, refuses}
 use borrow.Author.Rules.{rules}
 use Rattle.c_fields.proofs.names.hodrupec_record_field_name.Statement.{statement}
 use Rattle.c_fields.proofs.names.hodrupec_record_field_name.Tie as tie

@@ -2,10 +2,10 @@
 -- Assumes nothing.
 use mathlib.Core.Path.{ap}
 use Rattle.refusal.specs.Refusal.{answered}
-use Rattle.util.specs.AnswersLaws.{told}
+use Rattle.util.proofs.AnswersLaws.{told}
 use Rattle.field_offsets.specs.Offsets.{field_offset_of}
 use Rattle.c_rows.specs.Numbers.{value_numbers}
-use Rattle.c_rows.specs.NumbersLaws.{tells}
+use Rattle.c_rows.proofs.NumbersLaws.{tells}
 use borrow.Author.Rules.{rules}
 use Rattle.c_fields.proofs.offsets.hodrupec_field_offset.Statement.{statement}
 use Rattle.c_fields.proofs.offsets.hodrupec_field_offset.Tie as tie

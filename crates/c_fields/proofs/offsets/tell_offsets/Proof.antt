@@ -2,11 +2,11 @@
 -- Assumes nothing.
 use mathlib.Core.Path.{refl}
 use Rattle.refusal.specs.Refusal.{answered}
-use Rattle.util.specs.AnswersLaws.{told}
+use Rattle.util.proofs.AnswersLaws.{told}
 use Rattle.field_offsets.specs.Offsets.{offsets_of}
 use Rattle.field_offsets.specs.declared.offsets.FieldOffsets.{FieldOffsets}
 use Rattle.steps.specs.Offsets.{offsets_answer}
-use Rattle.c_rows.specs.NumbersLaws.{tells}
+use Rattle.c_rows.proofs.NumbersLaws.{tells}
 use Rattle.c_fields.specs.Offsets.{offsets_numbers}
 use borrow.Author.Rules.{rules}
 use Rattle.c_fields.proofs.offsets.tell_offsets.Statement.{statement}

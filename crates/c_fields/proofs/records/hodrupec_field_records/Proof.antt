@@ -1,6 +1,6 @@
 -- `c_fields::records::hodrupec_field_records` meets its contract.
 -- Assumes nothing.
-use Rattle.c_tables.specs.TablesLaws.{tells_table}
+use Rattle.c_tables.proofs.TablesLaws.{tells_table}
 use borrow.Author.Rules.{rules}
 use Rattle.c_fields.proofs.records.hodrupec_field_records.Statement.{statement}
 use Rattle.c_fields.proofs.records.hodrupec_field_records.Tie as tie

@@ -1,7 +1,7 @@
 -- `c_numbers::flags::kind_number` meets its contract.
 -- Assumes nothing.
 use mathlib.Core.Path.{refl}
-use Rattle.util.specs.AnswersLaws.{told}
+use Rattle.util.proofs.AnswersLaws.{told}
 use Rattle.c_numbers.specs.Flags.{kind_number}
 use borrow.Author.Rules.{rules}
 use Rattle.c_numbers.proofs.flags.kind_number.Statement.{statement}

@@ -1,7 +1,7 @@
 -- `c_numbers::flags::reference_number` meets its contract.
 -- Assumes nothing.
 use mathlib.Core.Path.{refl}
-use Rattle.util.specs.AnswersLaws.{told}
+use Rattle.util.proofs.AnswersLaws.{told}
 use Rattle.c_numbers.specs.Flags.{reference_number}
 use borrow.Author.Rules.{rules}
 use Rattle.c_numbers.proofs.flags.reference_number.Statement.{statement}

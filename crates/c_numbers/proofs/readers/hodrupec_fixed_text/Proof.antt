@@ -1,7 +1,7 @@
 -- `c_numbers::readers::hodrupec_fixed_text` meets its contract.
 -- Assumes nothing.
 use mathlib.Core.Path.{refl}
-use Rattle.c_numbers.specs.ReadersLaws.{length_given}
+use Rattle.c_numbers.proofs.ReadersLaws.{length_given}
 use borrow.Author.Rules.{rules}
 use Rattle.c_numbers.proofs.readers.hodrupec_fixed_text.Statement.{statement}
 use Rattle.c_numbers.proofs.readers.hodrupec_fixed_text.Tie as tie

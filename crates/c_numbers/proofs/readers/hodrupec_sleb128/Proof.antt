@@ -7,9 +7,9 @@ use lib.IntN.{ℤ}
 use mir.Syntax.{w64}
 use mir.Facts.{to_z-of_z}
 use Rattle.util.specs.Pointer.{modulo}
-use Rattle.util.specs.AnswersLaws.{told}
+use Rattle.util.proofs.AnswersLaws.{told}
 use Rattle.leb128.specs.Leb128.{sleb_value}
-use Rattle.c_numbers.specs.ReadersLaws.{sleb_given, no_sleb}
+use Rattle.c_numbers.proofs.ReadersLaws.{sleb_given, no_sleb}
 use borrow.Author.Rules.{rules}
 use Rattle.c_numbers.proofs.readers.hodrupec_sleb128.Statement.{statement}
 use Rattle.c_numbers.proofs.readers.hodrupec_sleb128.Tie as tie

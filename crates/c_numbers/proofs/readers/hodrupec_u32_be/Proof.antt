@@ -1,9 +1,9 @@
 -- `c_numbers::readers::hodrupec_u32_be` meets its contract.
 -- Assumes nothing.
 use mathlib.Core.Path.{refl}
-use Rattle.util.specs.AnswersLaws.{told}
+use Rattle.util.proofs.AnswersLaws.{told}
 use Rattle.util.specs.LittleEndian.{u32_value}
-use Rattle.c_numbers.specs.ReadersLaws.{value_given, no_value}
+use Rattle.c_numbers.proofs.ReadersLaws.{value_given, no_value}
 use borrow.Author.Rules.{rules}
 use Rattle.c_numbers.proofs.readers.hodrupec_u32_be.Statement.{statement}
 use Rattle.c_numbers.proofs.readers.hodrupec_u32_be.Tie as tie

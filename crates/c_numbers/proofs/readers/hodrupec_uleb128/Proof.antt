@@ -1,9 +1,9 @@
 -- `c_numbers::readers::hodrupec_uleb128` meets its contract.
 -- Assumes nothing.
 use mathlib.Core.Path.{refl}
-use Rattle.util.specs.AnswersLaws.{told}
+use Rattle.util.proofs.AnswersLaws.{told}
 use Rattle.leb128.specs.Leb128.{uleb_value}
-use Rattle.c_numbers.specs.ReadersLaws.{uleb_given, no_uleb}
+use Rattle.c_numbers.proofs.ReadersLaws.{uleb_given, no_uleb}
 use borrow.Author.Rules.{rules}
 use Rattle.c_numbers.proofs.readers.hodrupec_uleb128.Statement.{statement}
 use Rattle.c_numbers.proofs.readers.hodrupec_uleb128.Tie as tie

@@ -1,7 +1,7 @@
 -- `c_rows::calls::field_name_numbers` meets its contract.
 -- Assumes nothing.
 use mathlib.Core.Path.{refl}
-use Rattle.util.specs.AnswersLaws.{told}
+use Rattle.util.proofs.AnswersLaws.{told}
 use Rattle.runtime.specs.FieldName.{field_name_of}
 use Rattle.runtime.specs.PlaceNumbers.{field_numbers}
 use borrow.Author.Rules.{rules}

@@ -2,8 +2,8 @@
 -- Assumes nothing.
 use mathlib.Core.Path.{◌∙◌, ap}
 use Rattle.runtime.specs.PlaceNumbers.{field_numbers}
-use Rattle.c_rows.specs.NumbersLaws.{tells_accepted, tells_refused}
-use Rattle.util.specs.AnswersLaws.{told}
+use Rattle.c_rows.proofs.NumbersLaws.{tells_accepted, tells_refused}
+use Rattle.util.proofs.AnswersLaws.{told}
 use Rattle.refusal.specs.Guarded.{fault_of}
 use borrow.Author.Rules.{rules}
 use Rattle.c_rows.proofs.calls.hodrupec_field_name.Statement.{statement}

@@ -1,10 +1,10 @@
 -- `c_rows::calls::hodrupec_file_offset` meets its contract.
 -- Assumes nothing.
 use mathlib.Core.Path.{ap}
-use Rattle.util.specs.AnswersLaws.{told}
+use Rattle.util.proofs.AnswersLaws.{told}
 use Rattle.segment.specs.Segments.{offset_of}
 use Rattle.c_rows.specs.Numbers.{value_numbers}
-use Rattle.c_rows.specs.NumbersLaws.{tells_accepted, tells_refused}
+use Rattle.c_rows.proofs.NumbersLaws.{tells_accepted, tells_refused}
 use Rattle.refusal.specs.Guarded.{fault_of}
 use borrow.Author.Rules.{rules}
 use Rattle.c_rows.proofs.calls.hodrupec_file_offset.Statement.{statement}

@@ -1,9 +1,9 @@
 -- `c_rows::calls::hodrupec_next_context` meets its contract.
 -- Assumes nothing.
-use Rattle.util.specs.AnswersLaws.{told}
+use Rattle.util.proofs.AnswersLaws.{told}
 use Rattle.steps.specs.Calls.{context_answer}
 use Rattle.c_rows.specs.Numbers.{chain_step_numbers}
-use Rattle.c_rows.specs.NumbersLaws.{tells, tells_as, refuses, name_told}
+use Rattle.c_rows.proofs.NumbersLaws.{tells, tells_as, refuses, name_told}
 use borrow.Author.Rules.{rules}
 use Rattle.c_rows.proofs.calls.hodrupec_next_context.Statement.{statement}
 use Rattle.c_rows.proofs.calls.hodrupec_next_context.Tie as tie

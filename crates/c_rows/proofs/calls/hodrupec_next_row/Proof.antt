@@ -1,9 +1,9 @@
 -- `c_rows::calls::hodrupec_next_row` meets its contract.
 -- Assumes nothing.
-use Rattle.util.specs.AnswersLaws.{told}
+use Rattle.util.proofs.AnswersLaws.{told}
 use Rattle.steps.specs.Calls.{row_answer}
 use Rattle.c_rows.specs.Numbers.{row_numbers}
-use Rattle.c_rows.specs.NumbersLaws.{tells, refuses}
+use Rattle.c_rows.proofs.NumbersLaws.{tells, refuses}
 use borrow.Author.Rules.{rules}
 use Rattle.c_rows.proofs.calls.hodrupec_next_row.Statement.{statement}
 use Rattle.c_rows.proofs.calls.hodrupec_next_row.Tie as tie

@@ -1,9 +1,9 @@
 -- `c_rows::calls::hodrupec_qualified_name` meets its contract.
 -- Assumes nothing.
-use Rattle.util.specs.AnswersLaws.{told}
+use Rattle.util.proofs.AnswersLaws.{told}
 use Rattle.qualified_name.specs.Name.{length_of}
 use Rattle.c_rows.specs.Numbers.{one_number}
-use Rattle.c_rows.specs.NumbersLaws.{tells, refuses}
+use Rattle.c_rows.proofs.NumbersLaws.{tells, refuses}
 use borrow.Author.Rules.{rules}
 use Rattle.c_rows.proofs.calls.hodrupec_qualified_name.Statement.{statement}
 use Rattle.c_rows.proofs.calls.hodrupec_qualified_name.Tie as tie

@@ -3,10 +3,10 @@
 use mathlib.Core.Path.{ap, sym, ◌∙◌}
 use borrow.Author.Tests.{not-true, not-false}
 use Rattle.refusal.specs.Refusal.{answered}
-use Rattle.util.specs.AnswersLaws.{told}
+use Rattle.util.proofs.AnswersLaws.{told}
 use Rattle.typedescriptor.specs.Row.{descriptor_of}
-use Rattle.refusal.specs.GuardedLaws.{refused_list, accepted_as}
-use Rattle.certainty.specs.ReadLaws.{name_open, name_none, name_by}
+use Rattle.refusal.proofs.GuardedLaws.{refused_list, accepted_as}
+use Rattle.certainty.proofs.ReadLaws.{name_open, name_none, name_by}
 use Rattle.refusal.specs.Guarded.{fault_of}
 use borrow.Author.Rules.{rules}
 use Rattle.certainty.proofs.calls.name_certain.Statement.{statement}

@@ -4,11 +4,11 @@ use mathlib.Core.Path.{◌≡◌, refl, sym, ◌∙◌}
 use borrow.Author.Rules.{rules}
 use borrow.Author.Tests.{not-true, not-false}
 use native.Mathlib.Omega.{arith}
-use Rattle.util.specs.AnswersLaws.{told}
+use Rattle.util.proofs.AnswersLaws.{told}
 use Rattle.parent.specs.Chain.{contexts_most}
 use Rattle.parent.specs.Context.{header_of}
 use Rattle.certainty.specs.JoinedName.{chain_certain}
-use Rattle.certainty.specs.ReadLaws.{chain_last, chain_deep, chain_open, chain_on}
+use Rattle.certainty.proofs.ReadLaws.{chain_last, chain_deep, chain_open, chain_on}
 use Rattle.certainty.proofs.chain.chain_certain.Statement.{statement}
 use Rattle.certainty.proofs.chain.chain_certain.Tie as tie
 

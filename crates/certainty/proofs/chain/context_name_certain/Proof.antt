@@ -1,7 +1,7 @@
 -- `certainty::chain::context_name_certain` meets its contract.
 -- Assumes nothing.
 use mathlib.Core.Path.{sym, ◌∙◌}
-use Rattle.certainty.specs.ReadLaws.{unnamed, is_named}
+use Rattle.certainty.proofs.ReadLaws.{unnamed, is_named}
 use borrow.Author.Rules.{rules}
 use Rattle.certainty.proofs.chain.context_name_certain.Statement.{statement}
 use Rattle.certainty.proofs.chain.context_name_certain.Tie as tie

@@ -2,7 +2,7 @@
 -- Assumes nothing.
 use native.Mathlib.Omega.{arith}
 use mathlib.Core.Path.{sym, ◌∙◌}
-use Rattle.certainty.specs.ReadLaws.{high_header, zero_header, short_header, whole_header}
+use Rattle.certainty.proofs.ReadLaws.{high_header, zero_header, short_header, whole_header}
 use borrow.Author.Rules.{rules}
 use Rattle.certainty.proofs.chain.header_certain.Statement.{statement}
 use Rattle.certainty.proofs.chain.header_certain.Tie as tie

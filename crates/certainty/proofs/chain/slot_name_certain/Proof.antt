@@ -2,7 +2,7 @@
 -- Assumes nothing.
 use native.Mathlib.Omega.{arith}
 use mathlib.Core.Path.{sym, ◌∙◌}
-use Rattle.certainty.specs.ReadLaws.{high_name, no_slot, zero_name, name_there}
+use Rattle.certainty.proofs.ReadLaws.{high_name, no_slot, zero_name, name_there}
 use borrow.Author.Rules.{rules}
 use Rattle.certainty.proofs.chain.slot_name_certain.Statement.{statement}
 use Rattle.certainty.proofs.chain.slot_name_certain.Tie as tie

@@ -6,7 +6,7 @@ use mathlib.Core.Path.{◌≡◌, refl, sym, ◌∙◌}
 use lib.ListN.{length, drop}
 use borrow.Author.Rules.{rules}
 use Rattle.certainty.specs.Certain.{has_nul}
-use Rattle.certainty.specs.ReadLaws.{nul_here, nul_later, nul_past}
+use Rattle.certainty.proofs.ReadLaws.{nul_here, nul_later, nul_past}
 use Rattle.certainty.proofs.reads.has_nul.Statement.{statement}
 use Rattle.certainty.proofs.reads.has_nul.Tie as tie
 

@@ -1,7 +1,7 @@
 -- `certainty::reads::is_nowhere` meets its contract.
 -- Assumes nothing.
-use Rattle.certainty.specs.ReadLaws.{in_file_lem, not_in_file}
-use Rattle.util.specs.AnswersLaws.{told}
+use Rattle.certainty.proofs.ReadLaws.{in_file_lem, not_in_file}
+use Rattle.util.proofs.AnswersLaws.{told}
 use Rattle.segment.specs.Segments.{offset_of}
 use borrow.Author.Rules.{rules}
 use Rattle.certainty.proofs.reads.is_nowhere.Statement.{statement}

@@ -1,9 +1,9 @@
 -- `certainty::reads::text_certain` meets its contract: each `return` is a case of `lookup`.
 -- Assumes nothing.
 use mathlib.Core.Path.{sym, ◌∙◌}
-use Rattle.util.specs.AnswersLaws.{told}
+use Rattle.util.proofs.AnswersLaws.{told}
 use Rattle.segment.specs.Segments.{offset_of}
-use Rattle.certainty.specs.ReadLaws.{zero_text, nowhere_text, text_there}
+use Rattle.certainty.proofs.ReadLaws.{zero_text, nowhere_text, text_there}
 use borrow.Author.Rules.{rules}
 use Rattle.certainty.proofs.reads.text_certain.Statement.{statement}
 use Rattle.certainty.proofs.reads.text_certain.Tie as tie

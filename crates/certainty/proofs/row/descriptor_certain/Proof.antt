@@ -2,7 +2,7 @@
 -- Assumes nothing.
 use native.Mathlib.Omega.{arith}
 use mathlib.Core.Path.{sym, ◌∙◌}
-use Rattle.certainty.specs.ReadLaws.{short_descriptor, high_descriptor, named_descriptor}
+use Rattle.certainty.proofs.ReadLaws.{short_descriptor, high_descriptor, named_descriptor}
 use borrow.Author.Rules.{rules}
 use Rattle.certainty.proofs.row.descriptor_certain.Statement.{statement}
 use Rattle.certainty.proofs.row.descriptor_certain.Tie as tie

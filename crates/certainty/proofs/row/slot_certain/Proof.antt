@@ -1,10 +1,10 @@
 -- `certainty::row::slot_certain` meets its contract.
 -- Assumes nothing.
 use mathlib.Core.Path.{◌∙◌}
-use Rattle.util.specs.AnswersLaws.{told}
+use Rattle.util.proofs.AnswersLaws.{told}
 use Rattle.segment.specs.VmAddress.{address_of}
 use Rattle.certainty.specs.Certain.{certain}
-use Rattle.certainty.specs.ReadLaws.{slot_reads}
+use Rattle.certainty.proofs.ReadLaws.{slot_reads}
 use borrow.Author.Rules.{rules}
 use Rattle.certainty.proofs.row.slot_certain.Statement.{statement}
 use Rattle.certainty.proofs.row.slot_certain.Tie as tie

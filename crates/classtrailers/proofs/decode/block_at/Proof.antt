@@ -1,6 +1,6 @@
 -- `classtrailers::decode::block_at` meets its contract: each arm is a row of the table.
 -- Assumes nothing.
-use Rattle.classtrailers.specs.CallsLaws.{kind_says}
+use Rattle.classtrailers.proofs.CallsLaws.{kind_says}
 use Rattle.classtrailers.specs.Blocks.{row_at, block_at}
 use Rattle.runtime.specs.Reads.{run}
 use borrow.Author.Rules.{rules}

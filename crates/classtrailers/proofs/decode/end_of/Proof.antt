@@ -1,7 +1,7 @@
 -- `classtrailers::decode::end_of` meets its contract.
 -- Assumes nothing.
 use native.Mathlib.Omega.{arith}
-use Rattle.classtrailers.specs.CallsLaws.{ends_above, ends_below}
+use Rattle.classtrailers.proofs.CallsLaws.{ends_above, ends_below}
 use borrow.Author.Rules.{rules}
 use Rattle.classtrailers.proofs.decode.end_of.Statement.{statement}
 use Rattle.classtrailers.proofs.decode.end_of.Tie as tie

@@ -2,9 +2,9 @@
 -- Assumes nothing.
 use native.Mathlib.Omega.{arith}
 use mathlib.Core.Path.{refl, ◌∙◌}
-use Rattle.util.specs.AnswersLaws.{told}
+use Rattle.util.proofs.AnswersLaws.{told}
 use Rattle.segment.specs.VmAddress.{address_of}
-use Rattle.classtrailers.specs.CallsLaws.{no_header, end_overflows, block_says, below_some, entries_fit}
+use Rattle.classtrailers.proofs.CallsLaws.{no_header, end_overflows, block_says, below_some, entries_fit}
 use borrow.Author.Rules.{rules}
 use Rattle.classtrailers.proofs.decode.entries_at.Statement.{statement}
 use Rattle.classtrailers.proofs.decode.entries_at.Tie as tie

@@ -2,7 +2,7 @@
 -- Assumes nothing.
 use native.Mathlib.Omega.{arith}
 use mathlib.Core.Path.{refl}
-use Rattle.classtrailers.specs.CallsLaws.{no_header, set_says, set_counted}
+use Rattle.classtrailers.proofs.CallsLaws.{no_header, set_says, set_counted}
 use Rattle.classtrailers.specs.Blocks.{row_at}
 use borrow.Author.Rules.{rules}
 use Rattle.classtrailers.proofs.decode.invertible_at.Statement.{statement}

@@ -1,8 +1,8 @@
 -- `classtrailers::decode::unread` meets its contract.
 -- Assumes nothing.
-use Rattle.util.specs.AnswersLaws.{told}
+use Rattle.util.proofs.AnswersLaws.{told}
 use Rattle.segment.specs.VmAddress.{address_of}
-use Rattle.classtrailers.specs.CallsLaws.{ends_as}
+use Rattle.classtrailers.proofs.CallsLaws.{ends_as}
 use borrow.Author.Rules.{rules}
 use Rattle.classtrailers.proofs.decode.unread.Statement.{statement}
 use Rattle.classtrailers.proofs.decode.unread.Tie as tie

@@ -2,9 +2,9 @@
 -- Assumes nothing.
 use native.Mathlib.Omega.{arith}
 use mathlib.Core.Path.{refl, ◌∙◌}
-use Rattle.util.specs.AnswersLaws.{told}
+use Rattle.util.proofs.AnswersLaws.{told}
 use Rattle.segment.specs.VmAddress.{address_of}
-use Rattle.classtrailers.specs.CallsLaws.{no_header, end_overflows, block_says, below_some}
+use Rattle.classtrailers.proofs.CallsLaws.{no_header, end_overflows, block_says, below_some}
 use Rattle.classtrailers.specs.Blocks.{row_at}
 use borrow.Author.Rules.{rules}
 use Rattle.classtrailers.proofs.decode.vtable_at.Statement.{statement}

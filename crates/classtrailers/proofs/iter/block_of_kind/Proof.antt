@@ -5,13 +5,13 @@ use Prim.Native.Nat.{◌-◌, ◌≤◌}
 use mathlib.Core.Path.{◌≡◌, sym, ◌∙◌}
 use mathlib.Core.Option.{some}
 use borrow.Author.Tests.{not-true, not-false}
-use Rattle.util.specs.AnswersLaws.{told}
+use Rattle.util.proofs.AnswersLaws.{told}
 use Rattle.runtime.specs.Reads.{run}
 use Rattle.segment.specs.Mapping.{with_mapping}
 use Rattle.classtrailers.specs.Blocks.{reached, block}
 use Rattle.segment.specs.VmAddress.{address_of}
 use Rattle.classtrailers.specs.Calls.{trailing_of, block_at_of}
-use Rattle.classtrailers.specs.CallsLaws.{record_says, reached_start, reached_next, kind_absent, kind_stops, kind_there_lem}
+use Rattle.classtrailers.proofs.CallsLaws.{record_says, reached_start, reached_next, kind_absent, kind_stops, kind_there_lem}
 use borrow.Author.Rules.{rules}
 use Rattle.classtrailers.proofs.iter.block_of_kind.Statement.{statement}
 use Rattle.classtrailers.proofs.iter.block_of_kind.Tie as tie

@@ -1,8 +1,8 @@
 -- `classtrailers::iter::pass` meets its contract.
 -- Assumes nothing.
-use Rattle.util.specs.AnswersLaws.{told}
+use Rattle.util.proofs.AnswersLaws.{told}
 use Rattle.classtrailers.specs.Calls.{kind_read_of, block_at_of}
-use Rattle.classtrailers.specs.CallsLaws.{pass_none, pass_kind}
+use Rattle.classtrailers.proofs.CallsLaws.{pass_none, pass_kind}
 use borrow.Author.Rules.{rules}
 use Rattle.classtrailers.proofs.iter.pass.Statement.{statement}
 use Rattle.classtrailers.proofs.iter.pass.Tie as tie

@@ -1,8 +1,8 @@
 -- `classtrailers::iter::step_at` meets its contract.
 -- Assumes nothing.
-use Rattle.util.specs.AnswersLaws.{told}
+use Rattle.util.proofs.AnswersLaws.{told}
 use Rattle.classtrailers.specs.Calls.{block_at_of}
-use Rattle.classtrailers.specs.CallsLaws.{step_kind}
+use Rattle.classtrailers.proofs.CallsLaws.{step_kind}
 use borrow.Author.Rules.{rules}
 use Rattle.classtrailers.proofs.iter.step_at.Statement.{statement}
 use Rattle.classtrailers.proofs.iter.step_at.Tie as tie

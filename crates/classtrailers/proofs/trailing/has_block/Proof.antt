@@ -1,7 +1,7 @@
 -- `classtrailers::trailing::has_block` meets its contract: each arm is a row of the table.
 -- Assumes nothing.
 use native.Mathlib.Nat.{div-one}
-use Rattle.classtrailers.specs.CallsLaws.{kind_has}
+use Rattle.classtrailers.proofs.CallsLaws.{kind_has}
 use Rattle.classtrailers.specs.Blocks.{row_at}
 use borrow.Author.Rules.{rules}
 use Rattle.classtrailers.proofs.trailing.has_block.Statement.{statement}

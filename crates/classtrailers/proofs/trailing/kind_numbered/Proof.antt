@@ -2,7 +2,7 @@
 -- Assumes nothing.
 use native.Mathlib.Omega.{arith}
 use mathlib.Core.Path.{refl}
-use Rattle.classtrailers.specs.CallsLaws.{past, kind_as, no_kind}
+use Rattle.classtrailers.proofs.CallsLaws.{past, kind_as, no_kind}
 use Rattle.classtrailers.specs.Blocks.{kind_numbered}
 use Rattle.classtrailers.proofs.trailing.kind_numbered.Statement.{statement}
 use Rattle.classtrailers.proofs.trailing.kind_numbered.Tie as tie

@@ -1,9 +1,9 @@
 -- `classtrailers::trailing::kind_there` meets its contract.
 -- Assumes nothing.
 use mathlib.Core.Path.{sym, ◌∙◌}
-use Rattle.util.specs.AnswersLaws.{told}
+use Rattle.util.proofs.AnswersLaws.{told}
 use Rattle.classtrailers.specs.Calls.{kind_read_of}
-use Rattle.classtrailers.specs.CallsLaws.{there_kind, absent_kind, no_kind_there}
+use Rattle.classtrailers.proofs.CallsLaws.{there_kind, absent_kind, no_kind_there}
 use borrow.Author.Rules.{rules}
 use Rattle.classtrailers.proofs.trailing.kind_there.Statement.{statement}
 use Rattle.classtrailers.proofs.trailing.kind_there.Tie as tie

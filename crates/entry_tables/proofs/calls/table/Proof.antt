@@ -1,8 +1,8 @@
 -- `entry_tables::calls::table` meets its contract.
 -- Assumes nothing.
 use Rattle.std.proofs.Common.{refl, rules}
-use Rattle.entry_tables.specs.TablesLaws.{table_refused, table_accepted}
-use Rattle.util.specs.AnswersLaws.{told}
+use Rattle.entry_tables.proofs.TablesLaws.{table_refused, table_accepted}
+use Rattle.util.proofs.AnswersLaws.{told}
 use Rattle.refusal.specs.Guarded.{fault_of}
 use Rattle.entry_tables.proofs.calls.table.Statement.{statement}
 use Rattle.entry_tables.proofs.calls.table.Tie as tie

@@ -1,6 +1,6 @@
 -- `entry_tables::list::first_word` meets its contract.
 -- Assumes nothing.
-use Rattle.entry_tables.specs.TablesLaws.{numbered_word, pointer_word}
+use Rattle.entry_tables.proofs.TablesLaws.{numbered_word, pointer_word}
 use Rattle.std.proofs.Common.{rules}
 use Rattle.entry_tables.proofs.list.first_word.Statement.{statement}
 use Rattle.entry_tables.proofs.list.first_word.Tie as tie

@@ -1,6 +1,6 @@
 -- `entry_tables::list::list_entries` meets its contract.
 -- Assumes nothing.
-use Rattle.entry_tables.specs.TablesLaws.{lists_least}
+use Rattle.entry_tables.proofs.TablesLaws.{lists_least}
 use Rattle.std.proofs.Common.{rules}
 use Rattle.entry_tables.proofs.list.list_entries.Statement.{statement}
 use Rattle.entry_tables.proofs.list.list_entries.Tie as tie

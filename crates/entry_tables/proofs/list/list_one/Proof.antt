@@ -1,9 +1,9 @@
 -- `entry_tables::list::list_one` meets its contract.
 -- Assumes nothing.
 use Rattle.std.proofs.Common.{◌+◌, ◌*◌, arith, rules}
-use Rattle.util.specs.AnswersLaws.{case}
+use Rattle.util.proofs.AnswersLaws.{case}
 use Rattle.entry_tables.specs.Tables.{Opens}
-use Rattle.entry_tables.specs.TablesLaws.{opens_last, below_word, one_full, one_none, one_some}
+use Rattle.entry_tables.proofs.TablesLaws.{opens_last, below_word, one_full, one_none, one_some}
 use Rattle.entry_tables.proofs.list.list_one.Statement.{statement}
 use Rattle.entry_tables.proofs.list.list_one.Tie as tie
 

@@ -2,8 +2,8 @@
 -- Assumes nothing.
 use Rattle.std.proofs.Common.{◌+◌, ◌-◌, ◌*◌, arith, rules}
 use Rattle.entry_tables.specs.Tables.{entry_numbers, width, shape, Opens}
-use Rattle.entry_tables.specs.TablesLaws.{Listing, start_going, stops_end, room_for, room_few, opens_last, below_word, table_full, table_none, table_run}
-use Rattle.util.specs.AnswersLaws.{case}
+use Rattle.entry_tables.proofs.TablesLaws.{Listing, start_going, stops_end, room_for, room_few, opens_last, below_word, table_full, table_none, table_run}
+use Rattle.util.proofs.AnswersLaws.{case}
 use Rattle.entry_tables.proofs.list.list_runs.Statement.{statement}
 use Rattle.entry_tables.proofs.list.list_runs.Tie as tie
 

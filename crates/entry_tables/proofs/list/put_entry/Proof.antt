@@ -1,7 +1,7 @@
 -- `entry_tables::list::put_entry` meets its contract.
 -- Assumes nothing.
 use Rattle.std.proofs.Common.{arith, length-set, rules}
-use Rattle.entry_tables.specs.TablesLaws.{put_one, put_two, put_three}
+use Rattle.entry_tables.proofs.TablesLaws.{put_one, put_two, put_three}
 use Rattle.entry_tables.proofs.list.put_entry.Statement.{statement}
 use Rattle.entry_tables.proofs.list.put_entry.Tie as tie
 

@@ -1,7 +1,7 @@
 -- `entry_tables::list::put_from` meets its contract.
 -- Assumes nothing.
 use Rattle.std.proofs.Common.{◌+◌, ◌*◌, refl, rules}
-use Rattle.entry_tables.specs.TablesLaws.{put_words}
+use Rattle.entry_tables.proofs.TablesLaws.{put_words}
 use Rattle.entry_tables.proofs.list.put_from.Statement.{statement}
 use Rattle.entry_tables.proofs.list.put_from.Tie as tie
 

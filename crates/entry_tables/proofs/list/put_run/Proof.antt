@@ -1,7 +1,7 @@
 -- `entry_tables::list::put_run` meets its contract.
 -- Assumes nothing.
 use Rattle.std.proofs.Common.{◌≡◌, ◌+◌, ◌-◌, ◌*◌, ◌≤◌, arith, rules}
-use Rattle.entry_tables.specs.TablesLaws.{Ran, ran_none, run_fits, ran_on, far_on, ran_puts}
+use Rattle.entry_tables.proofs.TablesLaws.{Ran, ran_none, run_fits, ran_on, far_on, ran_puts}
 use Rattle.entry_tables.proofs.list.put_run.Statement.{statement}
 use Rattle.entry_tables.proofs.list.put_run.Tie as tie
 

@@ -1,6 +1,6 @@
 -- `entry_tables::list::stopped` meets its contract.
 -- Assumes nothing.
-use Rattle.entry_tables.specs.TablesLaws.{stop_full, stop_ended}
+use Rattle.entry_tables.proofs.TablesLaws.{stop_full, stop_ended}
 use Rattle.entry_tables.proofs.list.stopped.Statement.{statement}
 use Rattle.entry_tables.proofs.list.stopped.Tie as tie
 

@@ -1,6 +1,6 @@
 -- `entry_tables::list::words_at` meets its contract.
 -- Assumes nothing.
-use Rattle.entry_tables.specs.TablesLaws.{words_are}
+use Rattle.entry_tables.proofs.TablesLaws.{words_are}
 use Rattle.std.proofs.Common.{rules}
 use Rattle.entry_tables.proofs.list.words_at.Statement.{statement}
 use Rattle.entry_tables.proofs.list.words_at.Tie as tie

@@ -1,8 +1,8 @@
 -- `entry_tables::window::window_at` meets its contract.
 -- Assumes nothing.
 use Rattle.std.proofs.Common.{arith, rules}
-use Rattle.vtable.specs.EntriesLaws.{product}
-use Rattle.entry_tables.specs.TablesLaws.{place_wraps}
+use Rattle.vtable.proofs.EntriesLaws.{product}
+use Rattle.entry_tables.proofs.TablesLaws.{place_wraps}
 use Rattle.entry_tables.proofs.window.window_at.Statement.{statement}
 use Rattle.entry_tables.proofs.window.window_at.Tie as tie
 

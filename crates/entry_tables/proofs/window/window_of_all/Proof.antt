@@ -1,9 +1,9 @@
 -- `entry_tables::window::window_of_all` meets its contract.
 -- Assumes nothing.
 use Rattle.std.proofs.Common.{arith, rules}
-use Rattle.util.specs.AnswersLaws.{case}
+use Rattle.util.proofs.AnswersLaws.{case}
 use Rattle.segment.specs.Mapping.{Located}
-use Rattle.entry_tables.specs.TablesLaws.{opens_nowhere, opens_past, opens_least}
+use Rattle.entry_tables.proofs.TablesLaws.{opens_nowhere, opens_past, opens_least}
 use Rattle.entry_tables.proofs.window.window_of_all.Statement.{statement}
 use Rattle.entry_tables.proofs.window.window_of_all.Tie as tie
 

@@ -1,8 +1,8 @@
 -- `entry_tables::window::window_of_one` meets its contract.
 -- Assumes nothing.
-use Rattle.util.specs.AnswersLaws.{told}
+use Rattle.util.proofs.AnswersLaws.{told}
 use Rattle.runtime.specs.Bytes.{bytes_place_of}
-use Rattle.entry_tables.specs.TablesLaws.{opens_one, opens_none}
+use Rattle.entry_tables.proofs.TablesLaws.{opens_one, opens_none}
 use Rattle.std.proofs.Common.{rules}
 use Rattle.entry_tables.proofs.window.window_of_one.Statement.{statement}
 use Rattle.entry_tables.proofs.window.window_of_one.Tie as tie

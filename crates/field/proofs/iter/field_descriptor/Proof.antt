@@ -2,7 +2,7 @@
 -- Assumes nothing.
 use Rattle.std.proofs.Common.{ap, ◌∙◌, rules}
 use Rattle.context.specs.Field.{field_kind}
-use Rattle.field.specs.FieldsLaws.{descriptor_of_lem}
+use Rattle.field.proofs.FieldsLaws.{descriptor_of_lem}
 use Rattle.field.proofs.iter.field_descriptor.Statement.{statement}
 use Rattle.field.proofs.iter.field_descriptor.Tie as tie
 

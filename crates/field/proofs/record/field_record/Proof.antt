@@ -1,7 +1,7 @@
 -- `field::record::field_record` meets its contract.
 -- Assumes nothing.
 use Rattle.vtable.specs.Entries.{packed}
-use Rattle.vtable.specs.EntriesLaws.{entry_of_lem}
+use Rattle.vtable.proofs.EntriesLaws.{entry_of_lem}
 use Rattle.field.specs.Records.{record_words}
 use Rattle.std.proofs.Common.{rules}
 use Rattle.field.proofs.record.field_record.Statement.{statement}

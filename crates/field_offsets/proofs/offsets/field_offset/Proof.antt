@@ -1,6 +1,6 @@
 -- `field_offsets::offsets::field_offset` meets its contract.
 -- Assumes nothing.
-use Rattle.field_offsets.specs.OffsetsLaws.{offset_of_lem}
+use Rattle.field_offsets.proofs.OffsetsLaws.{offset_of_lem}
 use borrow.Author.Rules.{rules}
 use Rattle.field_offsets.proofs.offsets.field_offset.Statement.{statement}
 use Rattle.field_offsets.proofs.offsets.field_offset.Tie as tie

@@ -2,7 +2,7 @@
 -- Assumes nothing.
 use mathlib.Core.Path.{refl}
 use Rattle.field_offsets.specs.Offsets.{vector}
-use Rattle.field_offsets.specs.OffsetsLaws.{offsets_of_lem, no_offsets_of}
+use Rattle.field_offsets.proofs.OffsetsLaws.{offsets_of_lem, no_offsets_of}
 use borrow.Author.Rules.{rules}
 use Rattle.field_offsets.proofs.offsets.field_offsets.Statement.{statement}
 use Rattle.field_offsets.proofs.offsets.field_offsets.Tie as tie

@@ -1,11 +1,11 @@
 -- `field_offsets::offsets::metadata_after` meets its contract.
 -- Assumes nothing.
 use mathlib.Core.Path.{ap}
-use Rattle.util.specs.AnswersLaws.{told}
+use Rattle.util.proofs.AnswersLaws.{told}
 use Rattle.classtrailers.specs.Calls.{block_read_of}
 use Rattle.type_body.specs.Items.{trailers_of}
 use Rattle.field_offsets.specs.Offsets.{metadata_after}
-use Rattle.field_offsets.specs.OffsetsLaws.{no_block, by_block}
+use Rattle.field_offsets.proofs.OffsetsLaws.{no_block, by_block}
 use borrow.Author.Rules.{rules}
 use Rattle.field_offsets.proofs.offsets.metadata_after.Statement.{statement}
 use Rattle.field_offsets.proofs.offsets.metadata_after.Tie as tie

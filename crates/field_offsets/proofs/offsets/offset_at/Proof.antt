@@ -1,9 +1,9 @@
 -- `field_offsets::offsets::offset_at` meets its contract: each `return` is a case of `offsetIn`.
 -- Assumes nothing.
 use native.Mathlib.Omega.{arith}
-use Rattle.util.specs.AnswersLaws.{told}
+use Rattle.util.proofs.AnswersLaws.{told}
 use Rattle.util.specs.LittleEndian.{u32_value}
-use Rattle.field_offsets.specs.OffsetsLaws.{no_number, not_whole, number_at}
+use Rattle.field_offsets.proofs.OffsetsLaws.{no_number, not_whole, number_at}
 use borrow.Author.Rules.{rules}
 use Rattle.field_offsets.proofs.offsets.offset_at.Statement.{statement}
 use Rattle.field_offsets.proofs.offsets.offset_at.Tie as tie

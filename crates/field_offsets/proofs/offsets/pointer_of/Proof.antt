@@ -1,7 +1,7 @@
 -- `field_offsets::offsets::pointer_of` meets its contract.
 -- Assumes nothing.
 use mathlib.Core.Path.{refl}
-use Rattle.field_offsets.specs.OffsetsLaws.{pointer_of_lem, no_pointer_of}
+use Rattle.field_offsets.proofs.OffsetsLaws.{pointer_of_lem, no_pointer_of}
 use borrow.Author.Rules.{rules}
 use Rattle.field_offsets.proofs.offsets.pointer_of.Statement.{statement}
 use Rattle.field_offsets.proofs.offsets.pointer_of.Tie as tie

@@ -1,9 +1,9 @@
 -- `field_offsets::offsets::static_field_offsets` meets its contract.
 -- Assumes nothing.
 use mathlib.Core.Path.{refl}
-use Rattle.util.specs.AnswersLaws.{told}
+use Rattle.util.proofs.AnswersLaws.{told}
 use Rattle.type_body.specs.Singleton.{pointer_of}
-use Rattle.field_offsets.specs.OffsetsLaws.{static_at}
+use Rattle.field_offsets.proofs.OffsetsLaws.{static_at}
 use borrow.Author.Rules.{rules}
 use Rattle.field_offsets.proofs.offsets.static_field_offsets.Statement.{statement}
 use Rattle.field_offsets.proofs.offsets.static_field_offsets.Tie as tie

@@ -1,9 +1,9 @@
 -- `field_offsets::offsets::struct_offsets` meets its contract: each `return` is a case of `offsetsPlace`.
 -- Assumes nothing.
 use native.Mathlib.Omega.{arith}
-use Rattle.util.specs.AnswersLaws.{told}
+use Rattle.util.proofs.AnswersLaws.{told}
 use Rattle.runtime.specs.Bytes.{bytes_place_of}
-use Rattle.field_offsets.specs.OffsetsLaws.{no_offsets, offsets_at}
+use Rattle.field_offsets.proofs.OffsetsLaws.{no_offsets, offsets_at}
 use borrow.Author.Rules.{rules}
 use Rattle.field_offsets.proofs.offsets.struct_offsets.Statement.{statement}
 use Rattle.field_offsets.proofs.offsets.struct_offsets.Tie as tie

@@ -1,8 +1,8 @@
 -- `full_rows::calls::full_rows` meets its contract.
 -- Assumes nothing.
-use Rattle.entry_tables.specs.TablesLaws.{listed_refused, listed_accepted}
+use Rattle.entry_tables.proofs.TablesLaws.{listed_refused, listed_accepted}
 use Rattle.full_rows.specs.FullRows.{given_of, numbers_of}
-use Rattle.util.specs.AnswersLaws.{told}
+use Rattle.util.proofs.AnswersLaws.{told}
 use Rattle.refusal.specs.Guarded.{fault_of}
 use borrow.Author.Rules.{rules}
 use Rattle.full_rows.proofs.calls.full_rows.Statement.{statement}

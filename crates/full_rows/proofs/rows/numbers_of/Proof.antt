@@ -1,7 +1,7 @@
 -- `full_rows::rows::numbers_of` meets its contract.
 -- Assumes nothing.
 use mathlib.Core.Path.{refl}
-use Rattle.full_rows.specs.BlocksLaws.{recorded_as}
+use Rattle.full_rows.proofs.BlocksLaws.{recorded_as}
 use borrow.Author.Rules.{rules}
 use Rattle.full_rows.proofs.rows.numbers_of.Statement.{statement}
 use Rattle.full_rows.proofs.rows.numbers_of.Tie as tie

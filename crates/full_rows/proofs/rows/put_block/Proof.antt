@@ -3,7 +3,7 @@
 use Prim.Native.Nat.{ℕ}
 use mathlib.Core.Path.{ap}
 use mathlib.Core.List.{List, ◌∷◌}
-use Rattle.entry_tables.specs.PastedLaws.{pasted_as}
+use Rattle.entry_tables.proofs.PastedLaws.{pasted_as}
 use borrow.Author.Rules.{rules}
 use Rattle.full_rows.proofs.rows.put_block.Statement.{statement}
 use Rattle.full_rows.proofs.rows.put_block.Tie as tie

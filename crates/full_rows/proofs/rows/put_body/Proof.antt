@@ -1,9 +1,9 @@
 -- `full_rows::rows::put_body` meets its contract.
 -- Assumes nothing.
 use native.Mathlib.Omega.{arith}
-use Rattle.entry_tables.specs.PastedLaws.{pasted_as}
-use Rattle.full_rows.specs.BlocksLaws.{eight_put}
-use Rattle.full_rows.specs.FullRowsLaws.{body_known}
+use Rattle.entry_tables.proofs.PastedLaws.{pasted_as}
+use Rattle.full_rows.proofs.BlocksLaws.{eight_put}
+use Rattle.full_rows.proofs.FullRowsLaws.{body_known}
 use borrow.Author.Rules.{rules}
 use Rattle.full_rows.proofs.rows.put_body.Statement.{statement}
 use Rattle.full_rows.proofs.rows.put_body.Tie as tie

@@ -1,8 +1,8 @@
 -- `full_rows::rows::put_class` meets its contract.
 -- Assumes nothing.
 use native.Mathlib.Omega.{arith}
-use Rattle.full_rows.specs.BlocksLaws.{eight_put}
-use Rattle.full_rows.specs.FullRowsLaws.{class_known}
+use Rattle.full_rows.proofs.BlocksLaws.{eight_put}
+use Rattle.full_rows.proofs.FullRowsLaws.{class_known}
 use borrow.Author.Rules.{rules}
 use Rattle.full_rows.proofs.rows.put_class.Statement.{statement}
 use Rattle.full_rows.proofs.rows.put_class.Tie as tie

@@ -2,7 +2,7 @@
 -- Assumes nothing.
 use native.Mathlib.Omega.{arith}
 use lib.ListN.{length-set}
-use Rattle.entry_tables.specs.PastedLaws.{four_put}
+use Rattle.entry_tables.proofs.PastedLaws.{four_put}
 use borrow.Author.Rules.{rules}
 use Rattle.full_rows.proofs.rows.put_four.Statement.{statement}
 use Rattle.full_rows.proofs.rows.put_four.Tie as tie

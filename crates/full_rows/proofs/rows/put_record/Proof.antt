@@ -1,12 +1,12 @@
 -- `full_rows::rows::put_record` meets its contract: the row, its body, and the blocks.
 -- Assumes nothing.
 use mathlib.Core.Path.{◌∙◌, ap}
-use Rattle.util.specs.AnswersLaws.{told}
+use Rattle.util.proofs.AnswersLaws.{told}
 use Rattle.typedescriptor.specs.Row.{row_of}
 use Rattle.type_body.specs.Items.{trailers_of}
 use Rattle.full_rows.specs.FullRows.{block_fours}
-use Rattle.full_rows.specs.BlocksLaws.{none_follow}
-use Rattle.full_rows.specs.FullRowsLaws.{parts_put}
+use Rattle.full_rows.proofs.BlocksLaws.{none_follow}
+use Rattle.full_rows.proofs.FullRowsLaws.{parts_put}
 use borrow.Author.Rules.{rules}
 use Rattle.full_rows.proofs.rows.put_record.Statement.{statement}
 use Rattle.full_rows.proofs.rows.put_record.Tie as tie

@@ -1,7 +1,7 @@
 -- `full_rows::rows::put_row` meets its contract.
 -- Assumes nothing.
 use native.Mathlib.Omega.{arith}
-use Rattle.full_rows.specs.BlocksLaws.{six_put}
+use Rattle.full_rows.proofs.BlocksLaws.{six_put}
 use borrow.Author.Rules.{rules}
 use Rattle.full_rows.proofs.rows.put_row.Statement.{statement}
 use Rattle.full_rows.proofs.rows.put_row.Tie as tie

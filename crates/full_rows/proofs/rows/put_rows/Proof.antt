@@ -2,11 +2,11 @@
 -- Assumes nothing.
 use native.Mathlib.Omega.{arith}
 use Prim.Native.Nat.{◌-◌, ◌*◌}
-use Rattle.segment.specs.MappingLaws.{empty_mapped}
+use Rattle.segment.proofs.MappingLaws.{empty_mapped}
 use Rattle.typedescriptor.specs.Row.{row_of}
-use Rattle.typedescriptor.specs.GivenLaws.{Going, start_going, ended, passes, full, goes_on_lem}
+use Rattle.typedescriptor.proofs.GivenLaws.{Going, start_going, ended, passes, full, goes_on_lem}
 use Rattle.full_rows.specs.FullRows.{full_row}
-use Rattle.full_rows.specs.FullRowsLaws.{full_row_long, row_mapped, records_told}
+use Rattle.full_rows.proofs.FullRowsLaws.{full_row_long, row_mapped, records_told}
 use borrow.Author.Rules.{rules}
 use Rattle.full_rows.proofs.rows.put_rows.Statement.{statement}
 use Rattle.full_rows.proofs.rows.put_rows.Tie as tie

@@ -2,7 +2,7 @@
 -- Assumes nothing.
 use native.Mathlib.Omega.{arith}
 use lib.ListN.{length-set}
-use Rattle.entry_tables.specs.PastedLaws.{two_put}
+use Rattle.entry_tables.proofs.PastedLaws.{two_put}
 use borrow.Author.Rules.{rules}
 use Rattle.full_rows.proofs.rows.put_two.Statement.{statement}
 use Rattle.full_rows.proofs.rows.put_two.Tie as tie

@@ -5,7 +5,7 @@ use Prim.Native.Nat.{◌-◌, ◌≤◌}
 use mathlib.Core.Path.{◌≡◌, refl, ◌∙◌}
 use lib.ListN.{length, replicate, length-set}
 use Rattle.util.specs.Buffer.{pasted}
-use Rattle.full_rows.specs.BlocksLaws.{zeros_start, zeros_more, zeros_all}
+use Rattle.full_rows.proofs.BlocksLaws.{zeros_start, zeros_more, zeros_all}
 use borrow.Author.Rules.{rules}
 use Rattle.full_rows.proofs.rows.put_zeros.Statement.{statement}
 use Rattle.full_rows.proofs.rows.put_zeros.Tie as tie

@@ -1,7 +1,7 @@
 -- `full_rows::rows::table_numbers` meets its contract.
 -- Assumes nothing.
 use native.Mathlib.Omega.{arith}
-use Rattle.full_rows.specs.BlocksLaws.{vtable_numbers, other_numbers}
+use Rattle.full_rows.proofs.BlocksLaws.{vtable_numbers, other_numbers}
 use borrow.Author.Rules.{rules}
 use Rattle.full_rows.proofs.rows.table_numbers.Statement.{statement}
 use Rattle.full_rows.proofs.rows.table_numbers.Tie as tie

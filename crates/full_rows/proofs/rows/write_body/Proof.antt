@@ -1,7 +1,7 @@
 -- `full_rows::rows::write_body` meets its contract.
 -- Assumes nothing.
 use Rattle.type_body.specs.Body.{body_of}
-use Rattle.full_rows.specs.FullRowsLaws.{body_alone}
+use Rattle.full_rows.proofs.FullRowsLaws.{body_alone}
 use borrow.Author.Rules.{rules}
 use Rattle.full_rows.proofs.rows.write_body.Statement.{statement}
 use Rattle.full_rows.proofs.rows.write_body.Tie as tie

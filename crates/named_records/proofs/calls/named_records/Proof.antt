@@ -1,8 +1,8 @@
 -- `named_records::calls::named_records` meets its contract.
 -- Assumes nothing.
 use mathlib.Core.Path.{refl}
-use Rattle.entry_tables.specs.TablesLaws.{table_refused, table_accepted}
-use Rattle.util.specs.AnswersLaws.{told}
+use Rattle.entry_tables.proofs.TablesLaws.{table_refused, table_accepted}
+use Rattle.util.proofs.AnswersLaws.{told}
 use Rattle.refusal.specs.Guarded.{fault_of}
 use borrow.Author.Rules.{rules}
 use Rattle.named_records.proofs.calls.named_records.Statement.{statement}

@@ -1,7 +1,7 @@
 -- `named_records::records::put_field_name` meets its contract.
 -- Assumes nothing.
-use Rattle.entry_tables.specs.PastedLaws.{pasted_as}
-use Rattle.named_records.specs.NamedRecordsLaws.{name_known}
+use Rattle.entry_tables.proofs.PastedLaws.{pasted_as}
+use Rattle.named_records.proofs.NamedRecordsLaws.{name_known}
 use borrow.Author.Rules.{rules}
 use Rattle.named_records.proofs.records.put_field_name.Statement.{statement}
 use Rattle.named_records.proofs.records.put_field_name.Tie as tie

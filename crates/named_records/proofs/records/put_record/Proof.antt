@@ -1,6 +1,6 @@
 -- `named_records::records::put_record` meets its contract: the record's own numbers, then its names.
 -- Assumes nothing.
-use Rattle.named_records.specs.NamedRecordsLaws.{names_put}
+use Rattle.named_records.proofs.NamedRecordsLaws.{names_put}
 use borrow.Author.Rules.{rules}
 use Rattle.named_records.proofs.records.put_record.Statement.{statement}
 use Rattle.named_records.proofs.records.put_record.Tie as tie

@@ -1,7 +1,7 @@
 -- `named_records::records::put_text` meets its contract.
 -- Assumes nothing.
-use Rattle.entry_tables.specs.PastedLaws.{pasted_as}
-use Rattle.named_records.specs.NamedRecordsLaws.{text_known}
+use Rattle.entry_tables.proofs.PastedLaws.{pasted_as}
+use Rattle.named_records.proofs.NamedRecordsLaws.{text_known}
 use borrow.Author.Rules.{rules}
 use Rattle.named_records.proofs.records.put_text.Statement.{statement}
 use Rattle.named_records.proofs.records.put_text.Tie as tie

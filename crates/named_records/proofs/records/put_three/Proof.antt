@@ -2,7 +2,7 @@
 -- Assumes nothing.
 use native.Mathlib.Omega.{arith}
 use lib.ListN.{length-set}
-use Rattle.entry_tables.specs.PastedLaws.{three_put}
+use Rattle.entry_tables.proofs.PastedLaws.{three_put}
 use borrow.Author.Rules.{rules}
 use Rattle.named_records.proofs.records.put_three.Statement.{statement}
 use Rattle.named_records.proofs.records.put_three.Tie as tie

@@ -2,7 +2,7 @@
 -- Assumes nothing.
 use native.Mathlib.Omega.{arith}
 use lib.ListN.{length-set}
-use Rattle.entry_tables.specs.PastedLaws.{four_put}
+use Rattle.entry_tables.proofs.PastedLaws.{four_put}
 use borrow.Author.Rules.{rules}
 use Rattle.named_records.proofs.records.put_words.Statement.{statement}
 use Rattle.named_records.proofs.records.put_words.Tie as tie

@@ -1,8 +1,8 @@
 -- `parent::header::read_context` meets its contract.
 -- Assumes nothing.
-use Rattle.util.specs.AnswersLaws.{told}
+use Rattle.util.proofs.AnswersLaws.{told}
 use Rattle.parent.specs.Context.{header_of}
-use Rattle.parent.specs.ContextLaws.{unnamed, is_named, no_context, context_at_lem}
+use Rattle.parent.proofs.ContextLaws.{unnamed, is_named, no_context, context_at_lem}
 use borrow.Author.Rules.{rules}
 use Rattle.parent.proofs.header.read_context.Statement.{statement}
 use Rattle.parent.proofs.header.read_context.Tie as tie

@@ -2,7 +2,7 @@
 -- Assumes nothing.
 use native.Mathlib.Omega.{arith}
 use mathlib.Core.Path.{sym, ◌∙◌}
-use Rattle.parent.specs.ContextLaws.{inside, name_wraps, no_slot, no_offset, name_at_lem}
+use Rattle.parent.proofs.ContextLaws.{inside, name_wraps, no_slot, no_offset, name_at_lem}
 use borrow.Author.Rules.{rules}
 use Rattle.parent.proofs.header.read_context_name.Statement.{statement}
 use Rattle.parent.proofs.header.read_context_name.Tie as tie

@@ -1,7 +1,7 @@
 -- `parent::header::read_header` meets its contract: each `return` is a case of `header`.
 -- Assumes nothing.
 use native.Mathlib.Omega.{arith}
-use Rattle.parent.specs.ContextLaws.{zero_header, no_header, parent_wraps, header_at}
+use Rattle.parent.proofs.ContextLaws.{zero_header, no_header, parent_wraps, header_at}
 use borrow.Author.Rules.{rules}
 use Rattle.parent.proofs.header.read_header.Statement.{statement}
 use Rattle.parent.proofs.header.read_header.Tie as tie

@@ -4,7 +4,7 @@ use borrow.Author.Rules.{rules}
 use native.Mathlib.Omega.{arith}
 use Prim.Native.Nat.{◌-◌}
 use lib.ListN.{length}
-use Rattle.qualified_name.specs.HeldLaws.{Copying, copy_start, copy_length, copy_next, copy_all}
+use Rattle.qualified_name.proofs.HeldLaws.{Copying, copy_start, copy_length, copy_next, copy_all}
 use Rattle.qualified_name.proofs.name.copy_names.Statement.{statement}
 use Rattle.qualified_name.proofs.name.copy_names.Tie as tie
 

@@ -1,7 +1,7 @@
 -- `qualified_name::name::join` meets its contract.
 -- Assumes nothing.
 use native.Mathlib.Omega.{arith}
-use Rattle.qualified_name.specs.HeldLaws.{held_short, join_long, join_fits, join_written}
+use Rattle.qualified_name.proofs.HeldLaws.{held_short, join_long, join_fits, join_written}
 use borrow.Author.Rules.{rules}
 use Rattle.qualified_name.proofs.name.join.Statement.{statement}
 use Rattle.qualified_name.proofs.name.join.Tie as tie

@@ -3,7 +3,7 @@
 use borrow.Author.Rules.{rules}
 use native.Mathlib.Omega.{arith}
 use mathlib.Core.Path.{refl}
-use Rattle.qualified_name.specs.HeldLaws.{Measuring, measure_start, measure_two, measure_none, measure_one}
+use Rattle.qualified_name.proofs.HeldLaws.{Measuring, measure_start, measure_two, measure_none, measure_one}
 use Rattle.qualified_name.proofs.name.measure.Statement.{statement}
 use Rattle.qualified_name.proofs.name.measure.Tie as tie
 

@@ -2,9 +2,9 @@
 -- Assumes nothing.
 use native.Mathlib.Omega.{arith}
 use mathlib.Core.Path.{refl}
-use Rattle.util.specs.AnswersLaws.{case}
+use Rattle.util.proofs.AnswersLaws.{case}
 use Rattle.qualified_name.specs.Walk.{Joins}
-use Rattle.qualified_name.specs.WalkLaws.{copied_kept, copied_written}
+use Rattle.qualified_name.proofs.WalkLaws.{copied_kept, copied_written}
 use borrow.Author.Rules.{rules}
 use Rattle.qualified_name.proofs.name.name_in_256.Statement.{statement}
 use Rattle.qualified_name.proofs.name.name_in_256.Tie as tie

@@ -2,7 +2,7 @@
 -- Assumes nothing.
 use borrow.Author.Rules.{rules}
 use native.Mathlib.Omega.{arith}
-use Rattle.qualified_name.specs.HeldLaws.{Putting, put_start, put_two, put_last, put_one, put_kept}
+use Rattle.qualified_name.proofs.HeldLaws.{Putting, put_start, put_two, put_last, put_one, put_kept}
 use Rattle.qualified_name.proofs.name.put_pieces.Statement.{statement}
 use Rattle.qualified_name.proofs.name.put_pieces.Tie as tie
 

@@ -2,11 +2,11 @@
 -- Assumes nothing.
 use native.Mathlib.Omega.{arith}
 use lib.ListN.{replicate}
-use Rattle.util.specs.AnswersLaws.{case}
+use Rattle.util.proofs.AnswersLaws.{case}
 use Rattle.qualified_name.specs.Walk.{Joins}
-use Rattle.parent.specs.ContextLaws.{zero_header, no_context}
-use Rattle.qualified_name.specs.NameLaws.{name_written}
-use Rattle.qualified_name.specs.WalkLaws.{own_kept, own_written, alone_long, alone_written, further_kept, further_written}
+use Rattle.parent.proofs.ContextLaws.{zero_header, no_context}
+use Rattle.qualified_name.proofs.NameLaws.{name_written}
+use Rattle.qualified_name.proofs.WalkLaws.{own_kept, own_written, alone_long, alone_written, further_kept, further_written}
 use borrow.Author.Rules.{rules}
 use Rattle.qualified_name.proofs.name.qualified_name_near.Statement.{statement}
 use Rattle.qualified_name.proofs.name.qualified_name_near.Tie as tie

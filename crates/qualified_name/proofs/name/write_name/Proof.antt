@@ -7,10 +7,10 @@ use Prim.Native.Nat.{◌+◌, ◌*◌}
 use mathlib.Core.Path.{◌≡◌, refl, ap}
 use lib.ListN.{length, length-set}
 use Rattle.segment.specs.Mapping.{with_mapping}
-use Rattle.util.specs.AnswersLaws.{told, case}
+use Rattle.util.proofs.AnswersLaws.{told, case}
 use Rattle.parent.specs.Context.{header_of, name_read, Inside}
-use Rattle.parent.specs.ContextLaws.{unnamed, is_named, no_context, context_at_lem}
-use Rattle.qualified_name.specs.WalkLaws.{Moved, not_moved, walk_ends, walk_deep, walk_unnamed, walk_named, walk_full}
+use Rattle.parent.proofs.ContextLaws.{unnamed, is_named, no_context, context_at_lem}
+use Rattle.qualified_name.proofs.WalkLaws.{Moved, not_moved, walk_ends, walk_deep, walk_unnamed, walk_named, walk_full}
 use Rattle.qualified_name.proofs.name.write_name.Statement.{statement}
 use Rattle.qualified_name.proofs.name.write_name.Tie as tie
 

@@ -1,7 +1,7 @@
 -- `runtime::reads::find_bytes` meets its contract: each `return` is a case of `bytesPlace`.
 -- Assumes nothing.
 use native.Mathlib.Omega.{arith}
-use Rattle.util.specs.AnswersLaws.{told}
+use Rattle.util.proofs.AnswersLaws.{told}
 use Rattle.segment.specs.Segments.{offset_of}
 use Rattle.runtime.specs.CallsLaws.{bytes_at_lem, bytes_past, bytes_nowhere}
 use borrow.Author.Rules.{rules}

@@ -1,6 +1,6 @@
 -- `runtime::reads::read_bytes` meets its contract.
 -- Assumes nothing.
-use Rattle.util.specs.AnswersLaws.{told}
+use Rattle.util.proofs.AnswersLaws.{told}
 use Rattle.runtime.specs.Bytes.{bytes_place_of}
 use Rattle.runtime.specs.CallsLaws.{read_at_lem, read_nothing}
 use borrow.Author.Rules.{rules}

@@ -1,6 +1,6 @@
 -- `runtime::reads::read_cstr` meets its contract: each `return` is a case of `textPlace`.
 -- Assumes nothing.
-use Rattle.util.specs.AnswersLaws.{told}
+use Rattle.util.proofs.AnswersLaws.{told}
 use Rattle.segment.specs.Segments.{offset_of}
 use Rattle.util.specs.Cstr.{text_of}
 use Rattle.runtime.specs.CallsLaws.{text_zero, text_at_lem, text_there, text_nowhere}

@@ -1,6 +1,6 @@
 -- `runtime::reflstr::lookup_field_name` meets its contract: each `return` is a case of `fieldName`.
 -- Assumes nothing.
-use Rattle.util.specs.AnswersLaws.{told}
+use Rattle.util.proofs.AnswersLaws.{told}
 use Rattle.util.specs.Cstr.{text_of}
 use Rattle.runtime.specs.CallsLaws.{name_zero, name_image, name_strings}
 use borrow.Author.Rules.{rules}

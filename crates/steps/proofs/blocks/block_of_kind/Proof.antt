@@ -2,11 +2,11 @@
 -- Assumes nothing.
 use mathlib.Core.Path.{ap, ◌∙◌}
 use Rattle.refusal.specs.Refusal.{answered}
-use Rattle.util.specs.AnswersLaws.{told}
+use Rattle.util.proofs.AnswersLaws.{told}
 use Rattle.classtrailers.specs.Calls.{block_read_of}
 use Rattle.type_body.specs.Items.{trailers_of}
 use Rattle.steps.specs.Blocks.{kind_from}
-use Rattle.refusal.specs.GuardedLaws.{refused_list, accepted_as}
+use Rattle.refusal.proofs.GuardedLaws.{refused_list, accepted_as}
 use Rattle.refusal.specs.Guarded.{fault_of}
 use borrow.Author.Rules.{rules}
 use Rattle.steps.proofs.blocks.block_of_kind.Statement.{statement}

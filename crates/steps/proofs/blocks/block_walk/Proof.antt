@@ -1,7 +1,7 @@
 -- `steps::blocks::block_walk` meets its contract.
 -- Assumes nothing.
 use mathlib.Core.Path.{ap, ◌∙◌}
-use Rattle.util.specs.AnswersLaws.{told}
+use Rattle.util.proofs.AnswersLaws.{told}
 use Rattle.classtrailers.specs.Calls.{walk_of}
 use Rattle.type_body.specs.Items.{trailers_of}
 use Rattle.steps.specs.Blocks.{walk_from}

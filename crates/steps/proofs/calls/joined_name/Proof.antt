@@ -1,7 +1,7 @@
 -- `steps::calls::joined_name` meets its contract.
 -- Assumes nothing.
-use Rattle.steps.specs.CallsLaws.{text_refused, text_accepted}
-use Rattle.util.specs.AnswersLaws.{told}
+use Rattle.steps.proofs.CallsLaws.{text_refused, text_accepted}
+use Rattle.util.proofs.AnswersLaws.{told}
 use Rattle.refusal.specs.Guarded.{fault_of}
 use borrow.Author.Rules.{rules}
 use Rattle.steps.proofs.calls.joined_name.Statement.{statement}

@@ -2,9 +2,9 @@
 -- Assumes nothing.
 use mathlib.Core.Path.{ap}
 use Rattle.refusal.specs.Refusal.{answered}
-use Rattle.util.specs.AnswersLaws.{told}
+use Rattle.util.proofs.AnswersLaws.{told}
 use Rattle.typedescriptor.specs.Slots.{type_step_of}
-use Rattle.refusal.specs.GuardedLaws.{refused_list, accepted_as}
+use Rattle.refusal.proofs.GuardedLaws.{refused_list, accepted_as}
 use Rattle.refusal.specs.Guarded.{fault_of}
 use borrow.Author.Rules.{rules}
 use Rattle.steps.proofs.calls.next_row.Statement.{statement}

@@ -2,8 +2,8 @@
 -- Assumes nothing.
 use mathlib.Core.Path.{ap}
 use Rattle.refusal.specs.Refusal.{answered}
-use Rattle.refusal.specs.GuardedLaws.{refused_list, accepted_as}
-use Rattle.util.specs.AnswersLaws.{told}
+use Rattle.refusal.proofs.GuardedLaws.{refused_list, accepted_as}
+use Rattle.util.proofs.AnswersLaws.{told}
 use Rattle.refusal.specs.Guarded.{fault_of}
 use borrow.Author.Rules.{rules}
 use Rattle.steps.proofs.fields.descriptor_superclass_name.Statement.{statement}

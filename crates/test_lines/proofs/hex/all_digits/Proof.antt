@@ -5,7 +5,7 @@ use native.Mathlib.Omega.{arith}
 use mathlib.Core.Path.{◌≡◌, refl, sym, ◌∙◌}
 use lib.ListN.{length, drop}
 use Rattle.test_lines.specs.Lines.{all_digits}
-use Rattle.test_lines.specs.LinesLaws.{digits_next, digits_other, digits_end}
+use Rattle.test_lines.proofs.LinesLaws.{digits_next, digits_other, digits_end}
 use borrow.Author.Rules.{rules}
 use Rattle.test_lines.proofs.hex.all_digits.Statement.{statement}
 use Rattle.test_lines.proofs.hex.all_digits.Tie as tie

@@ -1,7 +1,7 @@
 -- `test_lines::hex::digit` meets its contract. Each `return` is a case of `digitOf`.
 -- Assumes nothing.
 use native.Mathlib.Omega.{arith}
-use Rattle.test_lines.specs.LinesLaws.{digit_decimal, digit_letter, digit_other}
+use Rattle.test_lines.proofs.LinesLaws.{digit_decimal, digit_letter, digit_other}
 use borrow.Author.Rules.{rules}
 use Rattle.test_lines.proofs.hex.digit.Statement.{statement}
 use Rattle.test_lines.proofs.hex.digit.Tie as tie

@@ -3,7 +3,7 @@
 use native.Mathlib.Omega.{arith}
 use mathlib.Core.Path.{sym, ◌∙◌, ap}
 use mathlib.Core.Option.{some}
-use Rattle.test_lines.specs.LinesLaws.{bytes_dash, bytes_empty, bytes_odd, bytes_other, bytes_read_lem, fitting_none, fitting_all, fitting_short, pairs_length, answered}
+use Rattle.test_lines.proofs.LinesLaws.{bytes_dash, bytes_empty, bytes_odd, bytes_other, bytes_read_lem, fitting_none, fitting_all, fitting_short, pairs_length, answered}
 use borrow.Author.Tests.{not-true, not-false}
 use borrow.Author.Rules.{rules}
 use Rattle.test_lines.proofs.hex.parse_bytes.Statement.{statement}

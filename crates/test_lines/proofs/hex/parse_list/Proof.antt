@@ -2,9 +2,9 @@
 -- Assumes nothing.
 use native.Mathlib.Omega.{arith}
 use mathlib.Core.Path.{refl, sym, ◌∙◌, ap}
-use Rattle.util.specs.AnswersLaws.{told}
+use Rattle.util.proofs.AnswersLaws.{told}
 use Rattle.test_lines.specs.Lines.{hex_number, number_of}
-use Rattle.test_lines.specs.LinesLaws.{number_within, list_none, list_long, list_all, list_part, part_long}
+use Rattle.test_lines.proofs.LinesLaws.{number_within, list_none, list_long, list_all, list_part, part_long}
 use borrow.Author.Rules.{rules}
 use Rattle.test_lines.proofs.hex.parse_list.Statement.{statement}
 use Rattle.test_lines.proofs.hex.parse_list.Tie as tie

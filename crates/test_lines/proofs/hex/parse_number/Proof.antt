@@ -5,7 +5,7 @@ use native.Mathlib.Omega.{arith}
 use mathlib.Core.Path.{◌≡◌, refl, sym, ◌∙◌}
 use lib.ListN.{length, drop}
 use Rattle.test_lines.specs.Lines.{all_digits, hex_value}
-use Rattle.test_lines.specs.LinesLaws.{digits_next, digits_other, digits_end, value_next, value_end, value_large, number_empty, number_other, number_large, number_read}
+use Rattle.test_lines.proofs.LinesLaws.{digits_next, digits_other, digits_end, value_next, value_end, value_large, number_empty, number_other, number_large, number_read}
 use borrow.Author.Rules.{rules}
 use Rattle.test_lines.proofs.hex.parse_number.Statement.{statement}
 use Rattle.test_lines.proofs.hex.parse_number.Tie as tie

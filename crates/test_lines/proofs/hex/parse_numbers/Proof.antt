@@ -4,9 +4,9 @@ use Prim.Native.Nat.{◌-◌}
 use native.Mathlib.Omega.{arith}
 use mathlib.Core.Path.{◌∙◌, ap}
 use lib.ListN.{length}
-use Rattle.util.specs.AnswersLaws.{told}
+use Rattle.util.proofs.AnswersLaws.{told}
 use Rattle.test_lines.specs.Lines.{hex_number, numbers_of_fields, number_of}
-use Rattle.test_lines.specs.LinesLaws.{number_within, Reading, reading_starts, reading_next, reading_stops, reading_ends}
+use Rattle.test_lines.proofs.LinesLaws.{number_within, Reading, reading_starts, reading_next, reading_stops, reading_ends}
 use borrow.Author.Rules.{rules}
 use Rattle.test_lines.proofs.hex.parse_numbers.Statement.{statement}
 use Rattle.test_lines.proofs.hex.parse_numbers.Tie as tie

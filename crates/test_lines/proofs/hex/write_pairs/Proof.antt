@@ -6,7 +6,7 @@ use mathlib.Core.Path.{◌≡◌, refl, ◌∙◌}
 use mathlib.Core.List.{◌++◌}
 use lib.ListN.{length, take, drop}
 use Rattle.test_lines.specs.Lines.{digit_pairs}
-use Rattle.test_lines.specs.LinesLaws.{pair_byte, pairs_next, pairs_written}
+use Rattle.test_lines.proofs.LinesLaws.{pair_byte, pairs_next, pairs_written}
 use borrow.Author.Rules.{rules}
 use Rattle.test_lines.proofs.hex.write_pairs.Statement.{statement}
 use Rattle.test_lines.proofs.hex.write_pairs.Tie as tie

@@ -1,7 +1,7 @@
 -- `test_lines::line::after_line` meets its contract.
 -- Assumes nothing.
 use native.Mathlib.Omega.{arith}
-use Rattle.test_lines.specs.LinesLaws.{after_found, after_last}
+use Rattle.test_lines.proofs.LinesLaws.{after_found, after_last}
 use borrow.Author.Rules.{rules}
 use Rattle.test_lines.proofs.line.after_line.Statement.{statement}
 use Rattle.test_lines.proofs.line.after_line.Tie as tie

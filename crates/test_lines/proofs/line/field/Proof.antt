@@ -5,7 +5,7 @@ use native.Mathlib.Omega.{arith}
 use mathlib.Core.Path.{◌≡◌, refl, sym, ◌∙◌}
 use lib.ListN.{length, drop}
 use Rattle.test_lines.specs.Lines.{field_of}
-use Rattle.test_lines.specs.LinesLaws.{find_bounds, field_next, field_past, field_here}
+use Rattle.test_lines.proofs.LinesLaws.{find_bounds, field_next, field_past, field_here}
 use borrow.Author.Rules.{rules}
 use Rattle.test_lines.proofs.line.field.Statement.{statement}
 use Rattle.test_lines.proofs.line.field.Tie as tie

@@ -5,7 +5,7 @@ use native.Mathlib.Omega.{arith}
 use mathlib.Core.Path.{◌≡◌, refl, sym, ◌∙◌}
 use lib.ListN.{length}
 use Rattle.test_lines.specs.Lines.{find_from}
-use Rattle.test_lines.specs.LinesLaws.{find_here, find_next, find_end}
+use Rattle.test_lines.proofs.LinesLaws.{find_here, find_next, find_end}
 use borrow.Author.Rules.{rules}
 use Rattle.test_lines.proofs.line.find.Statement.{statement}
 use Rattle.test_lines.proofs.line.find.Tie as tie

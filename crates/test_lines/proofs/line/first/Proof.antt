@@ -3,7 +3,7 @@
 use native.Mathlib.Omega.{arith}
 use mathlib.Core.Path.{sym}
 use lib.Seq.{length-take-le}
-use Rattle.test_lines.specs.LinesLaws.{first_in, first_out}
+use Rattle.test_lines.proofs.LinesLaws.{first_in, first_out}
 use borrow.Author.Rules.{rules}
 use Rattle.test_lines.proofs.line.first.Statement.{statement}
 use Rattle.test_lines.proofs.line.first.Tie as tie

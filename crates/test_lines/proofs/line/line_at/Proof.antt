@@ -1,7 +1,7 @@
 -- `test_lines::line::line_at` meets its contract.
 -- Assumes nothing.
 use native.Mathlib.Omega.{arith}
-use Rattle.test_lines.specs.LinesLaws.{find_bounds, line_past, line_here}
+use Rattle.test_lines.proofs.LinesLaws.{find_bounds, line_past, line_here}
 use borrow.Author.Rules.{rules}
 use Rattle.test_lines.proofs.line.line_at.Statement.{statement}
 use Rattle.test_lines.proofs.line.line_at.Tie as tie

@@ -5,7 +5,7 @@ use native.Mathlib.Omega.{arith}
 use mathlib.Core.Path.{◌≡◌, refl, sym, ◌∙◌}
 use lib.ListN.{length, drop}
 use Rattle.test_lines.specs.Lines.{equals}
-use Rattle.test_lines.specs.LinesLaws.{equals_length, equals_next, equals_differs, equals_end}
+use Rattle.test_lines.proofs.LinesLaws.{equals_length, equals_next, equals_differs, equals_end}
 use borrow.Author.Rules.{rules}
 use Rattle.test_lines.proofs.line.same.Statement.{statement}
 use Rattle.test_lines.proofs.line.same.Tie as tie

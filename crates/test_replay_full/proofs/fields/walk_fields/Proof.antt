@@ -3,10 +3,10 @@
 use Prim.Native.Nat.{◌-◌, ◌+◌, ◌≤◌}
 use native.Mathlib.Omega.{arith}
 use mathlib.Core.Path.{◌≡◌, refl, sym, ◌∙◌}
-use Rattle.util.specs.AnswersLaws.{told}
+use Rattle.util.proofs.AnswersLaws.{told}
 use Rattle.field.specs.Fields.{field_step_of}
 use Rattle.test_replay_full.specs.Shown.{walk_end}
-use Rattle.test_replay_full.specs.ShownLaws.{end_here, end_further, end_over}
+use Rattle.test_replay_full.proofs.ShownLaws.{end_here, end_further, end_over}
 use borrow.Author.Rules.{rules}
 use Rattle.test_replay_full.proofs.fields.walk_fields.Statement.{statement}
 use Rattle.test_replay_full.proofs.fields.walk_fields.Tie as tie

@@ -2,9 +2,9 @@
 -- Assumes nothing.
 use Prim.Native.Nat.{◌-◌, ◌≤◌, ◌<◌}
 use native.Mathlib.Omega.{arith}
-use Rattle.util.specs.AnswersLaws.{told}
+use Rattle.util.proofs.AnswersLaws.{told}
 use Rattle.steps.specs.Calls.{row_answer}
-use Rattle.test_replay_full.specs.ShownLaws.{Showing, Whole, start_showing, shown_whole, none_shown, row_shown, rows_ended, rows_all}
+use Rattle.test_replay_full.proofs.ShownLaws.{Showing, Whole, start_showing, shown_whole, none_shown, row_shown, rows_ended, rows_all}
 use borrow.Author.Rules.{rules}
 use Rattle.test_replay_full.proofs.rows.all_rows.Statement.{statement}
 use Rattle.test_replay_full.proofs.rows.all_rows.Tie as tie

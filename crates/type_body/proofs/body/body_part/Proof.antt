@@ -2,7 +2,7 @@
 -- Assumes nothing.
 use native.Mathlib.Omega.{arith}
 use mathlib.Core.Path.{◌∙◌}
-use Rattle.type_body.specs.BodyLaws.{part_wraps, part_below}
+use Rattle.type_body.proofs.BodyLaws.{part_wraps, part_below}
 use borrow.Author.Rules.{rules}
 use Rattle.type_body.proofs.body.body_part.Statement.{statement}
 use Rattle.type_body.proofs.body.body_part.Tie as tie

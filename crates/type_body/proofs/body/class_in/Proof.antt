@@ -1,6 +1,6 @@
 -- `type_body::body::class_in` meets its contract.
 -- Assumes nothing.
-use Rattle.type_body.specs.BodyLaws.{class_at}
+use Rattle.type_body.proofs.BodyLaws.{class_at}
 use borrow.Author.Rules.{rules}
 use Rattle.type_body.proofs.body.class_in.Statement.{statement}
 use Rattle.type_body.proofs.body.class_in.Tie as tie

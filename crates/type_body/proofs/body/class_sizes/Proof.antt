@@ -1,6 +1,6 @@
 -- `type_body::body::class_sizes` meets its contract.
 -- Assumes nothing.
-use Rattle.type_body.specs.BodyLaws.{resilient_at, fixed_at}
+use Rattle.type_body.proofs.BodyLaws.{resilient_at, fixed_at}
 use borrow.Author.Rules.{rules}
 use Rattle.type_body.proofs.body.class_sizes.Statement.{statement}
 use Rattle.type_body.proofs.body.class_sizes.Tie as tie

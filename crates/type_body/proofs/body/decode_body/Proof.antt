@@ -2,7 +2,7 @@
 -- Assumes nothing.
 use native.Mathlib.Omega.{arith}
 use mathlib.Core.Path.{refl}
-use Rattle.type_body.specs.BodyLaws.{ends_below, no_body, body_at, body_kind, bodiless_kind}
+use Rattle.type_body.proofs.BodyLaws.{ends_below, no_body, body_at, body_kind, bodiless_kind}
 use borrow.Author.Rules.{rules}
 use Rattle.type_body.proofs.body.decode_body.Statement.{statement}
 use Rattle.type_body.proofs.body.decode_body.Tie as tie

@@ -1,7 +1,7 @@
 -- `type_body::body::enum_in` meets its contract.
 -- Assumes nothing.
 use mathlib.Core.Path.{refl}
-use Rattle.type_body.specs.BodyLaws.{enum_at}
+use Rattle.type_body.proofs.BodyLaws.{enum_at}
 use borrow.Author.Rules.{rules}
 use Rattle.type_body.proofs.body.enum_in.Statement.{statement}
 use Rattle.type_body.proofs.body.enum_in.Tie as tie

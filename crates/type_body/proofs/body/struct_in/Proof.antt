@@ -1,6 +1,6 @@
 -- `type_body::body::struct_in` meets its contract.
 -- Assumes nothing.
-use Rattle.type_body.specs.BodyLaws.{struct_at}
+use Rattle.type_body.proofs.BodyLaws.{struct_at}
 use borrow.Author.Rules.{rules}
 use Rattle.type_body.proofs.body.struct_in.Statement.{statement}
 use Rattle.type_body.proofs.body.struct_in.Tie as tie

@@ -1,7 +1,7 @@
 -- `type_body::body::superclass_name` meets its contract.
 -- Assumes nothing.
 use mathlib.Core.Path.{refl}
-use Rattle.type_body.specs.BodyLaws.{superclass_of}
+use Rattle.type_body.proofs.BodyLaws.{superclass_of}
 use borrow.Author.Rules.{rules}
 use Rattle.type_body.proofs.body.superclass_name.Statement.{statement}
 use Rattle.type_body.proofs.body.superclass_name.Tie as tie

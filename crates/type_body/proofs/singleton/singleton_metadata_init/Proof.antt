@@ -1,9 +1,9 @@
 -- `type_body::singleton::singleton_metadata_init` meets its contract: each `return` is a case of `singletonInit`.
 -- Assumes nothing.
 use native.Mathlib.Omega.{arith}
-use Rattle.util.specs.AnswersLaws.{told}
+use Rattle.util.proofs.AnswersLaws.{told}
 use Rattle.segment.specs.VmAddress.{address_of}
-use Rattle.type_body.specs.SingletonLaws.{no_init, no_cache, no_incomplete, no_completion, init_at}
+use Rattle.type_body.proofs.SingletonLaws.{no_init, no_cache, no_incomplete, no_completion, init_at}
 use borrow.Author.Rules.{rules}
 use Rattle.type_body.proofs.singleton.singleton_metadata_init.Statement.{statement}
 use Rattle.type_body.proofs.singleton.singleton_metadata_init.Tie as tie

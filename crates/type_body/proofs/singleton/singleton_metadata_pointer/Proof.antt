@@ -1,7 +1,7 @@
 -- `type_body::singleton::singleton_metadata_pointer` meets its contract.
 -- Assumes nothing.
 use native.Mathlib.Omega.{arith}
-use Rattle.type_body.specs.SingletonLaws.{no_pointer, pointer_at_lem}
+use Rattle.type_body.proofs.SingletonLaws.{no_pointer, pointer_at_lem}
 use borrow.Author.Rules.{rules}
 use Rattle.type_body.proofs.singleton.singleton_metadata_pointer.Statement.{statement}
 use Rattle.type_body.proofs.singleton.singleton_metadata_pointer.Tie as tie

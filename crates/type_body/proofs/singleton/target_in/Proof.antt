@@ -1,7 +1,7 @@
 -- `type_body::singleton::target_in` meets its contract: each `return` is a case of `slotTarget`.
 -- Assumes nothing.
 use native.Mathlib.Omega.{arith}
-use Rattle.type_body.specs.SingletonLaws.{zero_target, target_wraps, target_at}
+use Rattle.type_body.proofs.SingletonLaws.{zero_target, target_wraps, target_at}
 use borrow.Author.Rules.{rules}
 use Rattle.type_body.proofs.singleton.target_in.Statement.{statement}
 use Rattle.type_body.proofs.singleton.target_in.Tie as tie

@@ -1,6 +1,6 @@
 -- `type_body::trailers::trailing` meets its contract: each body is a case of `trailers`.
 -- Assumes nothing.
-use Rattle.type_body.specs.ItemsLaws.{extra_is, trailers_of_lem}
+use Rattle.type_body.proofs.ItemsLaws.{extra_is, trailers_of_lem}
 use borrow.Author.Rules.{rules}
 use Rattle.type_body.proofs.trailers.trailing.Statement.{statement}
 use Rattle.type_body.proofs.trailers.trailing.Tie as tie

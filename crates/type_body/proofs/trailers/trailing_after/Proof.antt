@@ -1,7 +1,7 @@
 -- `type_body::trailers::trailing_after` meets its contract.
 -- Assumes nothing.
 use native.Mathlib.Omega.{arith}
-use Rattle.type_body.specs.ItemsLaws.{start_wraps, start_below_lem}
+use Rattle.type_body.proofs.ItemsLaws.{start_wraps, start_below_lem}
 use borrow.Author.Rules.{rules}
 use Rattle.type_body.proofs.trailers.trailing_after.Statement.{statement}
 use Rattle.type_body.proofs.trailers.trailing_after.Tie as tie

@@ -1,7 +1,7 @@
 -- `type_lines::digits::digit_of` meets its contract.
 -- Assumes nothing.
 use Rattle.std.proofs.Common.{arith, rules}
-use Rattle.type_lines.specs.DigitsLaws.{digit_low, digit_high}
+use Rattle.type_lines.proofs.DigitsLaws.{digit_low, digit_high}
 use Rattle.type_lines.proofs.digits.digit_of.Statement.{statement}
 use Rattle.type_lines.proofs.digits.digit_of.Tie as tie
 

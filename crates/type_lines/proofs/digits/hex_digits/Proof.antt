@@ -1,7 +1,7 @@
 -- `type_lines::digits::hex_digits` meets its contract. The invariant: zeros, and after them the digits that are made already.
 -- Assumes nothing.
 use Rattle.std.proofs.Common.{arith, rules}
-use Rattle.type_lines.specs.DigitsLaws.{Made, made_none, made_more, made_all}
+use Rattle.type_lines.proofs.DigitsLaws.{Made, made_none, made_more, made_all}
 use Rattle.type_lines.proofs.digits.hex_digits.Statement.{statement}
 use Rattle.type_lines.proofs.digits.hex_digits.Tie as tie
 

@@ -1,7 +1,7 @@
 -- `type_lines::lines::put_decimal` meets its contract. It calls itself for one digit fewer, so its measure is `left`.
 -- Assumes nothing.
 use Rattle.std.proofs.Common.{ℕ, ◌<◌, arith, rules}
-use Rattle.type_lines.specs.LinesLaws.{one_digit, more_digits, count_none, count_one, count_more}
+use Rattle.type_lines.proofs.LinesLaws.{one_digit, more_digits, count_none, count_one, count_more}
 use borrow.Fn.Kinds.{In}
 use borrow.Fn.PlainCycle.{Measures, is, falls, and}
 use Rattle.type_lines.proofs.lines.put_decimal.Reads as put-decimal

@@ -1,8 +1,8 @@
 -- `type_lines::lines::next_into` meets its contract: the line of the next row, or the last line.
 -- Assumes nothing.
-use Rattle.util.specs.AnswersLaws.{told}
+use Rattle.util.proofs.AnswersLaws.{told}
 use Rattle.typedescriptor.specs.Slots.{type_step_of}
-use Rattle.type_lines.specs.LinesLaws.{step_done, step_row, step_end}
+use Rattle.type_lines.proofs.LinesLaws.{step_done, step_row, step_end}
 use Rattle.std.proofs.Common.{rules}
 use Rattle.type_lines.proofs.lines.next_into.Statement.{statement}
 use Rattle.type_lines.proofs.lines.next_into.Tie as tie

@@ -1,7 +1,7 @@
 -- `type_lines::lines::next_line` meets its contract.
 -- Assumes nothing.
-use Rattle.type_lines.specs.LinesLaws.{line_refused, line_accepted}
-use Rattle.util.specs.AnswersLaws.{told}
+use Rattle.type_lines.proofs.LinesLaws.{line_refused, line_accepted}
+use Rattle.util.proofs.AnswersLaws.{told}
 use Rattle.refusal.specs.Guarded.{fault_of}
 use Rattle.std.proofs.Common.{rules}
 use Rattle.type_lines.proofs.lines.next_line.Statement.{statement}

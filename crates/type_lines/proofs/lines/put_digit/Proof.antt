@@ -1,7 +1,7 @@
 -- `type_lines::lines::put_digit` meets its contract.
 -- Assumes nothing.
 use Rattle.std.proofs.Common.{arith, rules}
-use Rattle.type_lines.specs.LinesLaws.{put_one}
+use Rattle.type_lines.proofs.LinesLaws.{put_one}
 use Rattle.type_lines.proofs.lines.put_digit.Statement.{statement}
 use Rattle.type_lines.proofs.lines.put_digit.Tie as tie
 

@@ -1,9 +1,9 @@
 -- `type_lines::lines::put_end` meets its contract.
 -- Assumes nothing.
 use Rattle.std.proofs.Common.{arith, rules}
-use Rattle.util.specs.BufferLaws.{put_fits}
-use Rattle.type_lines.specs.DigitsLaws.{decimal_length}
-use Rattle.type_lines.specs.LinesLaws.{end_put}
+use Rattle.util.proofs.BufferLaws.{put_fits}
+use Rattle.type_lines.proofs.DigitsLaws.{decimal_length}
+use Rattle.type_lines.proofs.LinesLaws.{end_put}
 use Rattle.type_lines.proofs.lines.put_end.Statement.{statement}
 use Rattle.type_lines.proofs.lines.put_end.Tie as tie
 

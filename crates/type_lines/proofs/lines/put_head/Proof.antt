@@ -1,7 +1,7 @@
 -- `type_lines::lines::put_head` meets its contract: pieces one after the other.
 -- Assumes nothing.
 use Rattle.std.proofs.Common.{arith, rules}
-use Rattle.type_lines.specs.LinesLaws.{head_room, head_put}
+use Rattle.type_lines.proofs.LinesLaws.{head_room, head_put}
 use Rattle.type_lines.proofs.lines.put_head.Statement.{statement}
 use Rattle.type_lines.proofs.lines.put_head.Tie as tie
 

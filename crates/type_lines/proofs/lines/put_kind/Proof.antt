@@ -1,7 +1,7 @@
 -- `type_lines::lines::put_kind` meets its contract.
 -- Assumes nothing.
 use Rattle.std.proofs.Common.{arith, rules}
-use Rattle.type_lines.specs.LinesLaws.{kind_class, kind_struct, kind_enum, kind_other, put_as}
+use Rattle.type_lines.proofs.LinesLaws.{kind_class, kind_struct, kind_enum, kind_other, put_as}
 use Rattle.type_lines.proofs.lines.put_kind.Statement.{statement}
 use Rattle.type_lines.proofs.lines.put_kind.Tie as tie
 

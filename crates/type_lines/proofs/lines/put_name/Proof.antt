@@ -3,10 +3,10 @@
 use Rattle.std.proofs.Common.{◌≡◌, ℕ, ◌+◌, ◌-◌, arith, rules}
 use native.Mathlib.Nat.{add-sub_cancel_left}
 use Rattle.typedescriptor.specs.Row.{row_of}
-use Rattle.util.specs.AnswersLaws.{told}
+use Rattle.util.proofs.AnswersLaws.{told}
 use Rattle.qualified_name.specs.Name.{length_of}
 use Rattle.type_lines.specs.Lines.{name_bytes}
-use Rattle.type_lines.specs.LinesLaws.{name_put, name_room, refusal_put}
+use Rattle.type_lines.proofs.LinesLaws.{name_put, name_room, refusal_put}
 use Rattle.type_lines.proofs.lines.put_name.Statement.{statement}
 use Rattle.type_lines.proofs.lines.put_name.Tie as tie
 

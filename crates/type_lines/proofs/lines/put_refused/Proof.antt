@@ -1,7 +1,7 @@
 -- `type_lines::lines::put_refused` meets its contract.
 -- Assumes nothing.
 use Rattle.std.proofs.Common.{arith, rules}
-use Rattle.type_lines.specs.LinesLaws.{refused_put, refused_room}
+use Rattle.type_lines.proofs.LinesLaws.{refused_put, refused_room}
 use Rattle.type_lines.proofs.lines.put_refused.Statement.{statement}
 use Rattle.type_lines.proofs.lines.put_refused.Tie as tie
 

@@ -1,7 +1,7 @@
 -- `type_lines::lines::put_refused_line` meets its contract.
 -- Assumes nothing.
 use Rattle.std.proofs.Common.{arith, rules}
-use Rattle.type_lines.specs.LinesLaws.{refused_line_put}
+use Rattle.type_lines.proofs.LinesLaws.{refused_line_put}
 use Rattle.type_lines.proofs.lines.put_refused_line.Statement.{statement}
 use Rattle.type_lines.proofs.lines.put_refused_line.Tie as tie
 

@@ -1,7 +1,7 @@
 -- `type_lines::lines::put_row` meets its contract.
 -- Assumes nothing.
 use Rattle.std.proofs.Common.{arith, rules}
-use Rattle.type_lines.specs.LinesLaws.{head_length, name_text_length, row_put}
+use Rattle.type_lines.proofs.LinesLaws.{head_length, name_text_length, row_put}
 use Rattle.type_lines.proofs.lines.put_row.Statement.{statement}
 use Rattle.type_lines.proofs.lines.put_row.Tie as tie
 

@@ -1,7 +1,7 @@
 -- `typedescriptor::descriptor::decode_type_descriptor` meets its contract: each `return` is a case of `descriptor`.
 -- Assumes nothing.
 use Rattle.std.proofs.Common.{arith, rules}
-use Rattle.util.specs.AnswersLaws.{told}
+use Rattle.util.proofs.AnswersLaws.{told}
 use Rattle.util.specs.Cstr.{text_of}
 use Rattle.typedescriptor.specs.RowLaws.{no_header, no_slot, no_name, row_at}
 use Rattle.typedescriptor.proofs.descriptor.decode_type_descriptor.Statement.{statement}

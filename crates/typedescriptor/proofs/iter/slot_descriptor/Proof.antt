@@ -1,7 +1,7 @@
 -- `typedescriptor::iter::slot_descriptor` meets its contract: each `return` is a case of `slotDescriptor`.
 -- Assumes nothing.
 use Rattle.std.proofs.Common.{◌*◌, sym, refl, ap, ◌∙◌, arith, rules}
-use Rattle.util.specs.LittleEndianLaws.{unsigned_part, signed_part}
+use Rattle.util.proofs.LittleEndianLaws.{unsigned_part, signed_part}
 use Rattle.util.specs.Pointer.{relative_pointer}
 use Rattle.typedescriptor.specs.RowLaws.{past_slots, zero_slot, slot_at}
 use Rattle.typedescriptor.proofs.iter.slot_descriptor.Statement.{statement}

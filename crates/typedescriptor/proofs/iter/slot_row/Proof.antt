@@ -1,7 +1,7 @@
 -- `typedescriptor::iter::slot_row` meets its contract.
 -- Assumes nothing.
 use Rattle.std.proofs.Common.{◌∙◌, rules}
-use Rattle.util.specs.AnswersLaws.{told}
+use Rattle.util.proofs.AnswersLaws.{told}
 use Rattle.segment.specs.VmAddress.{address_of}
 use Rattle.typedescriptor.specs.RowLaws.{refers_nowhere, refers_to}
 use Rattle.typedescriptor.proofs.iter.slot_row.Statement.{statement}

@@ -1,9 +1,9 @@
 -- `typedescriptor::iter::slot_row_moving` meets its contract: the row is the slot's, by a mapping that stays true.
 -- Assumes nothing.
 use Rattle.std.proofs.Common.{◌∙◌, rules}
-use Rattle.util.specs.AnswersLaws.{told}
+use Rattle.util.proofs.AnswersLaws.{told}
 use Rattle.segment.specs.VmAddress.{address_of}
-use Rattle.segment.specs.MappingLaws.{near_mapped, near_nowhere}
+use Rattle.segment.proofs.MappingLaws.{near_mapped, near_nowhere}
 use Rattle.runtime.specs.CallsLaws.{run_mapped}
 use Rattle.typedescriptor.specs.RowLaws.{refers_nowhere, refers_to, no_place}
 use Rattle.typedescriptor.proofs.iter.slot_row_moving.Statement.{statement}

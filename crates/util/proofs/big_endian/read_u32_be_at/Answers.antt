@@ -1,6 +1,6 @@
 -- `util::big_endian::read_u32_be_at` meets its contract, by the law over the width at 4 bytes.
 use Rattle.std.proofs.Common.{ℕ, get_or, ap, add-zero, arith, rules}
-use Rattle.util.specs.BigEndianLaws.{big_found, big_nothing}
+use Rattle.util.proofs.BigEndianLaws.{big_found, big_nothing}
 use Rattle.util.proofs.big_endian.read_u32_be_at.Goals as goal
 
 pub returns-then-data-lt4 : goal.returns-then-data-lt4

@@ -1,8 +1,8 @@
 -- `util::big_endian::read_u64_be_at` meets its contract: two runs of four bytes are one of eight.
 use Rattle.std.proofs.Common.{arith, rules}
-use Rattle.util.specs.AnswersLaws.{told}
+use Rattle.util.proofs.AnswersLaws.{told}
 use Rattle.util.specs.LittleEndian.{u32_value}
-use Rattle.util.specs.BigEndianLaws.{big_within, big_join, big_nothing, big_beyond}
+use Rattle.util.proofs.BigEndianLaws.{big_within, big_join, big_nothing, big_beyond}
 use Rattle.util.proofs.big_endian.read_u64_be_at.Goals as goal
 
 pub overflow_add-off : goal.overflow_add-off

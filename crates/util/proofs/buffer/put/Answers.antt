@@ -1,6 +1,6 @@
 -- `util::buffer::put` meets its contract.
 use Rattle.std.proofs.Common.{arith, rules}
-use Rattle.util.specs.BufferLaws.{put_whole, fits_end, fits_into, past_end, past_into}
+use Rattle.util.proofs.BufferLaws.{put_whole, fits_end, fits_into, past_end, past_into}
 use Rattle.util.proofs.buffer.put.Goals as goal
 
 pub returns-then-buffer-at : goal.returns-then-buffer-at

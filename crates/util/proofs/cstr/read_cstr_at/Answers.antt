@@ -1,7 +1,7 @@
 -- `util::cstr::read_cstr_at` meets its contract: the text of the slice from the offset on.
 use Rattle.std.proofs.Common.{arith, rules}
 use Rattle.utf8.specs.Text.{scanned}
-use Rattle.util.specs.AnswersLaws.{told}
+use Rattle.util.proofs.AnswersLaws.{told}
 use Rattle.util.specs.CstrLaws.{text_past, text_scanned}
 use Rattle.util.proofs.cstr.read_cstr_at.Goals as goal
 

@@ -1,8 +1,8 @@
 -- `util::header::i32_at` meets its contract.
 use Rattle.std.proofs.Common.{◌∙◌, arith, to_z-of_z, w32, rules}
-use Rattle.util.specs.AnswersLaws.{told}
+use Rattle.util.proofs.AnswersLaws.{told}
 use Rattle.util.specs.LittleEndian.{i32_value}
-use Rattle.util.specs.LittleEndianLaws.{signed_in_lem}
+use Rattle.util.proofs.LittleEndianLaws.{signed_in_lem}
 use Rattle.util.proofs.header.i32_at.Goals as goal
 
 pub returns-in-Value : goal.returns-in-Value

@@ -1,7 +1,7 @@
 -- `util::header::u32_at` meets its contract.
-use Rattle.util.specs.AnswersLaws.{told}
+use Rattle.util.proofs.AnswersLaws.{told}
 use Rattle.util.specs.LittleEndian.{u32_value}
-use Rattle.util.specs.LittleEndianLaws.{unsigned_in_lem}
+use Rattle.util.proofs.LittleEndianLaws.{unsigned_in_lem}
 use Rattle.std.proofs.Common.{rules}
 use Rattle.util.proofs.header.u32_at.Goals as goal
 

@@ -1,8 +1,8 @@
 -- `util::read::read_i32_le_at` meets its contract: the unsigned number's bits, read as signed.
 use Rattle.std.proofs.Common.{◌∙◌, to_z-of_z, w32, rules}
-use Rattle.util.specs.AnswersLaws.{told}
+use Rattle.util.proofs.AnswersLaws.{told}
 use Rattle.util.specs.LittleEndian.{u32_value}
-use Rattle.util.specs.LittleEndianLaws.{signed_found, signed_nothing}
+use Rattle.util.proofs.LittleEndianLaws.{signed_found, signed_nothing}
 use Rattle.util.proofs.read.read_i32_le_at.Goals as goal
 
 pub returns-in-Value : goal.returns-in-Value

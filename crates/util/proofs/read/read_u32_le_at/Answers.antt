@@ -1,6 +1,6 @@
 -- `util::read::read_u32_le_at` meets its contract, by the law over the width at 4 bytes.
 use Rattle.std.proofs.Common.{ℕ, get_or, ap, add-zero, arith, rules}
-use Rattle.util.specs.LittleEndianLaws.{little_found, little_nothing}
+use Rattle.util.proofs.LittleEndianLaws.{little_found, little_nothing}
 use Rattle.util.proofs.read.read_u32_le_at.Goals as goal
 
 pub returns-then-data-lt4 : goal.returns-then-data-lt4

@@ -1,8 +1,8 @@
 -- `util::read::read_u64_le_at` meets its contract: two runs of four bytes are one of eight.
 use Rattle.std.proofs.Common.{arith, rules}
-use Rattle.util.specs.AnswersLaws.{told}
+use Rattle.util.proofs.AnswersLaws.{told}
 use Rattle.util.specs.LittleEndian.{u32_value}
-use Rattle.util.specs.LittleEndianLaws.{little_within, little_join, little_nothing, little_beyond}
+use Rattle.util.proofs.LittleEndianLaws.{little_within, little_join, little_nothing, little_beyond}
 use Rattle.util.proofs.read.read_u64_le_at.Goals as goal
 
 pub overflow_add-off : goal.overflow_add-off

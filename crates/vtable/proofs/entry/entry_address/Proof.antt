@@ -1,6 +1,6 @@
 -- `vtable::entry::entry_address` meets its contract.
 -- Assumes nothing.
-use Rattle.vtable.specs.EntriesLaws.{product}
+use Rattle.vtable.proofs.EntriesLaws.{product}
 use Rattle.std.proofs.Common.{rules}
 use Rattle.vtable.proofs.entry.entry_address.Statement.{statement}
 use Rattle.vtable.proofs.entry.entry_address.Tie as tie

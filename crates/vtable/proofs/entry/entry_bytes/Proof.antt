@@ -1,7 +1,7 @@
 -- `vtable::entry::entry_bytes` meets its contract: each `return` is a case of `entryBytes`.
 -- Assumes nothing.
 use Rattle.std.proofs.Common.{arith, rules}
-use Rattle.vtable.specs.EntriesLaws.{product, small, wraps, below}
+use Rattle.vtable.proofs.EntriesLaws.{product, small, wraps, below}
 use Rattle.vtable.proofs.entry.entry_bytes.Statement.{statement}
 use Rattle.vtable.proofs.entry.entry_bytes.Tie as tie
 

@@ -1,10 +1,10 @@
 -- `vtable::iter::table_entry` meets its contract.
 -- Assumes nothing.
 use Rattle.std.proofs.Common.{◌+◌, ◌-◌, ◌^◌, ◌<◌, [], ◌∷◌, arith, rules}
-use Rattle.util.specs.AnswersLaws.{case}
+use Rattle.util.proofs.AnswersLaws.{case}
 use Rattle.vtable.specs.declared.entry.EntryKind.{EntryKind}
 use Rattle.vtable.specs.Entries.{kind_layout, entry_size}
-use Rattle.vtable.specs.EntriesLaws.{first_word, told_words}
+use Rattle.vtable.proofs.EntriesLaws.{first_word, told_words}
 use Rattle.vtable.proofs.iter.table_entry.Statement.{statement}
 use Rattle.vtable.proofs.iter.table_entry.Tie as tie
 

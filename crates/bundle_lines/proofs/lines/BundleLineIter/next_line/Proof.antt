@@ -2,9 +2,9 @@
 -- Assumes nothing.
 use mathlib.Core.Path.{sym, ap}
 use Rattle.bundle_lines.specs.Printed.{pending_of}
-use Rattle.type_lines.specs.LinesLaws.{line_refused, line_accepted}
-use Rattle.bundle_lines.specs.PrintedLaws.{print_as, print_refusal, print_done}
-use Rattle.util.specs.AnswersLaws.{told}
+use Rattle.type_lines.proofs.LinesLaws.{line_refused, line_accepted}
+use Rattle.bundle_lines.proofs.PrintedLaws.{print_as, print_refusal, print_done}
+use Rattle.util.proofs.AnswersLaws.{told}
 use Rattle.refusal.specs.Guarded.{fault_of}
 use borrow.Author.Rules.{rules}
 use Rattle.bundle_lines.proofs.lines.BundleLineIter.next_line.Statement.{statement}

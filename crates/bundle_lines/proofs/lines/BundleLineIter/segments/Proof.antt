@@ -2,7 +2,7 @@
 -- Assumes nothing.
 use mathlib.Core.Path.{sym, ap}
 use Rattle.bundle_lines.specs.Printed.{pending_of}
-use Rattle.bundle_lines.specs.PrintedLaws.{numbers_as}
+use Rattle.bundle_lines.proofs.PrintedLaws.{numbers_as}
 use borrow.Author.Rules.{rules}
 use Rattle.bundle_lines.proofs.lines.BundleLineIter.segments.Statement.{statement}
 use Rattle.bundle_lines.proofs.lines.BundleLineIter.segments.Tie as tie

@@ -3,10 +3,10 @@
 use native.Mathlib.Omega.{arith}
 use Prim.Native.Nat.{◌-◌}
 use mathlib.Core.Path.{◌≡◌, refl, sym, ◌∙◌}
-use Rattle.util.specs.AnswersLaws.{told}
+use Rattle.util.proofs.AnswersLaws.{told}
 use Rattle.classtrailers.specs.Blocks.{next_block}
 use Rattle.classtrailers.specs.Calls.{trailing_of, kind_read_of}
-use Rattle.classtrailers.specs.CallsLaws.{is_there_lem, is_absent, next_there, next_absent, walk_over}
+use Rattle.classtrailers.proofs.CallsLaws.{is_there_lem, is_absent, next_there, next_absent, walk_over}
 use borrow.Author.Rules.{rules}
 use Rattle.classtrailers.proofs.iter.BlockIter.next.Statement.{statement}
 use Rattle.classtrailers.proofs.iter.BlockIter.next.Tie as tie

@@ -1,7 +1,7 @@
 -- `field::iter::FieldDescriptor::records` meets its contract.
 -- Assumes nothing.
 use Rattle.std.proofs.Common.{◌∙◌, ⊎_elim, arith, rules}
-use Rattle.field.specs.RecordsLaws.{base_wraps, base_below, records_of_lem}
+use Rattle.field.proofs.RecordsLaws.{base_wraps, base_below, records_of_lem}
 use Rattle.field.proofs.iter.FieldDescriptor.records.Statement.{statement}
 use Rattle.field.proofs.iter.FieldDescriptor.records.Tie as tie
 

@@ -2,8 +2,8 @@
 -- Assumes nothing.
 use Rattle.std.proofs.Common.{ap, ◌∙◌, arith, rules}
 use mathlib.Core.Option.{some}
-use Rattle.vtable.specs.EntriesLaws.{product}
-use Rattle.field.specs.FieldsLaws.{not_headed, is_headed, no_header, overruns, passes}
+use Rattle.vtable.proofs.EntriesLaws.{product}
+use Rattle.field.proofs.FieldsLaws.{not_headed, is_headed, no_header, overruns, passes}
 use Rattle.field.proofs.iter.FieldIter.next.Statement.{statement}
 use Rattle.field.proofs.iter.FieldIter.next.Tie as tie
 

@@ -1,8 +1,8 @@
 -- `field::record::FieldRecordIter::locate` meets its contract.
 -- Assumes nothing.
-use Rattle.util.specs.AnswersLaws.{case}
+use Rattle.util.proofs.AnswersLaws.{case}
 use Rattle.segment.specs.Mapping.{Located}
-use Rattle.segment.specs.MappingLaws.{empty_mapped}
+use Rattle.segment.proofs.MappingLaws.{empty_mapped}
 use Rattle.std.proofs.Common.{rules}
 use Rattle.field.proofs.record.FieldRecordIter.locate.Statement.{statement}
 use Rattle.field.proofs.record.FieldRecordIter.locate.Tie as tie

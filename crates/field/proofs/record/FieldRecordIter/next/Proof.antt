@@ -1,9 +1,9 @@
 -- `field::record::FieldRecordIter::next` meets its contract: each `return` is a case of `recordStep`.
 -- Assumes nothing.
 use Rattle.std.proofs.Common.{arith, rules}
-use Rattle.vtable.specs.EntriesLaws.{slots_below, no_entry, an_entry}
+use Rattle.vtable.proofs.EntriesLaws.{slots_below, no_entry, an_entry}
 use Rattle.field.specs.Records.{record_layout}
-use Rattle.field.specs.RecordsLaws.{record_end, record_gives}
+use Rattle.field.proofs.RecordsLaws.{record_end, record_gives}
 use Rattle.field.proofs.record.FieldRecordIter.next.Statement.{statement}
 use Rattle.field.proofs.record.FieldRecordIter.next.Tie as tie
 

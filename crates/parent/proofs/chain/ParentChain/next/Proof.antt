@@ -1,9 +1,9 @@
 -- `parent::chain::ParentChain::next` meets its contract.
 -- Assumes nothing.
 use native.Mathlib.Omega.{arith}
-use Rattle.util.specs.AnswersLaws.{told}
+use Rattle.util.proofs.AnswersLaws.{told}
 use Rattle.parent.specs.Context.{context_of}
-use Rattle.parent.specs.ContextLaws.{chain_full, chain_ends, chain_goes_on}
+use Rattle.parent.proofs.ContextLaws.{chain_full, chain_ends, chain_goes_on}
 use borrow.Author.Rules.{rules}
 use Rattle.parent.proofs.chain.ParentChain.next.Statement.{statement}
 use Rattle.parent.proofs.chain.ParentChain.next.Tie as tie

@@ -1,8 +1,8 @@
 -- `typedescriptor::iter::TypeIter::next` meets its contract. The invariant: the next row from `slot` on is the answer.
 -- Assumes nothing.
 use Rattle.std.proofs.Common.{◌≡◌, ◌-◌, sym, refl, ◌∙◌, arith, rules}
-use Rattle.util.specs.AnswersLaws.{told}
-use Rattle.segment.specs.MappingLaws.{empty_mapped}
+use Rattle.util.proofs.AnswersLaws.{told}
+use Rattle.segment.proofs.MappingLaws.{empty_mapped}
 use Rattle.typedescriptor.specs.Row.{descriptor_of}
 use Rattle.typedescriptor.specs.Slots.{slots, next_row}
 use Rattle.typedescriptor.specs.RowLaws.{row_next, slot_passed, rows_end}

@@ -1,7 +1,7 @@
 -- `vtable::iter::EntryIter::next` meets its contract: each `return` is a case of `entryStep`.
 -- Assumes nothing.
 use Rattle.std.proofs.Common.{arith, rules}
-use Rattle.vtable.specs.EntriesLaws.{kind_end, kind_unreadable, kind_below, kind_entry}
+use Rattle.vtable.proofs.EntriesLaws.{kind_end, kind_unreadable, kind_below, kind_entry}
 use Rattle.vtable.proofs.iter.EntryIter.next.Statement.{statement}
 use Rattle.vtable.proofs.iter.EntryIter.next.Tie as tie
 

@@ -1,0 +1,2 @@
+pub mod BundleLaws
+pub mod OpenLaws

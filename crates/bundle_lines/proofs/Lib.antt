@@ -1,0 +1,4 @@
+pub mod Empty
+pub mod PrintedLaws
+pub mod PrintsLaws
+pub mod Wrapped

@@ -1,0 +1,2 @@
+pub mod CertainLaws
+pub mod NamesLaws

@@ -1,0 +1,3 @@
+pub mod CutBundles
+pub mod CutLinesLaws
+pub mod OakLines

@@ -1,0 +1,2 @@
+pub mod PastedLaws
+pub mod TablesLaws

@@ -1,0 +1,3 @@
+pub mod FieldsLaws
+pub mod PathLaws
+pub mod RecordsLaws

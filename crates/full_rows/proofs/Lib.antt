@@ -1,0 +1,4 @@
+pub mod BlocksLaws
+pub mod FullRowsLaws
+pub mod ItemsLaws
+pub mod OakRows

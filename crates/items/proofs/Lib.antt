@@ -1,0 +1,16 @@
+pub mod Ash
+pub mod ClearLaws
+pub mod Clue
+pub mod CutLaws
+pub mod Elder
+pub mod Elm
+pub mod ElmBeside
+pub mod ElmTexts
+pub mod ListedLaws
+pub mod Oak
+pub mod OffsetsLaws
+pub mod PathsLaws
+pub mod PremiseLaws
+pub mod ProgramLaws
+pub mod TextsLaws
+pub mod Worked

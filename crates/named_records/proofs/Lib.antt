@@ -1,0 +1,2 @@
+pub mod NamedRecordsLaws
+pub mod NamedTableLaws

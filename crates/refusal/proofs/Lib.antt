@@ -1,0 +1,3 @@
+pub mod GuardedLaws
+pub mod Lists
+pub mod RefusalLaws

@@ -1,0 +1,3 @@
+pub mod MappingLaws
+pub mod SegmentsLaws
+pub mod VmAddressLaws

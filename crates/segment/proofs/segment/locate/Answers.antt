@@ -1,0 +1,49 @@
+use borrow.Author.Rules.{rules}
+use native.Mathlib.Omega.{arith}
+use Prim.Native.Nat.{◌≤◌, ◌-◌}
+use mathlib.Core.Path.{◌∙◌}
+use mathlib.Core.Option.{none}
+use mathlib.Core.Logic.{⊎_elim}
+use lib.ListN.{length}
+use Rattle.segment.proofs.SegmentsLaws.{wraps, told, lookup_end}
+use Rattle.segment.proofs.MappingLaws.{Passed, passed_none, passed_above, passed_below, passed_empty, located}
+use Rattle.segment.proofs.segment.locate.Goals as goal
+
+pub loop-i-init : goal.loop-i-init
+loop-i-init c = (omega arith, passed_none _ _)
+
+pub overflow_sub-vmaddr : goal.overflow_sub-vmaddr
+overflow_sub-vmaddr c = omega (arith, c.shared_slice_known-in-loop-i-2-1.given c.loop-i.i)
+
+pub returns-then-vmaddr-vmsize : goal.returns-then-vmaddr-vmsize
+returns-then-vmaddr-vmsize c =
+    told c.args.segments.now c.loop-i.i _ _ c.loop-i.invariant.1.sought none (wraps _ _ (omega arith)) (omega arith)
+
+pub clip-requires : goal.clip-requires
+clip-requires c =
+    record {
+      ends = omega arith;
+      from = (c.loop-i.invariant.1.from, omega arith);
+      to = (c.loop-i.invariant.1.to, omega arith);
+      bytes = omega arith;
+    }
+
+pub returns-then-filesize-ne0 : goal.returns-then-filesize-ne0
+returns-then-filesize-ne0 c =
+    located _ _ _ _ _ c.loop-i.invariant.1 (omega arith) (omega arith) c.clip.result c.clip.ensures
+
+pub loop-i-preserved : goal.loop-i-preserved
+loop-i-preserved c =
+    let k = c.shared_slice_known-in-loop-i-2-1.given c.loop-i.i in (
+      omega arith,
+      ⊎_elim
+          (λ w. passed_above _ _ _ _ _ c.loop-i.invariant.1 (omega (arith, k)) (omega arith) _ _ (omega (arith, w.0)) w.2 (w.3 ∙ w.1.ensures))
+          (⊎_elim
+          (λ w. passed_below _ _ _ _ _ c.loop-i.invariant.1 (omega (arith, k)) (omega arith) _ _ (omega (arith, w.1)) (w.3 ∙ w.2.ensures) w.4)
+          (λ w. passed_empty _ _ _ _ _ c.loop-i.invariant.1 (omega (arith, k)) (omega arith) _ _ (omega (arith, w.3)) w.4 w.5))
+          c.if-address-vmaddr.branch,
+    )
+
+pub returns : goal.returns
+returns c =
+    lookup_end c.args.segments.now c.loop-i.i _ _ c.loop-i.invariant.1.sought (omega arith)

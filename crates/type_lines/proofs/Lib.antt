@@ -1,0 +1,2 @@
+pub mod DigitsLaws
+pub mod LinesLaws
