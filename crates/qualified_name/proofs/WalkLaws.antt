@@ -1,27 +1,51 @@
--- How a walk over contexts goes on, and what it ends with.
-use Rattle.std.specs.Prelude.{ℕ, suc, ◌+◌, ◌*◌, ◌-◌, ◌≤◌, ◌<◌, ◌≡◌, true, false, length, get_or, set, drop}
-use Rattle.std.proofs.Math.Nat.{zero-add}
-use Rattle.std.proofs.Math.Decide.{dec_lt}
-use Rattle.std.proofs.Common.{arith, sym, ◌∙◌, subst, length-set, get_or-set_same, get_or-set_other, lt-ltb, le-ltb}
-use Rattle.std.proofs.Math.Path.{refl, ap}
+-- How a block grows by a context, and what its end says.
+use Prim.Native.Nat.{ℕ, zero, suc, ◌+◌, ◌-◌, ◌^◌, ◌≤◌, ◌<◌, min}
+use Rattle.std.proofs.Common.{add-one, arith, sym, ◌∙◌, length-append, length-take, length-drop, lt-ltb, le-ltb}
+use Rattle.std.specs.Prelude.{◌≡◌, true, false, get_or, set}
+use Rattle.std.proofs.Math.Path.{refl, ap, subst}
 use mathlib.Core.List.{List, [], ◌∷◌, ◌++◌, append_assoc, append-nil}
 use Rattle.std.proofs.Math.Option.{some, none}
-use Rattle.std.proofs.Math.ListN.{get_or-append}
+use Rattle.std.proofs.Math.ListN.{length}
+use Rattle.std.proofs.Math.Seq.{get_or-set_same, get_or-set_other}
 use Rattle.std.proofs.Math.Dec.{leb-suc-suc}
 use Rattle.std.proofs.lemmas.Bool.{lt-leb}
 use Rattle.util.specs.Cstr.{place, part_of}
-use Rattle.util.specs.CstrLaws.{part_in, part_out}
-use Rattle.util.specs.Buffer.{put_end, put_into, at_start}
-use Rattle.util.proofs.BufferLaws.{put_fits}
+use Rattle.util.specs.CstrLaws.{part_in}
+use Rattle.util.specs.Buffer.{Put, put_end, put_into}
+use Rattle.util.specs.BufferLaws.{put_none, put_more, put_then, put_length}
 use Rattle.util.specs.declared.cstr.Text.{Text}
 use Rattle.parent.specs.Context.{Header, Context, context_read, name_read}
 use Rattle.parent.specs.Chain.{chain}
-use Rattle.refusal.specs.Refusal.{Guarded, answered, refused, refusal_number}
-use Rattle.qualified_name.specs.Pieces.{context_pieces, chain_pieces, first_pieces, sum_after}
-use Rattle.qualified_name.proofs.NameLaws.{written_as}
-use Rattle.qualified_name.specs.Walk.{deeper, held_name, held_pieces, Held, walk_pieces, further_pieces, pieces_answer, walk_answer, NameWritten, Further, Joins}
-use Rattle.qualified_name.specs.declared.name.Joined.{Joined}
-use Rattle.qualified_name.proofs.HeldLaws.{part_length, stored_pieces, stored_kept}
+use Rattle.refusal.specs.Refusal.{answered, refused}
+use Rattle.qualified_name.specs.Name.{hop, hops}
+use Rattle.qualified_name.proofs.NameLaws.{onward, measured, hops_written, at_start_lem, from_start}
+use Rattle.qualified_name.specs.Walk.{deeper, before, hops_answer, filled, gathered, Block, Last}
+
+-- ---- the names
+
+part_length : (image : List ℕ) (p n : ℕ) → p + n ≤ length image → length (part_of image (place p n)) ≡ n
+part_length image p n h = rw (part_in image p n h) (simp (length-take, length-drop) (omega arith))
+
+-- a name that is stored at `k` is not among the first `n`
+module _ (image places lengths : List ℕ) (k p l : ℕ) where
+  stored_past : (n : ℕ) → n ≤ k → gathered image (set places k p) (set lengths k l) n ≡ gathered image places lengths n
+  unfolding gathered
+  stored_past zero h = refl
+  stored_past (suc n) h =
+      rw (get_or-set_other places k n p 0 (λ e. omega arith), get_or-set_other lengths k n l 0 (λ e. omega arith), stored_past n (omega arith))
+
+  -- and the first of the hops then
+  stored : k < length places → k < length lengths
+      → gathered image (set places k p) (set lengths k l) (suc k) ≡ (part_of image (place p l) ++ (46 ∷ [])) ++ gathered image places lengths k
+  unfolding gathered
+  stored hp hl = rw (get_or-set_same places k p 0 hp, get_or-set_same lengths k l 0 hl, stored_past k (omega arith))
+
+-- the first hop of a block
+next_name : (image places lengths : List ℕ) (k : ℕ) (p : List ℕ) → p ≡ part_of image (place (get_or places (k - 1) 0) (get_or lengths (k - 1) 0)) → 0 < k
+    → gathered image places lengths k ≡ (p ++ (46 ∷ [])) ++ gathered image places lengths (k - 1)
+unfolding gathered
+next_name image places lengths zero p e h = absurd (omega arith)
+next_name image places lengths (suc k) p e h = let z : suc k - 1 ≡ k = omega arith in rw (e, z)
 
 -- ---- one context of the chain
 
@@ -34,11 +58,11 @@ module _ (image segments : List ℕ) (left a : ℕ) where
   unfolding chain
   chain_goes_on c e = rw (chain, ← e)
 
-  pub end_pieces : none ≡ context_read image segments a → chain_pieces (chain image segments (suc left) a) ≡ []
-  unfolding chain_pieces
-  end_pieces e = rw (chain_ends e)
+  end_before : none ≡ context_read image segments a → before image segments left a ≡ []
+  unfolding hops
+  end_before e = rw (chain_ends e)
 
-  pub end_deep : none ≡ context_read image segments a → deeper image segments left a ≡ false
+  end_deep : none ≡ context_read image segments a → deeper image segments left a ≡ false
   end_deep e = rw (chain_ends e) (lt-leb (suc left) 0 (omega arith))
 
   module _ (c : Context) (e : some c ≡ context_read image segments a) where
@@ -47,184 +71,173 @@ module _ (image segments : List ℕ) (left a : ℕ) where
     too_deep_lem z = rw (chain_goes_on c e, z)
 
     module _ (l : ℕ) (el : left ≡ suc l) where
-      pieces_on : chain_pieces (chain image segments (suc left) a) ≡ chain_pieces (chain image segments (suc l) c.header.parent) ++ context_pieces c.name
-      unfolding chain_pieces
-      pieces_on = rw (chain_goes_on c e, el)
+      before_is : before image segments left a ≡ before image segments l c.header.parent ++ hop c.name
+      unfolding hops
+      before_is = rw (chain_goes_on c e, el)
 
-      deep_on : deeper image segments left a ≡ deeper image segments l c.header.parent
-      deep_on = rw (chain_goes_on c e, el, leb-suc-suc)
+      deep_is : deeper image segments left a ≡ deeper image segments l c.header.parent
+      deep_is = rw (chain_goes_on c e, el, leb-suc-suc)
 
--- ---- the walk
+-- ---- a block
 
--- a walk went on from `a` to `a'`
-pub record Moved (image segments : List ℕ) (left a : ℕ) (names : List ℕ) (held left' a' : ℕ) (names' : List ℕ) (count : ℕ) : Type 0 where
-  pub pieces : walk_pieces image segments left a names held ≡ walk_pieces image segments left' a' names' count
-  pub deep : deeper image segments left a ≡ deeper image segments left' a'
-  pub kept : Held image names' count
-  pub fewer : count + left' ≤ held + left
+pub no_block : (image segments : List ℕ) (left a rest : ℕ) (places lengths : List ℕ) → rest < 2 ^ 64
+    → Block image segments left a rest places lengths 0 left a rest
+unfolding gathered
+no_block image segments left a rest places lengths h =
+    record { hops = sym (append-nil _); deep = refl; bytes = omega arith; few = omega arith; fewer = omega arith }
 
-pub not_moved : (image segments : List ℕ) (left a : ℕ) (names : List ℕ) (held : ℕ) → Held image names held → Moved image segments left a names held left a names held
-not_moved image segments left a names held w = record { pieces = refl; deep = refl; kept = w; fewer = omega arith }
-
-module _ (image segments : List ℕ) (left a : ℕ) (names : List ℕ) (held left' a' : ℕ) (names' : List ℕ) (count : ℕ) (m : Moved image segments left a names held left' a' names' count) where
-  -- there is no further context
-  ends_written : (b t b' : List ℕ) (r : Guarded ℕ) → t ≡ b → none ≡ context_read image segments a'
-      → NameWritten (pieces_answer false (held_pieces image names' count) (length t)) t r b' → NameWritten (walk_answer image segments left a names held (length b)) b r b'
-  ends_written b t b' r et e w =
-      written_as _ _ _ _ b b' r (m.deep ∙ end_deep image segments left' a' e)
-      (m.pieces ∙ ap (λ (ps : List (List ℕ)). ps ++ held_pieces image names' count) (end_pieces image segments left' a' e))
-      (subst (λ (t : List ℕ). NameWritten (pieces_answer false (held_pieces image names' count) (length t)) t r b') et w)
-
-  pub walk_ends : (b t b' : List ℕ) (r : Joined) → t ≡ b → none ≡ context_read image segments a'
-      → Joins (pieces_answer false (held_pieces image names' count) (length t)) t b' (λ _ _ _ _. ⊥) r
-      → Joins (walk_answer image segments left a names held (length b)) b b' (Further image segments left a names held names') r
-  walk_ends b t b' (Joined.Length n) et e w = ends_written b t b' (answered n) et e w
-  walk_ends b t b' (Joined.Refused r) et e w = ends_written b t b' (refused (refusal_number r)) et e w
-  walk_ends b t b' (Joined.Full p l n q) et e w = absurd w.0
-
-  -- or there is one, and no more are allowed
-  pub walk_deep : (b b' : List ℕ) (c : Context) → b' ≡ b → some c ≡ context_read image segments a' → left' ≡ 0
-      → NameWritten (walk_answer image segments left a names held (length b)) b (refused 4) b'
-  unfolding pieces_answer
-  walk_deep b b' c eb e z = rw (m.deep, too_deep_lem image segments left' a' c e z) (record { says = refl; holds = eb })
-
-  -- or it has no name
-  pub walk_unnamed : (h : Header) → some (record { header = h; name = none }) ≡ context_read image segments a' → 0 < left'
-      → Moved image segments left a names held (left' - 1) h.parent names' count
-  walk_unnamed h e hl =
-      let c : Context = record { header = h; name = none } in
+module _ (image segments : List ℕ) (left a rest : ℕ) (places lengths : List ℕ) (count left' a' rest' : ℕ) (b : Block image segments left a rest places lengths count left' a' rest') where
+  pub block_ends : none ≡ context_read image segments a' → Last image segments left a rest places lengths count rest'
+  block_ends e =
       record {
-        pieces = m.pieces ∙ ap (λ (ps : List (List ℕ)). ps ++ held_pieces image names' count) (pieces_on image segments left' a' c e (left' - 1) (omega arith) ∙ append-nil (chain_pieces (chain image segments (suc (left' - 1)) h.parent)));
-        deep = m.deep ∙ deep_on image segments left' a' c e (left' - 1) (omega arith);
-        kept = m.kept;
-        fewer = omega (arith, m.fewer);
+        hops = b.hops ∙ ap (λ (l : List ℕ). l ++ gathered image places lengths count) (end_before image segments left' a' e);
+        deep = b.deep ∙ end_deep image segments left' a' e;
+        bytes = b.bytes;
+        few = b.few;
       }
 
-  -- or it has one
-  module _ (h : Header) (p l : ℕ) (e : some (record { header = h; name = name_read image (Text.At p l) }) ≡ context_read image segments a') (inside : p + l ≤ length image) (hl : 0 < left') where
-    abbrev named : Context
-    named = record { header = h; name = name_read image (Text.At p l) }
+  pub block_full : 8 ≤ count → Block image segments left a rest places lengths 8 left' a' rest'
+  block_full h = let e : count ≡ 8 = omega (arith, b.few) in rw e at b
 
-    further_is : walk_pieces image segments left a names held ≡ further_pieces image segments (left' - 1) h.parent p l names' count
-    further_is =
-        m.pieces
-        ∙ ap (λ (ps : List (List ℕ)). ps ++ held_pieces image names' count) (pieces_on image segments left' a' named e (left' - 1) (omega arith))
-        ∙ append_assoc (chain_pieces (chain image segments (suc (left' - 1)) h.parent)) (context_pieces named.name) (held_pieces image names' count)
+  pub block_deep : (c : Context) → some c ≡ context_read image segments a' → left' ≡ 0 → deeper image segments left a ≡ true
+  block_deep c e z = b.deep ∙ too_deep_lem image segments left' a' c e z
 
-    pub walk_full : length names' - 2 * count < 4 → Further image segments left a names held names' p l h.parent (left' - 1)
-    walk_full hf =
-        record {
-          count = count;
-          pieces = further_is;
-          deep = m.deep ∙ deep_on image segments left' a' named e (left' - 1) (omega arith);
-          kept = m.kept;
-          full = omega (arith, m.kept.room);
-          inside = inside;
-          fewer = omega (arith, m.fewer);
-        }
-
-    pub walk_named : 4 ≤ length names' - 2 * count
-        → Moved image segments left a names held (left' - 1) h.parent (set (set names' (2 * (count + 1)) p) (2 * (count + 1) + 1) l) (count + 1)
-    walk_named hf =
-        let room : 2 * count + 4 ≤ length names' = omega (arith, m.kept.room) in
-        record {
-          pieces =
-              further_is
-              ∙ ap (λ (ps : List (List ℕ)). chain_pieces (chain image segments (suc (left' - 1)) h.parent) ++ ps)
-              (sym (stored_pieces image names' names' count (λ i hi. refl) room (count + 1) (2 * (count + 1)) (2 * (count + 1) + 1) p l refl (omega arith) (omega arith)));
-          deep = m.deep ∙ deep_on image segments left' a' named e (left' - 1) (omega arith);
-          kept = stored_kept image names' names' count (λ i hi. refl) room (count + 1) (2 * (count + 1)) (2 * (count + 1) + 1) p l refl (omega arith) (omega arith) m.kept inside;
-          fewer = omega (arith, m.fewer);
-        }
-
--- ---- more room
-
--- the names 0 to `n` copied into a longer list, and one more
-module _ (image first b t : List ℕ) (n m i j p l : ℕ) (et : t ≡ at_start first b) (w : Held image first n) (el : length first ≡ 2 * n + 2) (inside : p + l ≤ length image)
-    (room : 2 * n + 4 ≤ length t) (em : m ≡ n + 1) (ei : i ≡ 2 * n + 2) (ej : j ≡ 2 * n + 3) where
-  copied : (k : ℕ) → k < 2 * n + 2 → get_or t k 0 ≡ get_or first k 0
-  copied k h = ap (λ (l : List ℕ). get_or l k 0) et ∙ get_or-append first (drop (length first) b) 0 k (omega arith)
-
-  pub copied_kept : Held image (set (set t i p) j l) m
-  copied_kept = stored_kept image first t n copied room m i j p l em ei ej w inside
-
-  pub copied_written : (segments : List ℕ) (left a : ℕ) (c c' : List ℕ) (r : Guarded ℕ)
-      → NameWritten (walk_answer image segments left a (set (set t i p) j l) m (length c)) c r c'
-      → NameWritten (pieces_answer (deeper image segments left a) (further_pieces image segments left a p l first n) (length c)) c r c'
-  copied_written segments left a c c' r u =
-      written_as _ _ _ _ c c' r refl
-      (ap (λ (ps : List (List ℕ)). chain_pieces (chain image segments (suc left) a) ++ ps) (sym (stored_pieces image first t n copied room m i j p l em ei ej))) u
-
--- what the contexts further out give is what all give
-module _ (image segments : List ℕ) (left a : ℕ) (names : List ℕ) (held : ℕ) (names' : List ℕ) (p l a' left' : ℕ) (w : Further image segments left a names held names' p l a' left') where
-  pub further_written : (n : ℕ) → w.count ≡ n → (b t b' : List ℕ) (r : Guarded ℕ) → t ≡ b
-      → NameWritten (pieces_answer (deeper image segments left' a') (further_pieces image segments left' a' p l names' n) (length t)) t r b'
-      → NameWritten (walk_answer image segments left a names held (length b)) b r b'
-  further_written n e b t b' r et u =
-      written_as _ _ _ _ b b' r w.deep (w.pieces ∙ ap (further_pieces image segments left' a' p l names') e)
-      (subst (λ (t : List ℕ). NameWritten (pieces_answer (deeper image segments left' a') (further_pieces image segments left' a' p l names' n) (length t)) t r b') et u)
-
-  pub further_kept : (n : ℕ) → w.count ≡ n → Held image names' n
-  further_kept n e = subst (λ (k : ℕ). Held image names' k) e w.kept
-
--- ---- the own name
-
-part_none : (image : List ℕ) (p : ℕ) → part_of image (place p 0) ≡ []
-part_none image p = elim (dec_lt (length image) (p + 0)) [ yes h ↦ sym (part_out image p 0 h) | no h ↦ part_in image p 0 (omega arith) ]
-
--- with the length that it has in the image, which is 0 if it does not lie there
-part_again : (image : List ℕ) (p n : ℕ) → part_of image (place p (length (part_of image (place p n)))) ≡ part_of image (place p n)
-part_again image p n =
-    elim (dec_lt (length image) (p + n)) [
-      | yes h ↦ rw (← part_out image p n h) (part_none image p)
-      | no h ↦ ap (λ (k : ℕ). part_of image (place p k)) (part_length image p n (omega arith))
-    ]
-
-module _ (image b own : List ℕ) (p n : ℕ) (e : own ≡ part_of image (place p n)) (h : 2 ≤ length b) where
-  abbrev alone : List ℕ
-  alone = set (set b 0 p) 1 (length own)
-
-  own_size : get_or alone 1 0 ≡ length own
-  own_size = get_or-set_same (set b 0 p) 1 (length own) 0 (omega (arith, length-set b 0 p))
-
-  own_name : held_name image alone 0 ≡ own
-  own_name =
-      let f : get_or alone 0 0 ≡ p = get_or-set_other (set b 0 p) 1 0 (length own) 0 (λ z. omega arith) ∙ get_or-set_same b 0 p 0 (omega arith) in
-      rw (f, own_size, e) (part_again image p n)
-
-  pub own_kept : Held image alone 0
-  own_kept =
+  pub block_unnamed : (h : Header) → some (record { header = h; name = none }) ≡ context_read image segments a' → 0 < left'
+      → Block image segments left a rest places lengths count (left' - 1) h.parent rest'
+  block_unnamed h e hl =
+      let f : before image segments left' a' ≡ before image segments (left' - 1) h.parent =
+      before_is image segments left' a' (record { header = h; name = none }) e (left' - 1) (omega arith) ∙ append-nil _ in
       record {
-        room = omega (arith, length-set (set b 0 p) 1 (length own), length-set b 0 p);
-        measured = λ k hk. let z : k ≡ 0 = omega arith in rw (z, own_name, own_size);
+        hops = b.hops ∙ ap (λ (l : List ℕ). l ++ gathered image places lengths count) f;
+        deep = b.deep ∙ deep_is image segments left' a' (record { header = h; name = none }) e (left' - 1) (omega arith);
+        bytes = b.bytes;
+        few = b.few;
+        fewer = omega (arith, b.fewer);
       }
 
-  own_pieces : held_pieces image alone 0 ≡ own ∷ []
-  unfolding held_pieces
-  own_pieces = ap (λ (t : List ℕ). t ∷ []) own_name
+  pub block_named : (h : Header) (p n : ℕ) → some (record { header = h; name = name_read image (Text.At p n) }) ≡ context_read image segments a'
+      → (rest'' : ℕ) → rest'' ≡ min (rest' + (n + 1)) (2 ^ 64 - 1) → p + n ≤ length image
+      → 0 < left' → count < 8 → count < length places → count < length lengths
+      → Block image segments left a rest (set places count p) (set lengths count n) (count + 1) (left' - 1) h.parent rest''
+  block_named h p n e rest'' er hi hl hc hp hn =
+      let t : List ℕ = part_of image (place p n) in
+      let lt : length t ≡ n = part_length image p n hi in
+      let c : Context = record { header = h; name = name_read image (Text.At p n) } in
+      let further : List ℕ = before image segments (left' - 1) h.parent in
+      let g : gathered image (set places count p) (set lengths count n) (count + 1) ≡ (t ++ (46 ∷ [])) ++ gathered image places lengths count =
+      rw add-one (stored image places lengths count p n hp hn) in
+      let long : length (gathered image (set places count p) (set lengths count n) (count + 1)) ≡ length t + 1 + length (gathered image places lengths count) =
+      rw g (simp length-append) in
+      let f : before image segments left' a' ≡ further ++ (t ++ (46 ∷ [])) = before_is image segments left' a' c e (left' - 1) (omega arith) in
+      record {
+        hops =
+            b.hops
+            ∙ ap (λ (l : List ℕ). l ++ gathered image places lengths count) f
+            ∙ append_assoc further (t ++ (46 ∷ [])) (gathered image places lengths count)
+            ∙ ap (λ (l : List ℕ). further ++ l) (sym g);
+        deep = b.deep ∙ deep_is image segments left' a' c e (left' - 1) (omega arith);
+        bytes = omega (arith, long, lt, er, b.bytes);
+        few = omega arith;
+        fewer = omega (arith, b.fewer);
+      }
 
-  pub own_written : (segments : List ℕ) (left a : ℕ) (c c' : List ℕ) (r : Guarded ℕ)
-      → NameWritten (walk_answer image segments left a alone 0 (length c)) c r c'
-      → NameWritten (pieces_answer (deeper image segments left a) (chain_pieces (chain image segments (suc left) a) ++ (own ∷ [])) (length c)) c r c'
-  own_written segments left a c c' r u =
-      written_as _ _ _ _ c c' r refl (ap (λ (ps : List (List ℕ)). chain_pieces (chain image segments (suc left) a) ++ ps) (sym own_pieces)) u
+-- no context at all
+module _ (image segments : List ℕ) (left a rest : ℕ) (e : none ≡ context_read image segments a) where
+  no_names : rest < 2 ^ 64 → Last image segments left a rest [] [] 0 rest
+  no_names h = block_ends image segments left a rest [] [] 0 left a rest (no_block image segments left a rest [] [] h) e
+
+-- ---- the names into a buffer
+
+-- the names from the last one down to `k` were put: what is put so far, and then the hops of those before `k`, are the hops of all
+pub record Putting (image places lengths : List ℕ) (count : ℕ) (b : List ℕ) (at k end : ℕ) (b' : List ℕ) : Type 0 where
+  pub text : List ℕ
+  pub put : Put b at text end b'
+  pub goes : gathered image places lengths count ≡ text ++ gathered image places lengths k
+  pub within : k ≤ count
+
+pub put_start : (image places lengths : List ℕ) (count : ℕ) (b : List ℕ) (at : ℕ) → Putting image places lengths count b at count at b
+put_start image places lengths count b at = record { text = []; put = put_none b at; goes = refl; within = omega arith }
+
+module _ (image places lengths : List ℕ) (count : ℕ) (b : List ℕ) (at k end : ℕ) (b' : List ℕ) (u : Putting image places lengths count b at k end b') where
+  pub put_next : (p b'' b''' : List ℕ) (m n : ℕ) → p ≡ part_of image (place (get_or places (k - 1) 0) (get_or lengths (k - 1) 0))
+      → m ≡ put_end b' end p → b'' ≡ put_into b' end p → n ≡ put_end b'' m (46 ∷ []) → b''' ≡ put_into b'' m (46 ∷ [])
+      → 0 < k → at + length (gathered image places lengths count) ≤ length b → Putting image places lengths count b at (k - 1) n b'''
+  put_next p b'' b''' m n ep em eb en ed h fits =
+      let g : gathered image places lengths count ≡ u.text ++ ((p ++ (46 ∷ [])) ++ gathered image places lengths (k - 1)) = u.goes ∙ ap (λ (x : List ℕ). u.text ++ x) (next_name image places lengths k p ep h) in
+      let l : length (gathered image places lengths count) ≡ length u.text + (length p + 1 + length (gathered image places lengths (k - 1))) = rw g (simp length-append) in
+      let first : Put b at (u.text ++ p) m b'' = put_more b u.text p b' b'' at end m u.put em eb (omega arith) in
+      record {
+        text = (u.text ++ p) ++ (46 ∷ []);
+        put = put_more b (u.text ++ p) (46 ∷ []) b'' b''' at m n first en ed (omega (arith, length-append u.text p));
+        goes = g ∙ simp append_assoc;
+        within = omega (arith, u.within);
+      }
+
+  pub put_all : k ≡ 0 → Put b at (gathered image places lengths count) end b'
+  unfolding gathered
+  put_all z =
+      subst (λ (t : List ℕ). Put b at t end b') (sym (u.goes ∙ ap (λ (n : ℕ). u.text ++ gathered image places lengths n) z ∙ append-nil u.text)) u.put
+
+  pub put_kept : at + length (gathered image places lengths count) ≤ length b → length b' ≡ length b
+  put_kept fits =
+      let l : length (gathered image places lengths count) ≡ length u.text + length (gathered image places lengths k) = rw u.goes (simp length-append) in
+      put_length b u.text b' at end u.put (omega arith)
+
+-- ---- the answers
+
+pub walk_deep : (image segments : List ℕ) (left a rest size : ℕ) → deeper image segments left a ≡ true → refused 4 ≡ hops_answer image segments left a rest size
+unfolding hops_answer
+walk_deep image segments left a rest size e = rw e
+
+module _ (image segments : List ℕ) (left a rest : ℕ) (places lengths : List ℕ) (count rest' : ℕ) (b : Last image segments left a rest places lengths count rest') where
+  pub last_long : (size : ℕ) → size < rest' → size < 2 ^ 64 - 1 → refused 3 ≡ hops_answer image segments left a rest size
+  unfolding hops_answer
+  last_long size h hs = rw (b.deep, b.hops) (simp (lt-ltb size (rest + length (gathered image places lengths count)) (omega (arith, b.bytes))))
+
+  pub last_fits : (size : ℕ) → rest' ≤ size → size < 2 ^ 64 - 1 → length (gathered image places lengths count) ≤ size
+  last_fits size h hs = omega (arith, b.bytes)
+
+  pub last_written : (size n : ℕ) → n ≡ 0 + length (gathered image places lengths count) → rest' ≤ size → size < 2 ^ 64 - 1 → answered n ≡ hops_answer image segments left a rest size
+  unfolding hops_answer
+  last_written size n e h hs =
+      rw (b.deep, b.hops) (simp (le-ltb size (rest + length (gathered image places lengths count)) (omega (arith, b.bytes))) (ap answered (omega arith)))
+
+  pub last_filled : (t t' : List ℕ) (n : ℕ) → Put t 0 (gathered image places lengths count) n t' → t' ≡ filled (answered n) (before image segments left a) t
+  last_filled t t' n w = rw b.hops (from_start t (gathered image places lengths count) t' n w)
 
 -- if there is no context
-module _ (image segments : List ℕ) (left a : ℕ) (e : none ≡ context_read image segments a) (own b : List ℕ) where
-  own_alone : (b' : List ℕ) (r : Guarded ℕ) → NameWritten (pieces_answer false (own ∷ []) (length b)) b r b'
-      → NameWritten (pieces_answer (deeper image segments left a) (chain_pieces (chain image segments (suc left) a) ++ (own ∷ [])) (length b)) b r b'
-  own_alone b' r u =
-      written_as _ _ _ _ b b' r (end_deep image segments left a e) (ap (λ (ps : List (List ℕ)). ps ++ (own ∷ [])) (end_pieces image segments left a e)) u
+module _ (image segments : List ℕ) (left a : ℕ) (e : none ≡ context_read image segments a) where
+  pub none_long : (rest size : ℕ) → size < rest → rest < 2 ^ 64 → size < 2 ^ 64 - 1 → refused 3 ≡ hops_answer image segments left a rest size
+  none_long rest size h hr hs = last_long image segments left a rest [] [] 0 rest (no_names image segments left a rest e hr) size h hs
 
-  pub alone_long : length b < length own
-      → NameWritten (pieces_answer (deeper image segments left a) (chain_pieces (chain image segments (suc left) a) ++ (own ∷ [])) (length b)) b (refused 3) b
-  unfolding pieces_answer sum_after
-  alone_long h = own_alone b (refused 3) (rw (lt-ltb (length b) (length own + 0) (omega arith)) (record { says = refl; holds = refl }))
+  pub none_written : (rest size : ℕ) → rest ≤ size → size < 2 ^ 64 - 1 → answered 0 ≡ hops_answer image segments left a rest size
+  unfolding gathered
+  none_written rest size h hs = last_written image segments left a rest [] [] 0 rest (no_names image segments left a rest e (omega arith)) size 0 refl h hs
 
-  pub alone_written : (n : ℕ) (b' : List ℕ) → length own ≤ length b → n ≡ put_end b 0 own → b' ≡ put_into b 0 own
-      → NameWritten (pieces_answer (deeper image segments left a) (chain_pieces (chain image segments (suc left) a) ++ (own ∷ [])) (length b)) b (answered n) b'
-  unfolding pieces_answer sum_after first_pieces
-  alone_written n b' h en eb =
-      let w = put_fits b own b' 0 n en eb (omega arith) in
-      own_alone b' (answered n)
-      (rw (le-ltb (length b) (length own + 0) (omega arith), append-nil) (record { says = ap answered (omega (arith, w.ends)); holds = w.holds ∙ rw zero-add }))
+  pub none_filled : (t : List ℕ) → t ≡ filled (answered 0) (before image segments left a) t
+  unfolding gathered
+  none_filled t = last_filled image segments left a 0 [] [] 0 0 (no_names image segments left a 0 e (omega arith)) t t 0 (put_none t 0)
+
+-- from the answer of the contexts further out
+module _ (image segments : List ℕ) (left a rest : ℕ) (places lengths : List ℕ) (count left' a' rest' : ℕ) (b : Block image segments left a rest places lengths count left' a' rest') where
+  further : (size : ℕ) → size < 2 ^ 64 - 1
+      → hops_answer image segments left a rest size ≡ onward (length (gathered image places lengths count)) (hops_answer image segments left' a' rest' size)
+  unfolding hops_answer
+  further size hs = rw (b.deep, b.hops, length-append) (measured (deeper image segments left' a') (length (before image segments left' a')) _ rest rest' size b.bytes hs)
+
+  pub further_fits : (size n : ℕ) → answered n ≡ hops_answer image segments left' a' rest' size → size < 2 ^ 64 - 1
+      → n + length (gathered image places lengths count) ≤ size
+  further_fits size n f hs = omega (arith, hops_written image segments left' a' rest' size n f, b.bytes)
+
+  pub further_written : (size n r : ℕ) → answered n ≡ hops_answer image segments left' a' rest' size → r ≡ n + length (gathered image places lengths count)
+      → size < 2 ^ 64 - 1 → answered r ≡ hops_answer image segments left a rest size
+  further_written size n r f er hs = ap answered er ∙ ap (onward (length (gathered image places lengths count))) f ∙ sym (further size hs)
+
+  pub further_refused : (size x : ℕ) → refused x ≡ hops_answer image segments left' a' rest' size → size < 2 ^ 64 - 1 → refused x ≡ hops_answer image segments left a rest size
+  further_refused size x f hs = ap (onward (length (gathered image places lengths count))) f ∙ sym (further size hs)
+
+  pub further_filled : (t t' t'' : List ℕ) (at end : ℕ) → t' ≡ filled (answered at) (before image segments left' a') t
+      → at ≡ length (before image segments left' a') → Put t' at (gathered image places lengths count) end t'' → at ≤ length t
+      → t'' ≡ filled (answered end) (before image segments left a) t
+  further_filled t t' t'' at end et ea w h =
+      rw b.hops (from_start _ _ _ _ (put_then t (before image segments left' a') (gathered image places lengths count) t' t'' 0 at end (at_start_lem _ _ _ _ ea et) w (omega arith)))

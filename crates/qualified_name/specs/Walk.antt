@@ -1,65 +1,64 @@
--- How the joined name is written: contexts are read one after the other, and where their names lie is kept. This file is for the functions
--- that write it; no definition of a name rests on it.
-use Rattle.std.specs.Prelude.{ℕ, zero, suc, ◌+◌, ◌*◌, ◌≤◌, ◌<◌, ◌≡◌, List, [], ◌∷◌, ◌++◌, Bool, cond, length, get_or, leb, ltb}
-use Rattle.refusal.specs.Refusal.{Guarded, answered, refused, mapped, answer_of, refusal_number}
-use Rattle.util.specs.Buffer.{overwritten}
+-- How the joined name is written, block by block: contexts are read one after the other, and their names are kept. This file is
+-- for the functions that write it; no definition of a name rests on it.
+use Rattle.std.specs.Prelude.{ℕ, zero, suc, ◌+◌, ◌-◌, ◌^◌, ◌≤◌, min, ◌≡◌, List, [], ◌∷◌, ◌++◌, Bool, true, false, cond, length, get_or, leb, ltb}
+use Rattle.refusal.specs.Refusal.{Guarded, answered, refused, refusal_number}
+use Rattle.util.specs.Buffer.{at_start}
 use Rattle.util.specs.Cstr.{place, part_of}
 use Rattle.parent.specs.Chain.{chain}
-use Rattle.qualified_name.specs.Pieces.{chain_pieces, first_pieces, sum_after}
-use Rattle.qualified_name.specs.declared.name.Joined.{Joined}
+use Rattle.qualified_name.specs.Name.{hops}
+use Rattle.qualified_name.specs.declared.name.Hops.{Hops}
+use Rattle.qualified_name.specs.declared.name.Walk.{Walk}
 
--- whether more than `left` contexts can be read from an address on
+-- whether more than `left` contexts can be read from an address on, and the hops of those that are read to see it
 abbrev pub deeper : List ℕ → List ℕ → ℕ → ℕ → Bool
 deeper image segments left a = leb (suc left) (length (chain image segments (suc left) a))
 
--- name `k` of a list of places and lengths: name 0 is the type's own, the others are the contexts', from the innermost on
-abbrev pub held_name : List ℕ → List ℕ → ℕ → List ℕ
-held_name image names k = part_of image (place (get_or names (2 * k) 0) (get_or names (2 * k + 1) 0))
+abbrev pub before : List ℕ → List ℕ → ℕ → ℕ → List ℕ
+before image segments left a = hops (chain image segments (suc left) a)
 
--- the pieces of the names `n` to 0
-unfoldable pub held_pieces : List ℕ → List ℕ → ℕ → List (List ℕ)
-held_pieces image names zero = held_name image names 0 ∷ []
-held_pieces image names (suc n) = held_name image names (suc n) ∷ (46 ∷ []) ∷ held_pieces image names n
+-- the length of the hops of the contexts from an address on, of which `left` are allowed, before `rest` bytes: 4 if one more can be
+-- read, 3 if hops and rest are longer than the buffer
+unfoldable pub hops_answer : List ℕ → List ℕ → ℕ → ℕ → ℕ → ℕ → Guarded ℕ
+hops_answer image segments left a rest size =
+    cond (deeper image segments left a) (refused 4)
+    (cond (ltb size (rest + length (before image segments left a))) (refused 3) (answered (length (before image segments left a))))
 
--- the list has the names 0 to `n`, each as long as it says
-pub record Held (image names : List ℕ) (n : ℕ) : Type 0 where
-  pub room : 2 * n + 2 ≤ length names
-  pub measured : (k : ℕ) → k ≤ n → length (held_name image names k) ≡ get_or names (2 * k + 1) 0
+abbrev pub hops_of : Hops → Guarded ℕ
+hops_of (Hops.Written n) = answered n
+hops_of (Hops.Refused r) = refused (refusal_number r)
 
--- all pieces, where a walk stands at an address, with `left` more contexts allowed, and has kept the names of `n` contexts
-abbrev pub walk_pieces : List ℕ → List ℕ → ℕ → ℕ → List ℕ → ℕ → List (List ℕ)
-walk_pieces image segments left a names n = chain_pieces (chain image segments (suc left) a) ++ held_pieces image names n
+-- the buffer with a text at its start, unless the answer is a refusal
+unfoldable pub filled : Guarded ℕ → List ℕ → List ℕ → List ℕ
+filled (refused n) t buffer = buffer
+filled (answered n) t buffer = at_start t buffer
 
--- the same with one name more, of `size` bytes at `start`
-abbrev pub further_pieces : List ℕ → List ℕ → ℕ → ℕ → ℕ → ℕ → List ℕ → ℕ → List (List ℕ)
-further_pieces image segments left a start size names n =
-    chain_pieces (chain image segments (suc left) a) ++ (part_of image (place start size) ∷ (46 ∷ []) ∷ held_pieces image names n)
+-- the hops of the first `n` names, the last one first
+unfoldable pub gathered : List ℕ → List ℕ → List ℕ → ℕ → List ℕ
+gathered image places lengths zero = []
+gathered image places lengths (suc n) =
+    (part_of image (place (get_or places n 0) (get_or lengths n 0)) ++ (46 ∷ [])) ++ gathered image places lengths n
 
--- the name of these pieces for a buffer of a length: 4 if the contexts are too many, then 3 if it is longer than the buffer
-unfoldable pub pieces_answer : Bool → List (List ℕ) → ℕ → Guarded (List ℕ)
-pieces_answer deep ps size =
-    cond deep (refused 4) (cond (ltb size (sum_after (length ps) ps)) (refused 3) (answered (first_pieces (length ps) ps)))
+-- the number of bytes of the hops and of what comes after them, or 2^64 - 1 if it would be more
+abbrev pub room : ℕ → List ℕ → ℕ
+room rest hops = min (rest + length hops) (2 ^ 64 - 1)
 
-abbrev pub walk_answer : List ℕ → List ℕ → ℕ → ℕ → List ℕ → ℕ → ℕ → Guarded (List ℕ)
-walk_answer image segments left a names n size = pieces_answer (deeper image segments left a) (walk_pieces image segments left a names n) size
-
--- what a call says of an answer, and the buffer after it
-pub record NameWritten (x : Guarded (List ℕ)) (b : List ℕ) (r : Guarded ℕ) (b' : List ℕ) : Type 0 where
-  pub says : r ≡ mapped length x
-  pub holds : b' ≡ overwritten b (answer_of x)
-
--- a walk has come to one name more than there is room for
-pub record Further (image segments : List ℕ) (left a : ℕ) (names : List ℕ) (held : ℕ) (names' : List ℕ) (start size a' left' : ℕ) : Type 0 where
-  pub count : ℕ
-  pub pieces : walk_pieces image segments left a names held ≡ further_pieces image segments left' a' start size names' count
+-- the hops from address `a` on, where `left` contexts are allowed, are those from `a'` on, where `left'` are, and then those of the names
+pub record Block (image segments : List ℕ) (left a rest : ℕ) (places lengths : List ℕ) (count left' a' rest' : ℕ) : Type 0 where
+  pub hops : before image segments left a ≡ before image segments left' a' ++ gathered image places lengths count
   pub deep : deeper image segments left a ≡ deeper image segments left' a'
-  pub kept : Held image names' count
-  pub full : length names' < 2 * count + 4
-  pub inside : start + size ≤ length image
-  pub fewer : count + 1 + left' ≤ held + left
+  pub bytes : rest' ≡ room rest (gathered image places lengths count)
+  pub few : count ≤ 8
+  pub fewer : count + left' ≤ left
 
--- what a walk ends with: an answer, or `more`, where it goes on, with the buffer unchanged
-abbrev pub Joins : Guarded (List ℕ) → List ℕ → List ℕ → (ℕ → ℕ → ℕ → ℕ → Type 0) → Joined → Type 0
-Joins x b b' more (Joined.Length n) = NameWritten x b (answered n) b'
-Joins x b b' more (Joined.Refused r) = NameWritten x b (refused (refusal_number r)) b'
-Joins x b b' more (Joined.Full start size next left) = more start size next left × (b' ≡ b)
+-- there is no context after those of the names
+pub record Last (image segments : List ℕ) (left a rest : ℕ) (places lengths : List ℕ) (count rest' : ℕ) : Type 0 where
+  pub hops : before image segments left a ≡ gathered image places lengths count
+  pub deep : deeper image segments left a ≡ false
+  pub bytes : rest' ≡ room rest (gathered image places lengths count)
+  pub few : count ≤ 8
+
+-- what a walk from `a` on ended with, and the names that it kept
+abbrev pub Walked : List ℕ → List ℕ → ℕ → ℕ → ℕ → List ℕ → List ℕ → Walk → Type 0
+Walked image segments left a rest places lengths (Walk.Ended count rest') = Last image segments left a rest places lengths count rest'
+Walked image segments left a rest places lengths (Walk.Full next left' rest') = Block image segments left a rest places lengths 8 left' next rest'
+Walked image segments left a rest places lengths Walk.TooDeep = deeper image segments left a ≡ true

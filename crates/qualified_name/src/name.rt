@@ -1,11 +1,10 @@
 // The joined name of a type: the names of the contexts around it, the outermost first, with dots, and then its own.
-ghost use Rattle.std.specs.Prelude.{◌≡◌, List, false, ℕ, ◌+◌, ◌*◌, ◌≤◌, ◌<◌, ◌^◌, ◌-◌, min, length, get_or};
+ghost use Rattle.std.specs.Prelude.{◌≡◌, ◌+◌, ◌≤◌, ◌^◌, ◌-◌, min, length};
 ghost use Rattle.refusal.specs.Refusal.{mapped, answer_of};
-ghost use Rattle.qualified_name.specs.Pieces.{first_pieces, sum_after};
-ghost use Rattle.qualified_name.specs.Walk.{held_name, held_pieces, Held, pieces_answer, walk_answer, NameWritten, Further, Joins, deeper, further_pieces};
+ghost use Rattle.qualified_name.specs.Walk.{gathered, Walked, hops_answer, hops_of, filled, before};
 ghost use Rattle.qualified_name.specs.Name.{name_answer, length_of};
 ghost use Rattle.typedescriptor.specs.Row.{row_of};
-ghost use Rattle.util.specs.Buffer.{overwritten, at_start};
+ghost use Rattle.util.specs.Buffer.{Put, overwritten};
 ghost use Rattle.segment.specs.Mapping.{TrueMapping, with_mapping};
 
 use parent::{CONTEXTS, HeaderRead, has_name, read_context_name, read_header};
@@ -15,24 +14,32 @@ use typedescriptor::Row;
 use util::Text;
 
 #[derive(Clone, Copy)]
+pub enum Hops {
+    Written(usize),
+    Refused(Refusal),
+}
+
+#[derive(Clone, Copy)]
 pub enum QualifiedName {
     Length(usize),
     Refused(Refusal),
 }
 
-// What a walk over contexts ended with: the name, or a refusal, or that the list of names is full. The variants stand side by side, since an
-// enum within another one would be copied two numbers at a time.
+// What a walk over contexts ended with. `room` is what the names, their dots and `rest` more bytes take.
 #[derive(Clone, Copy)]
-pub enum Joined {
-    Length(usize),
-    Refused(Refusal),
-    // There is no room for one more name, at `place`. The walk goes on at `next`, with `allowed` more contexts.
+pub enum Walk {
+    // After `count` names there is no further context.
+    Ended {
+        count: usize,
+        room: usize,
+    },
+    // 8 names: the walk goes on at `next`, with `allowed` more contexts.
     Full {
-        place: usize,
-        length: usize,
         next: u64,
         allowed: usize,
+        room: usize,
     },
+    TooDeep,
 }
 
 // The mapping to read a type's contexts with: the caller's, if it has the first of them, or the addresses around that one.
@@ -59,121 +66,38 @@ fn saturating_add(a: usize, b: usize) -> usize
     }
 }
 
-// Name `k` of a list of places and lengths.
-fn name_at<'a>(image: &'a [u8], names: &[usize], k: usize) -> &'a [u8]
-    requires { 2 * k + 2 ≤ length names.now }
-    ensures { result.now ≡ held_name image.now names.now k }
-{
-    util::part(image, names[2 * k], names[2 * k + 1])
-}
-
-// The sum after the first `pieces` pieces of the names `count` to 0: each name and its dot, and last the type's own name, which is name 0. The
-// sum is kept at 2^64 - 1 where it would pass that.
-fn measure(names: &[usize], count: usize, pieces: usize) -> usize
-    requires { (2 * count + 2 ≤ length names.now) × (pieces ≤ 2 * count + 1) × ((k : ℕ) → k ≤ count → get_or names.now (2 * k + 1) 0 < 2 ^ 64 - 1) }
-    ensures { (image : List ℕ) → Held image names.now count → result ≡ min (sum_after pieces (held_pieces image names.now count)) (2 ^ 64 - 1) }
-{
-    let mut k = count;
-    let mut left = pieces;
-    let mut sum = 0;
-    while 1 < left {
-        sum = saturating_add(sum, names[2 * k + 1] + 1);
-        k -= 1;
-        left -= 2;
-    }
-    if left == 0 {
-        return sum;
-    }
-    saturating_add(sum, names[2 * k + 1])
-}
-
-// Writes the same pieces in the same order into the buffer's start, and returns the sum after them.
-fn put_pieces(
-    image: &[u8],
-    names: &[usize],
-    count: usize,
-    pieces: usize,
-    buffer: &mut [u8],
-) -> usize
-    requires count_in_bounds { (2 * count + 2 ≤ length names.now) × (pieces ≤ 2 * count + 1) }
-    requires count_in_bounds_2 { sum_after pieces (held_pieces image.now names.now count) ≤ length buffer.old }
-    ensures value { result ≡ sum_after pieces (held_pieces image.now names.now count) }
-    ensures buffer_after { buffer.new ≡ at_start (first_pieces pieces (held_pieces image.now names.now count)) buffer.old }
-{
-    let mut k = count;
-    let mut left = pieces;
-    let mut end = 0;
-    while 1 < left {
-        let dot = util::put(name_at(image, names, k), buffer, end);
-        end = util::put(b".", buffer, dot);
-        k -= 1;
-        left -= 2;
-    }
-    if left == 0 {
-        return end;
-    }
-    util::put(name_at(image, names, k), buffer, end)
-}
-
-// Writes the joined name of the names `count` to 0, if the buffer holds it.
-fn join(image: &[u8], names: &[usize], count: usize, buffer: &mut [u8]) -> Joined
-    requires { Held image.now names.now count }
-    ensures { Joins (pieces_answer false (held_pieces image.now names.now count) (length buffer.old)) buffer.old buffer.new (λ _ _ _ _. ⊥) result }
-{
-    let pieces = 2 * count + 1;
-    if buffer.len() < measure(names, count, pieces) {
-        return Joined::Refused(Refusal::LongName);
-    }
-    Joined::Length(put_pieces(image, names, count, pieces, buffer))
-}
-
-// Reads the contexts from `descriptor_va` on, of which `left` are allowed, keeps their names after those of `held` contexts, and writes the
-// joined name. The mapping comes as its three numbers: a struct that was just put together would be copied two numbers at a time, which
-// makes the processor wait.
-fn write_name(
+// Reads contexts from `descriptor_va` on, of which `left` are allowed, until 8 have a name, and keeps where the names lie and how long they are.
+fn collect(
     image: &[u8],
     segments: &[u64],
-    vmaddr: u64,
-    size: u64,
-    fileoff: u64,
+    mapping: Mapping,
     descriptor_va: u64,
     left: usize,
-    held: usize,
-    names: &mut [usize],
-    buffer: &mut [u8],
-) -> Joined
-    requires { Held image.now names.old held }
-    ensures { Joins (walk_answer image.now (with_mapping (record { vmaddr = vmaddr; size = size; fileoff = fileoff }) segments.now) left descriptor_va names.old held (length buffer.old)) buffer.old buffer.new (Further image.now (with_mapping (record { vmaddr = vmaddr; size = size; fileoff = fileoff }) segments.now) left descriptor_va names.old held names.new) result }
+    rest: usize,
+    places: &mut [usize],
+    lengths: &mut [usize],
+) -> Walk
+    requires { (length places.old ≡ 8) × (length lengths.old ≡ 8) }
+    ensures { Walked image.now (with_mapping mapping segments.now) left descriptor_va rest places.new lengths.new result }
 {
-    let mapping = Mapping {
-        vmaddr,
-        size,
-        fileoff,
-    };
-    let mut count = held;
+    let mut count = 0;
     let mut next = descriptor_va;
     let mut allowed = left;
-    loop {
+    let mut room = rest;
+    while count < 8 {
         match read_header(image, segments, mapping, next) {
             HeaderRead::Header { flags, parent } => {
                 if allowed == 0 {
-                    return Joined::Refused(Refusal::DeepContexts);
+                    return Walk::TooDeep;
                 }
                 allowed -= 1;
                 if has_name(flags) {
                     match read_context_name(image, segments, mapping, next) {
                         Text::At { place, length } => {
-                            if names.len() - 2 * count < 4 {
-                                return Joined::Full {
-                                    place,
-                                    length,
-                                    next: parent,
-                                    allowed,
-                                };
-                            }
+                            places[count] = place;
+                            lengths[count] = length;
+                            room = saturating_add(room, length + 1);
                             count += 1;
-                            names[2 * count] = place;
-                            names[2 * count + 1] = length;
                         }
                         Text::Nothing => {}
                     }
@@ -181,108 +105,100 @@ fn write_name(
                 next = parent;
             }
             HeaderRead::Nothing => {
-                return join(image, names, count, buffer);
+                return Walk::Ended { count, room };
             }
         }
     }
-}
-
-// Copies a list of names into the start of a longer one.
-fn copy_names(first: &[usize], names: &mut [usize])
-    requires { length first.now ≤ length names.old }
-    ensures { names.new ≡ at_start first.now names.old }
-{
-    let mut i = 0;
-    while i < first.len() {
-        names[i] = first[i];
-        i += 1;
+    Walk::Full {
+        next,
+        allowed,
+        room,
     }
 }
 
-// Goes on after the names of 32 contexts, with room for those of all 256.
-fn name_in_256(
+// Writes the first `count` names, the last of them first, each with its dot.
+fn put_hops(
     image: &[u8],
-    segments: &[u64],
-    mapping: Mapping,
-    descriptor_va: u64,
-    left: usize,
-    first: &[usize],
-    start: usize,
-    size: usize,
+    places: &[usize],
+    lengths: &[usize],
+    count: usize,
     buffer: &mut [u8],
-) -> QualifiedName
-    requires { (length first.now ≡ 66) × (left + 33 ≤ 256) × (start + size ≤ length image.now) × Held image.now first.now 32 }
-    ensures { NameWritten (pieces_answer (deeper image.now (with_mapping mapping segments.now) left descriptor_va) (further_pieces image.now (with_mapping mapping segments.now) left descriptor_va start size first.now 32) (length buffer.old)) buffer.old (length_of result) buffer.new }
+    at: usize,
+) -> usize
+    requires count_in_bounds { (count ≤ length places.now) × (count ≤ length lengths.now) }
+    requires count_in_bounds_2 { at + length (gathered image.now places.now lengths.now count) ≤ length buffer.old }
+    ensures { Put buffer.old at (gathered image.now places.now lengths.now count) result buffer.new }
 {
-    let mut names = [0usize; 514];
-    copy_names(first, &mut names);
-    names[66] = start;
-    names[67] = size;
-    match write_name(
-        image,
-        segments,
-        mapping.vmaddr,
-        mapping.size,
-        mapping.fileoff,
-        descriptor_va,
-        left,
-        33,
-        &mut names,
-        buffer,
-    ) {
-        Joined::Length(length) => QualifiedName::Length(length),
-        Joined::Refused(refusal) => QualifiedName::Refused(refusal),
-        // There are no more than 256 contexts, so this does not happen.
-        Joined::Full {
-            place: _,
-            length: _,
-            next: _,
-            allowed: _,
-        } => QualifiedName::Refused(Refusal::DeepContexts),
+    let mut k = count;
+    let mut end = at;
+    while k > 0 {
+        k -= 1;
+        let dot = util::put(util::part(image, places[k], lengths[k]), buffer, end);
+        end = util::put(b".", buffer, dot);
     }
+    end
 }
 
-// Goes on after the names of 8 contexts, with room for those of 32.
-fn name_in_32(
+// Writes the hops of the contexts from `descriptor_va` on into the buffer's start, the outermost first, if they and `rest` more bytes fit in.
+// On the way up the room is measured, on the way back the hops are written: every context is read once, and a call is made for every 8 names.
+// The mapping comes as its three numbers: a struct that was just put together would be copied two numbers at a time, which makes the
+// processor wait.
+fn write_hops(
     image: &[u8],
     segments: &[u64],
-    mapping: Mapping,
+    vmaddr: u64,
+    size: u64,
+    fileoff: u64,
     descriptor_va: u64,
     left: usize,
-    first: &[usize],
-    start: usize,
-    size: usize,
+    rest: usize,
     buffer: &mut [u8],
-) -> QualifiedName
-    requires { (length first.now ≡ 18) × (left + 9 ≤ 256) × (start + size ≤ length image.now) × Held image.now first.now 8 }
-    ensures { NameWritten (pieces_answer (deeper image.now (with_mapping mapping segments.now) left descriptor_va) (further_pieces image.now (with_mapping mapping segments.now) left descriptor_va start size first.now 8) (length buffer.old)) buffer.old (length_of result) buffer.new }
+) -> Hops
+    ensures result_value { hops_of result ≡ hops_answer image.now (with_mapping (record { vmaddr = vmaddr; size = size; fileoff = fileoff }) segments.now) left descriptor_va rest (length buffer.old) }
+    ensures buffer_after { buffer.new ≡ filled (hops_of result) (before image.now (with_mapping (record { vmaddr = vmaddr; size = size; fileoff = fileoff }) segments.now) left descriptor_va) buffer.old }
 {
-    let mut names = [0usize; 66];
-    copy_names(first, &mut names);
-    names[18] = start;
-    names[19] = size;
-    match write_name(
+    if descriptor_va == 0 {
+        if buffer.len() < rest {
+            return Hops::Refused(Refusal::LongName);
+        }
+        return Hops::Written(0);
+    }
+    let mapping = Mapping {
+        vmaddr,
+        size,
+        fileoff,
+    };
+    let mut places = [0usize; 8];
+    let mut lengths = [0usize; 8];
+    match collect(
         image,
         segments,
-        mapping.vmaddr,
-        mapping.size,
-        mapping.fileoff,
+        mapping,
         descriptor_va,
         left,
-        9,
-        &mut names,
-        buffer,
+        rest,
+        &mut places,
+        &mut lengths,
     ) {
-        Joined::Length(length) => QualifiedName::Length(length),
-        Joined::Refused(refusal) => QualifiedName::Refused(refusal),
-        Joined::Full {
-            place,
-            length,
+        Walk::Ended { count, room } => {
+            if buffer.len() < room {
+                return Hops::Refused(Refusal::LongName);
+            }
+            Hops::Written(put_hops(image, &places, &lengths, count, buffer, 0))
+        }
+        Walk::Full {
             next,
             allowed,
-        } => name_in_256(
-            image, segments, mapping, next, allowed, &names, place, length, buffer,
-        ),
+            room,
+        } => match write_hops(
+            image, segments, vmaddr, size, fileoff, next, allowed, room, buffer,
+        ) {
+            Hops::Written(at) => {
+                Hops::Written(put_hops(image, &places, &lengths, 8, buffer, at))
+            }
+            Hops::Refused(refusal) => Hops::Refused(refusal),
+        },
+        Walk::TooDeep => Hops::Refused(Refusal::DeepContexts),
     }
 }
 
@@ -298,16 +214,7 @@ pub fn qualified_name_near(
     ensures buffer_after { buffer.new ≡ overwritten buffer.old (answer_of (name_answer image.now (with_mapping mapping segments.now) (row_of image.now row) (length buffer.old))) }
 {
     let own = util::part(image, row.name_place, row.name_length);
-    if row.parent == 0 {
-        if buffer.len() < own.len() {
-            return QualifiedName::Refused(Refusal::LongName);
-        }
-        return QualifiedName::Length(util::put(own, buffer, 0));
-    }
-    let mut names = [0usize; 18];
-    names[0] = row.name_place;
-    names[1] = own.len();
-    match write_name(
+    match write_hops(
         image,
         segments,
         mapping.vmaddr,
@@ -315,20 +222,11 @@ pub fn qualified_name_near(
         mapping.fileoff,
         row.parent,
         CONTEXTS,
-        0,
-        &mut names,
+        own.len(),
         buffer,
     ) {
-        Joined::Length(length) => QualifiedName::Length(length),
-        Joined::Refused(refusal) => QualifiedName::Refused(refusal),
-        Joined::Full {
-            place,
-            length,
-            next,
-            allowed,
-        } => name_in_32(
-            image, segments, mapping, next, allowed, &names, place, length, buffer,
-        ),
+        Hops::Written(at) => QualifiedName::Length(util::put(own, buffer, at)),
+        Hops::Refused(refusal) => QualifiedName::Refused(refusal),
     }
 }
 

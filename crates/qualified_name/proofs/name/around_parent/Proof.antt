@@ -1,6 +1,6 @@
 -- `qualified_name::name::around_parent` meets its contract.
 -- Assumes nothing.
-use Rattle.segment.proofs.MappingLaws.{near_mapped}
+use Rattle.segment.specs.MappingLaws.{near_mapped}
 use borrow.Author.Rules.{rules}
 use Rattle.qualified_name.proofs.name.around_parent.Statement.{statement}
 use Rattle.qualified_name.proofs.name.around_parent.Tie as tie
