@@ -53,10 +53,11 @@ class Function:
     def __init__(self, said):
         self.needs, self.asked_at = said["needs"], said["asked_at"]
         self.loops, self.changed = said["loops"], said["changed"]
-        self.place, self.arm = {}, {}
-        for given, arm in zip(said["places"], said["arms"]):
+        self.place, self.arm, self.typed = {}, {}, {}
+        for given, arm, typed in zip(said["places"], said["arms"], said["typed"]):
             self.place[plain(given[0])] = given
             self.arm[plain(given[0])] = arm
+            self.typed[plain(given[0])] = typed or []
         self.said = said
 
     def goal(self, name):
@@ -81,6 +82,9 @@ class Function:
             return ".".join(parts)
         at = place
         while at:
+            for name, was in self.typed[at]:
+                if plain(was) == step and parts[1:2] == ["given"]:
+                    return ".".join(["type_inv", name, *parts[2:]])
             given = self.place[at]
             old, new = given[2]
             arm = self.arm[at]
@@ -132,7 +136,7 @@ class Turned:
                 return m[0]
             place = env[head]
             while rest and rest[0] == "before":
-                place, rest = self.f.parent(place) if place else None, rest[1:]
+                rest = rest[1:]
             if not rest:
                 if head != "c":
                     self.left.append(f"{m[0]} is a record of facts")
@@ -146,8 +150,7 @@ class Turned:
         return PATH.sub(path, text)
 
     def back(self, place, befores):
-        for _ in range(befores.count(".before")):
-            place = self.f.parent(place) if place else None
+        # steps have names of their own, so the goal's place will do for all that came before it
         return place
 
 

@@ -8,12 +8,13 @@ use lib.ListN.{length}
 use Rattle.segment.proofs.SegmentsLaws.{wraps, told, lookup_end}
 use Rattle.segment.proofs.MappingLaws.{Passed, passed_none, passed_above, passed_below, passed_empty, located}
 use Rattle.segment.proofs.segment.locate.Goals as goal
+use Rattle.segment.proofs.segment.locate.Goals.{then-address-vmaddr, else-address-vmaddr+then-end-address, else-address-vmaddr+else-end-address+else-filesize-ne0}
 
 pub loop-i-init : goal.loop-i-init
 loop-i-init c = (omega arith, passed_none _ _)
 
 pub overflow_sub-vmaddr : goal.overflow_sub-vmaddr
-overflow_sub-vmaddr c = omega (arith, c.shared_slice_known-in-loop-i-2-1.given c.loop-i.i)
+overflow_sub-vmaddr c = omega (arith, c.type_inv.segments c.loop-i.i)
 
 pub returns-then-vmaddr-vmsize : goal.returns-then-vmaddr-vmsize
 returns-then-vmaddr-vmsize c =
@@ -34,14 +35,16 @@ returns-then-filesize-ne0 c =
 
 pub loop-i-preserved : goal.loop-i-preserved
 loop-i-preserved c =
-    let k = c.shared_slice_known-in-loop-i-2-1.given c.loop-i.i in (
+    let k = c.type_inv.segments c.loop-i.i in (
       omega arith,
-      ⊎_elim
-          (λ w. passed_above _ _ _ _ _ c.loop-i.invariant.1 (omega (arith, k)) (omega arith) _ _ (omega (arith, w.0)) w.2 (w.3 ∙ w.1.ensures))
-          (⊎_elim
-          (λ w. passed_below _ _ _ _ _ c.loop-i.invariant.1 (omega (arith, k)) (omega arith) _ _ (omega (arith, w.1)) (w.3 ∙ w.2.ensures) w.4)
-          (λ w. passed_empty _ _ _ _ _ c.loop-i.invariant.1 (omega (arith, k)) (omega arith) _ _ (omega (arith, w.3)) w.4 w.5))
-          c.if-address-vmaddr.branch,
+      elim c.if-address-vmaddr.branch [
+        | then-address-vmaddr w ↦
+            passed_above _ _ _ _ _ c.loop-i.invariant.1 (omega (arith, k)) (omega arith) _ _ (omega arith) w.low-is (w.high-is ∙ w.lower-high.ensures)
+        | else-address-vmaddr+then-end-address w ↦
+            passed_below _ _ _ _ _ c.loop-i.invariant.1 (omega (arith, k)) (omega arith) _ _ (omega arith) (w.low-is ∙ w.higher-low.ensures) w.high-is
+        | else-address-vmaddr+else-end-address+else-filesize-ne0 w ↦
+            passed_empty _ _ _ _ _ c.loop-i.invariant.1 (omega (arith, k)) (omega arith) _ _ (omega arith) w.low-is w.high-is
+      ],
     )
 
 pub returns : goal.returns
