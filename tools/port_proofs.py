@@ -77,7 +77,8 @@ class Function:
 
     def field(self, place, parts):
         """The new path of an old one, `parts` being a step and what follows it; None if there is no such step."""
-        step = plain(parts[0])
+        # (a step that has a lemma's old name was respelled with it)
+        step = re.sub(r"_lem$", "", plain(parts[0]))
         if step in ("args", "requires", "ranges", "auto", "utf8", "type_inv"):
             return ".".join(parts)
         at = place
@@ -156,6 +157,7 @@ class Turned:
 
 def blocks(text):
     """The declarations at the margin: (comment, name, lines)."""
+    text = re.sub(r"^(\S+ :)\s*\n\s+(tie\.)", r"\1 \2", text, flags=re.M)
     lines, found, comment, current = text.split("\n"), [], [], None
     for line in lines:
         if line.startswith("--"):
@@ -165,6 +167,9 @@ def blocks(text):
             comment.append(line)
         elif line and not line[0].isspace():
             m = re.match(r"(?:abbrev |unfoldable )?(?:pub )?(?:data |record )?(" + WORD + ")", line)
+            if not m:
+                current[2].append(line)
+                continue
             name = m[1]
             if name in ("use", "module", "open", "infix", "infixl", "infixr"):
                 if current:
@@ -214,10 +219,14 @@ def invariant(function, kind, old, lines, said):
         return None
     swap = {n: v for n, v in zip(names, values) if n != "_"}
 
+    whole = text[m.end():]
+
     def word(w):
+        if re.match(r" = ", whole[w.end():]) and whole[: w.start()].rstrip()[-1:] in "{;":
+            return w[0]
         return swap[w[1]] + w[2] if w[1] in swap else w[0]
 
-    body = PATH.sub(word, text[m.end():])
+    body = PATH.sub(word, whole)
     return f"abbrev pub {kind}-{new} : goal.{kind}-{new}\n{kind}-{new} l ={body}"
 
 

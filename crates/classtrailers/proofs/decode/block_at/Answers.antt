@@ -1,0 +1,47 @@
+-- `classtrailers::decode::block_at` meets its contract: each arm is a row of the table.
+use Rattle.classtrailers.proofs.CallsLaws.{kind_says}
+use Rattle.classtrailers.specs.Blocks.{row_at, block_at}
+use Rattle.runtime.specs.Reads.{run}
+use borrow.Author.Rules.{rules}
+use Rattle.classtrailers.proofs.decode.block_at.Goals as goal
+
+pub returns-in-Generic : goal.returns-in-Generic
+returns-in-Generic c = kind_says _ _ c.in-Generic.is _ _ _ _ c.generic_at.ensures
+
+pub returns-in-ResilientSuperclass : goal.returns-in-ResilientSuperclass
+unfolding row_at block_at run
+returns-in-ResilientSuperclass c = kind_says _ _ c.in-ResilientSuperclass.is _ _ _ _ c.plain_at.ensures
+
+pub returns-in-ForeignMetadataInit : goal.returns-in-ForeignMetadataInit
+unfolding row_at block_at run
+returns-in-ForeignMetadataInit c = kind_says _ _ c.in-ForeignMetadataInit.is _ _ _ _ c.plain_at-in-ForeignMetadataInit.ensures
+
+pub returns-in-SingletonMetadataInit : goal.returns-in-SingletonMetadataInit
+unfolding row_at block_at run
+returns-in-SingletonMetadataInit c = kind_says _ _ c.in-SingletonMetadataInit.is _ _ _ _ c.plain_at-in-SingletonMetadataInit.ensures
+
+pub returns-in-VTable : goal.returns-in-VTable
+returns-in-VTable c = kind_says _ _ c.in-VTable.is _ _ _ _ c.vtable_at.ensures
+
+pub returns-in-OverrideTable : goal.returns-in-OverrideTable
+unfolding row_at block_at run
+returns-in-OverrideTable c = kind_says _ _ c.in-OverrideTable.is _ _ _ _ c.entries_at.ensures
+
+pub returns-in-ObjcResilientClassStub : goal.returns-in-ObjcResilientClassStub
+unfolding row_at block_at run
+returns-in-ObjcResilientClassStub c = kind_says _ _ c.in-ObjcResilientClassStub.is _ _ _ _ c.plain_at-in-ObjcResilientClassStub.ensures
+
+pub returns-in-Prespecializations : goal.returns-in-Prespecializations
+unfolding row_at block_at run
+returns-in-Prespecializations c = kind_says _ _ c.in-Prespecializations.is _ _ _ _ c.entries_at-in-Prespecializations.ensures
+
+pub returns-in-InvertibleProtocolSet : goal.returns-in-InvertibleProtocolSet
+returns-in-InvertibleProtocolSet c = kind_says _ _ c.in-InvertibleProtocolSet.is _ _ _ _ c.invertible_at.ensures
+
+pub returns-in-SingletonMetadataPointer : goal.returns-in-SingletonMetadataPointer
+unfolding row_at block_at run
+returns-in-SingletonMetadataPointer c = kind_says _ _ c.in-SingletonMetadataPointer.is _ _ _ _ c.plain_at-in-SingletonMetadataPointer.ensures
+
+pub returns-in-DefaultOverrideTable : goal.returns-in-DefaultOverrideTable
+unfolding row_at block_at run
+returns-in-DefaultOverrideTable c = kind_says _ _ c.in-DefaultOverrideTable.is _ _ _ _ c.entries_at-in-DefaultOverrideTable.ensures

@@ -1,0 +1,16 @@
+-- `classtrailers::iter::BlockIter::next` meets its contract. The invariant: the next block from `row` on is the answer.
+use native.Mathlib.Omega.{arith}
+use Prim.Native.Nat.{◌-◌}
+use mathlib.Core.Path.{◌≡◌, refl, sym, ◌∙◌}
+use Rattle.util.proofs.AnswersLaws.{told}
+use Rattle.classtrailers.specs.Blocks.{next_block}
+use Rattle.classtrailers.specs.Calls.{trailing_of, kind_read_of}
+use Rattle.classtrailers.proofs.CallsLaws.{is_there_lem, is_absent, next_there, next_absent, walk_over}
+use borrow.Author.Rules.{rules}
+use Rattle.classtrailers.proofs.iter.BlockIter.next.Given as goal
+
+abbrev pub invariant-loop-row : goal.invariant-loop-row
+invariant-loop-row l = next_block l.image l.segments (record { trailing = trailing_of l.trailing; row = l.initial.row; address = l.address }) ≡ next_block l.image l.segments (record { trailing = trailing_of l.trailing; row = l.row; address = l.address })
+
+abbrev pub decreases-loop-row : goal.decreases-loop-row
+decreases-loop-row l = 11 - l.row
