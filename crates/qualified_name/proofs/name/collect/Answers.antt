@@ -1,0 +1,53 @@
+use borrow.Author.Rules.{rules}
+use native.Mathlib.Omega.{arith}
+use mathlib.Core.Path.{◌≡◌, refl}
+use lib.ListN.{length}
+use Rattle.segment.specs.Mapping.{with_mapping}
+use Rattle.util.specs.AnswersLaws.{told, case}
+use Rattle.parent.specs.Context.{header_of, name_read, Inside}
+use Rattle.parent.specs.ContextLaws.{unnamed, is_named, no_context, context_at_lem}
+use Rattle.qualified_name.specs.Walk.{Block}
+use Rattle.qualified_name.proofs.WalkLaws.{no_block, block_ends, block_full, block_deep, block_unnamed, block_named}
+use Rattle.qualified_name.proofs.name.collect.Goals as goal
+
+pub loop-count-init : goal.loop-count-init
+loop-count-init c = (omega arith, omega arith, no_block _ _ _ _ _ _ _ (omega arith))
+
+pub returns-then-allowed-eq0 : goal.returns-then-allowed-eq0
+returns-then-allowed-eq0 c =
+    block_deep _ _ _ _ _ _ _ _ _ _ _ c.loop-count.invariant.2 _ (context_at_lem _ _ _ _ _ (told (header_of _) c.read_header.ensures c.in-Header.is) refl) c.if-allowed-eq0.true
+
+pub overflow_add-length : goal.overflow_add-length
+overflow_add-length c =
+    omega (arith, case (Inside _) c.read_context_name.ensures.1 c.in-At.is, c.well-formed)
+
+pub loop-count-preserved-in-At : goal.loop-count-preserved-in-At
+loop-count-preserved-in-At c = (
+  search rules,
+  search rules,
+  block_named _ _ _ _ _ _ _ _ _ _ _ c.loop-count.invariant.2 _ _ _ (context_at_lem _ _ _ _ _ (told (header_of _) c.read_header.ensures c.in-Header.is)
+      (is_named _ _ _ _ _ c.has_name.ensures c.if-has_name.true _ (told (name_read _) c.read_context_name.ensures.0 c.in-At.is))) _ c.saturating_add-room.ensures
+      (case (Inside _) c.read_context_name.ensures.1 c.in-At.is) (omega arith) (omega arith) (omega arith) (omega arith),
+)
+
+pub loop-count-preserved-in-Nothing-read_context_name : goal.loop-count-preserved-in-Nothing-read_context_name
+loop-count-preserved-in-Nothing-read_context_name c = (
+  search rules,
+  search rules,
+  block_unnamed _ _ _ _ _ _ _ _ _ _ _ c.loop-count.invariant.2 _ (context_at_lem _ _ _ _ _ (told (header_of _) c.read_header.ensures c.in-Header.is)
+      (is_named _ _ _ _ _ c.has_name.ensures c.if-has_name.true _ (told (name_read _) c.read_context_name.ensures.0 c.in-Nothing-read_context_name.is))) (omega arith),
+)
+
+pub loop-count-preserved : goal.loop-count-preserved
+loop-count-preserved c = (
+  search rules,
+  search rules,
+  block_unnamed _ _ _ _ _ _ _ _ _ _ _ c.loop-count.invariant.2 _ (context_at_lem _ _ _ _ _ (told (header_of _) c.read_header.ensures c.in-Header.is)
+      (unnamed _ _ _ _ _ c.has_name.ensures c.if-has_name.false)) (omega arith),
+)
+
+pub returns-in-Nothing : goal.returns-in-Nothing
+returns-in-Nothing c = block_ends _ _ _ _ _ _ _ _ _ _ _ c.loop-count.invariant.2 (no_context _ _ _ (told (header_of _) c.read_header.ensures c.in-Nothing.is))
+
+pub returns : goal.returns
+returns c = block_full _ _ _ _ _ _ _ _ _ _ _ c.loop-count.invariant.2 (omega arith)

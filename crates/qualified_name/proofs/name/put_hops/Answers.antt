@@ -1,0 +1,18 @@
+use borrow.Author.Rules.{rules}
+use native.Mathlib.Omega.{arith}
+use Rattle.qualified_name.proofs.WalkLaws.{Putting, put_start, put_next, put_all, put_kept}
+use Rattle.qualified_name.proofs.name.put_hops.Goals as goal
+
+pub loop-k-init : goal.loop-k-init
+loop-k-init c = put_start _ _ _ _ _ _
+
+pub loop-k-preserved : goal.loop-k-preserved
+loop-k-preserved c =
+    put_next _ _ _ _ _ _ _ _ _ c.loop-k.invariant _ _ _ _ _ c.part.ensures c.put-dot.ensures.0 c.put-dot.ensures.1 c.put-end.ensures.0 c.put-end.ensures.1
+    (omega arith) (omega arith)
+
+pub shape_of-buffer : goal.shape_of-buffer
+shape_of-buffer c = put_kept _ _ _ _ _ _ _ _ _ c.loop-k.invariant (omega arith)
+
+pub returns : goal.returns
+returns c = put_all _ _ _ _ _ _ _ _ _ c.loop-k.invariant (omega arith)
