@@ -79,6 +79,8 @@ class Function:
         """The new path of an old one, `parts` being a step and what follows it; None if there is no such step."""
         # (a step that has a lemma's old name was respelled with it)
         step = re.sub(r"_lem$", "", plain(parts[0]))
+        if step in ("well_formed", "type_inv"):
+            return ".".join([step, *parts[1:]])
         if step in ("args", "requires", "ranges", "auto", "utf8", "type_inv"):
             return ".".join(parts)
         at = place
@@ -146,6 +148,8 @@ class Turned:
             if new is None:
                 self.left.append(f"{m[0]}: no step {rest[0]}")
                 return "c." + ".".join(rest)
+            # a method of std has named clauses
+            new = re.sub(r"^(wrapping_(?:add|sub|mul)_u\d+[^.]*\.ensures)(?=$|\.[a-z0-9]*$)", r"\1.value", new)
             return "c." + new.replace(".type-inv", ".type_inv")
 
         return PATH.sub(path, text)
@@ -215,8 +219,8 @@ def invariant(function, kind, old, lines, said):
         return None
     names = m[1].split()
     if len(names) != len(values):
-        said.append(f"{kind}-{old}: {len(names)} arguments, and {len(values)} variables")
-        return None
+        # by name: a temporary of the older Rattle's own has none today
+        values = [f"l.initial.{n[:-1]}" if n.endswith("₀") else f"l.{n}" for n in names]
     swap = {n: v for n, v in zip(names, values) if n != "_"}
 
     whole = text[m.end():]
@@ -284,6 +288,8 @@ def turn(crate, proof, function, module):
             params = eq[1].split()
             env = {params[0]: function.asked(i)} if params else {}
             body = made.body(rest[eq.end():], env)
+            more = [w for w in params[1:] if w != "κs"]
+            body = f" λ {' '.join(more)}.{body}" if more else body
             said += [f"{name}: {it}" for it in made.left]
             body = re.sub(r"^\s*\n", "\n", body)
             answers.append("\n".join([*comment, f"pub {new} : goal.{new}\n{unfold}{new} c ={body}"]))
@@ -308,12 +314,14 @@ def turn(crate, proof, function, module):
                     if i >= len(function.needs) or it in helper_names or re.fullmatch(r"\(λ c(?: κs)?\. search rules\)", re.sub(r"\s+", " ", it)):
                         continue
                     new = function.needs[i][1]
-                    m = re.match(r"\(λ (\S+?)(?: \S+?)*\. ", it)
+                    m = re.match(r"\(λ (\S+?)((?: \S+?)*)\. ", it)
                     if not m:
                         answers.append(f"pub {new} : goal.{new}\n{new} c = {it} c")
                         continue
                     made = Turned(function, new)
                     body = made.body(it[m.end(): -1], {m[1]: function.asked(i)})
+                    more = [w for w in m[2].split() if w != "κs"]
+                    body = f"λ {' '.join(more)}. {body}" if more else body
                     said += [f"{new}: {s}" for s in made.left]
                     answers.append(f"pub {new} : goal.{new}\n{new} c = {body}")
             else:

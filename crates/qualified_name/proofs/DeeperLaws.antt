@@ -10,7 +10,7 @@ use Rattle.std.proofs.lemmas.Bool.{lt-leb}
 use Rattle.runtime.specs.Reads.{run}
 use Rattle.parent.specs.Context.{Header, header, Context, with_name}
 use Rattle.parent.specs.Chain.{header_at, chain}
-use Rattle.parent.specs.ChainLaws.{chain_by, next_by}
+use Rattle.parent.proofs.ChainLaws.{chain_by, next_by}
 use Rattle.qualified_name.specs.Name.{is_there}
 use Rattle.qualified_name.specs.Walk.{deeper}
 

@@ -11,12 +11,12 @@ use Rattle.std.proofs.Math.ListN.{length}
 use borrow.Author.Tests.{lt-ltb, le-ltb}
 use Rattle.refusal.specs.Refusal.{Guarded, answered, refused, mapped, answer_of}
 use Rattle.util.specs.Buffer.{Put, overwritten}
-use Rattle.util.specs.BufferLaws.{put_then}
+use Rattle.util.proofs.BufferLaws.{put_then}
 use Rattle.segment.specs.Mapping.{with_mapping, TrueMapping}
 use Rattle.segment.specs.declared.segment.Mapping.{Mapping}
 use Rattle.runtime.specs.CallsLaws.{run_mapped}
 use Rattle.parent.specs.Context.{Context, context_read}
-use Rattle.parent.specs.ContextLaws.{context_mapped}
+use Rattle.parent.proofs.ContextLaws.{context_mapped}
 use Rattle.parent.specs.Chain.{contexts_most, header_at, chain}
 use Rattle.qualified_name.proofs.DeeperLaws.{deeper_is, not_deeper}
 use Rattle.qualified_name.specs.Name.{hops, too_deep, qualified_name, name_answer}

@@ -12,7 +12,7 @@ use Rattle.std.proofs.lemmas.Bool.{lt-leb}
 use Rattle.util.specs.Cstr.{place, part_of}
 use Rattle.util.specs.CstrLaws.{part_in}
 use Rattle.util.specs.Buffer.{Put, put_end, put_into}
-use Rattle.util.specs.BufferLaws.{put_none, put_more, put_then, put_length}
+use Rattle.util.proofs.BufferLaws.{put_none, put_more, put_then, put_length}
 use Rattle.util.specs.declared.cstr.Text.{Text}
 use Rattle.parent.specs.Context.{Header, Context, context_read, name_read}
 use Rattle.parent.specs.Chain.{chain}

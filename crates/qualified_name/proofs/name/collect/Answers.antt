@@ -3,9 +3,9 @@ use native.Mathlib.Omega.{arith}
 use mathlib.Core.Path.{◌≡◌, refl}
 use lib.ListN.{length}
 use Rattle.segment.specs.Mapping.{with_mapping}
-use Rattle.util.specs.AnswersLaws.{told, case}
+use Rattle.util.proofs.AnswersLaws.{told, case}
 use Rattle.parent.specs.Context.{header_of, name_read, Inside}
-use Rattle.parent.specs.ContextLaws.{unnamed, is_named, no_context, context_at_lem}
+use Rattle.parent.proofs.ContextLaws.{unnamed, is_named, no_context, context_at_lem}
 use Rattle.qualified_name.specs.Walk.{Block}
 use Rattle.qualified_name.proofs.WalkLaws.{no_block, block_ends, block_full, block_deep, block_unnamed, block_named}
 use Rattle.qualified_name.proofs.name.collect.Goals as goal
@@ -19,15 +19,15 @@ returns-then-allowed-eq0 c =
 
 pub overflow_add-length : goal.overflow_add-length
 overflow_add-length c =
-    omega (arith, case (Inside _) c.read_context_name.ensures.1 c.in-At.is, c.well-formed)
+    omega (arith, case (Inside _) c.read_context_name.ensures.inside c.in-At.is, c.well_formed)
 
 pub loop-count-preserved-in-At : goal.loop-count-preserved-in-At
 loop-count-preserved-in-At c = (
   search rules,
   search rules,
   block_named _ _ _ _ _ _ _ _ _ _ _ c.loop-count.invariant.2 _ _ _ (context_at_lem _ _ _ _ _ (told (header_of _) c.read_header.ensures c.in-Header.is)
-      (is_named _ _ _ _ _ c.has_name.ensures c.if-has_name.true _ (told (name_read _) c.read_context_name.ensures.0 c.in-At.is))) _ c.saturating_add-room.ensures
-      (case (Inside _) c.read_context_name.ensures.1 c.in-At.is) (omega arith) (omega arith) (omega arith) (omega arith),
+      (is_named _ _ _ _ _ c.has_name.ensures c.if-has_name.true _ (told (name_read _) c.read_context_name.ensures.result_value c.in-At.is))) _ c.saturating_add-room.ensures
+      (case (Inside _) c.read_context_name.ensures.inside c.in-At.is) (omega arith) (omega arith) (omega arith) (omega arith),
 )
 
 pub loop-count-preserved-in-Nothing-read_context_name : goal.loop-count-preserved-in-Nothing-read_context_name
@@ -35,7 +35,7 @@ loop-count-preserved-in-Nothing-read_context_name c = (
   search rules,
   search rules,
   block_unnamed _ _ _ _ _ _ _ _ _ _ _ c.loop-count.invariant.2 _ (context_at_lem _ _ _ _ _ (told (header_of _) c.read_header.ensures c.in-Header.is)
-      (is_named _ _ _ _ _ c.has_name.ensures c.if-has_name.true _ (told (name_read _) c.read_context_name.ensures.0 c.in-Nothing-read_context_name.is))) (omega arith),
+      (is_named _ _ _ _ _ c.has_name.ensures c.if-has_name.true _ (told (name_read _) c.read_context_name.ensures.result_value c.in-Nothing-read_context_name.is))) (omega arith),
 )
 
 pub loop-count-preserved : goal.loop-count-preserved

@@ -4,9 +4,9 @@ use native.Mathlib.Omega.{arith}
 use mathlib.Core.Path.{◌≡◌, refl}
 use lib.ListN.{length}
 use Rattle.segment.specs.Mapping.{with_mapping}
-use Rattle.util.specs.AnswersLaws.{told, case}
+use Rattle.util.proofs.AnswersLaws.{told, case}
 use Rattle.parent.specs.Context.{header_of, name_read, Inside}
-use Rattle.parent.specs.ContextLaws.{unnamed, is_named, no_context, context_at_lem}
+use Rattle.parent.proofs.ContextLaws.{unnamed, is_named, no_context, context_at_lem}
 use Rattle.qualified_name.specs.Walk.{Block}
 use Rattle.qualified_name.proofs.WalkLaws.{no_block, block_ends, block_full, block_deep, block_unnamed, block_named}
 use Rattle.qualified_name.proofs.name.collect.Given as goal

@@ -8,7 +8,7 @@ loop-k-init c = put_start _ _ _ _ _ _
 
 pub loop-k-preserved : goal.loop-k-preserved
 loop-k-preserved c =
-    put_next _ _ _ _ _ _ _ _ _ c.loop-k.invariant _ _ _ _ _ c.part.ensures c.put-dot.ensures.0 c.put-dot.ensures.1 c.put-end.ensures.0 c.put-end.ensures.1
+    put_next _ _ _ _ _ _ _ _ _ c.loop-k.invariant _ _ _ _ _ c.part.ensures c.put-dot.ensures.value c.put-dot.ensures.buffer_after c.put-end.ensures.value c.put-end.ensures.buffer_after
     (omega arith) (omega arith)
 
 pub shape_of-buffer : goal.shape_of-buffer

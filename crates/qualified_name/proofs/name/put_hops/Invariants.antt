@@ -4,10 +4,8 @@ use native.Mathlib.Omega.{arith}
 use Rattle.qualified_name.proofs.WalkLaws.{Putting, put_start, put_next, put_all, put_kept}
 use Rattle.qualified_name.proofs.name.put_hops.Given as goal
 
--- LEFT
-abbrev invariant-loop : tie.invariant-loop
-invariant-loop image places lengths count buffer₀ at k₀ end₀ t10 buffer k end = Putting image places lengths count buffer₀ at k end buffer
+abbrev pub invariant-loop-k : goal.invariant-loop-k
+invariant-loop-k l = Putting l.image l.places l.lengths l.count l.initial.buffer l.at l.k l.end l.buffer
 
--- LEFT
-abbrev decreases-loop : tie.decreases-loop
-decreases-loop image places lengths count buffer₀ at k₀ end₀ t10 buffer k end = k
+abbrev pub decreases-loop-k : goal.decreases-loop-k
+decreases-loop-k l = l.k

@@ -1,5 +1,5 @@
 -- `qualified_name::name::qualified_name` meets its contract: the mapping around the first context is true.
-use Rattle.segment.specs.MappingLaws.{empty_mapped}
+use Rattle.segment.proofs.MappingLaws.{empty_mapped}
 use Rattle.qualified_name.proofs.NameLaws.{name_near}
 use borrow.Author.Rules.{rules}
 use Rattle.qualified_name.proofs.name.qualified_name.Goals as goal
@@ -7,4 +7,4 @@ use Rattle.qualified_name.proofs.name.qualified_name.Goals as goal
 pub returns : goal.returns
 returns c =
     let q = c.qualified_name_near.ensures in
-    name_near _ _ _ (c.around_parent-near.ensures (empty_mapped _)) _ _ _ _ _ q.0 q.1
+    (let all = name_near _ _ _ (c.around_parent-near.ensures (empty_mapped _)) _ _ _ _ _ q.result_value q.buffer_after in (record { result_value = all.0; buffer_after = all.1 }))

@@ -2,8 +2,8 @@
 use native.Mathlib.Omega.{arith}
 use mathlib.Core.Path.{ap, sym}
 use lib.ListN.{length}
-use Rattle.util.specs.AnswersLaws.{told}
-use Rattle.util.specs.BufferLaws.{put_fits}
+use Rattle.util.proofs.AnswersLaws.{told}
+use Rattle.util.proofs.BufferLaws.{put_fits}
 use Rattle.refusal.specs.Refusal.{mapped}
 use Rattle.qualified_name.specs.Walk.{hops_of}
 use Rattle.qualified_name.proofs.NameLaws.{filled_as, hops_written, name_written, name_refused, name_kept, name_filled}
@@ -16,17 +16,17 @@ put-requires c = search rules
 pub returns-in-Written : goal.returns-in-Written
 returns-in-Written c =
     let own = c.part-own.ensures in
-    let f = told hops_of c.write_hops.ensures.0 c.in-Written.is in
+    let f = told hops_of c.write_hops.ensures.result_value c.in-Written.is in
     let w = hops_written _ _ _ _ _ _ _ f in
-    let u = put_fits _ _ _ _ _ c.put.ensures.0 c.put.ensures.1 (omega (arith, c.write_hops.auto)) in (
-      name_written _ _ _ _ own _ _ _ f w.0 u.ends,
-      name_filled _ _ _ _ own _ _ _ _ _ _ f (filled_as _ _ _ _ _ c.write_hops.ensures.1 (ap hops_of c.in-Written.is)) w.0 u (omega arith),
-    )
+    let u = put_fits _ _ _ _ _ c.put.ensures.value c.put.ensures.buffer_after (omega (arith, c.write_hops.auto)) in (record {
+      result_value = name_written _ _ _ _ own _ _ _ f w.0 u.ends;
+      buffer_after = name_filled _ _ _ _ own _ _ _ _ _ _ f (filled_as _ _ _ _ _ c.write_hops.ensures.buffer_after (ap hops_of c.in-Written.is)) w.0 u (omega arith);
+    })
 
 pub returns-in-Refused : goal.returns-in-Refused
 returns-in-Refused c =
     let own = c.part-own.ensures in
-    let f = told hops_of c.write_hops.ensures.0 c.in-Refused.is in (
-      sym (ap (mapped length) (name_refused _ _ _ _ own _ _ f)),
-      name_kept _ _ _ _ own _ _ _ _ _ _ f c.write_hops.ensures.1 (ap hops_of c.in-Refused.is),
-    )
+    let f = told hops_of c.write_hops.ensures.result_value c.in-Refused.is in (record {
+      result_value = sym (ap (mapped length) (name_refused _ _ _ _ own _ _ f));
+      buffer_after = name_kept _ _ _ _ own _ _ _ _ _ _ f c.write_hops.ensures.buffer_after (ap hops_of c.in-Refused.is);
+    })
