@@ -8,6 +8,7 @@ use Rattle.bundle.proofs.OpenLaws.{too_long, taken_within, no_image, left_over, 
 use borrow.Author.Tests.{ltb-true, ltb-false}
 use borrow.Author.Rules.{rules}
 use Rattle.bundle.proofs.open.open_bundle.Goals as goal
+use Rattle.bundle.proofs.open.open_bundle.Goals.{else-image-eq0-via-then-image-eq0+else-bytes-gt0, else-image-eq0-via-else-image-eq0}
 
 pub returns-then-bytes-gt-BUNDLE_BYTES : goal.returns-then-bytes-gt-BUNDLE_BYTES
 returns-then-bytes-gt-BUNDLE_BYTES c = too_long _ (omega arith)
@@ -34,4 +35,7 @@ returns c =
     let s : List ℕ = c.args.bytes.now in
     opens s c.take_record-image.ensures c.take_record-segments.ensures c.take_record-types.ensures c.take_record-fields.ensures c.take_record-strings.ensures
     c.section_of.ensures c.section_of-2.ensures c.section_of-3.ensures
-    (λ q. ⊎_elim (λ w. omega (arith, ltb-false 0 (length s) w.1.left)) (λ w. absurd (w.left q)) c.else-image-eq0.branch) c.if-strings-bytes.false c.if-bytes-gt-BUNDLE_BYTES.false
+    (λ q. elim c.else-image-eq0.branch [
+      | else-image-eq0-via-then-image-eq0+else-bytes-gt0 w ↦ omega arith
+      | else-image-eq0-via-else-image-eq0 w ↦ absurd (w.if-image-eq0.false q)
+    ]) c.if-strings-bytes.false c.if-bytes-gt-BUNDLE_BYTES.false
