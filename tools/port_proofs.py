@@ -81,6 +81,8 @@ class Function:
         step = re.sub(r"_lem$", "", plain(parts[0]))
         if step in ("well_formed", "type_inv"):
             return ".".join([step, *parts[1:]])
+        if step == "args" and len(parts) > 1:
+            return ".".join(["args", parts[1].replace("-", "_"), *parts[2:]])
         if step in ("args", "requires", "ranges", "auto", "utf8", "type_inv"):
             return ".".join(parts)
         at = place
@@ -150,6 +152,8 @@ class Turned:
                 return "c." + ".".join(rest)
             # a method of std has named clauses
             new = re.sub(r"^(wrapping_(?:add|sub|mul)_u\d+[^.]*\.ensures)(?=$|\.[a-z0-9]*$)", r"\1.value", new)
+            # an array that a call is lent is the list itself
+            new = re.sub(r"(\.new\.\w+)\.1\.0(?![\w])", r"\1", new)
             return "c." + new.replace(".type-inv", ".type_inv")
 
         return PATH.sub(path, text)
@@ -343,6 +347,22 @@ def turn(crate, proof, function, module):
     return said
 
 
+def cycle(proof, name):
+    """Writes the proof of a function that calls itself as one that does not; its measure is the author's to write again."""
+    kebab = name.replace("_", "-")
+    t = proof.read_text(encoding="utf-8")
+    t = re.sub(rf"({kebab}-[\w-]+) : \(t : ℕ\) → {kebab}-lts\.(Need-[\w-]+) \(claims t\) \({kebab}-at t\) {kebab}\.Post", r"\1 : tie.\2", t)
+    t = re.sub(rf"^({kebab}-[\w-]+) t c", r"\1 c", t, flags=re.M)
+    a = t.index("abbrev μ-")
+    measure = re.search(r"^μ-\S+ κs a = (.*)$", t, re.M)[1]
+    b = re.search(rf"^{kebab}-[\w-]+ : tie\.", t, re.M).start()
+    t = t[:a] + t[b:]
+    t = t[: t.index(f"pub +{kebab}-spec")]
+    t = "\n".join(line for line in t.split("\n") if not re.match(r"use (Prim.Native.Nat|borrow.Fn|Rattle\.\w+\.proofs\..*( as |Tie|statement))", line))
+    proof.write_text(t, encoding="utf-8")
+    return measure
+
+
 def main():
     crate = pathlib.Path(sys.argv[1])
     text = pathlib.Path(sys.argv[2]).read_text(encoding="utf-8")
@@ -354,6 +374,14 @@ def main():
         parts = proof.parent.relative_to(crate / "proofs").parts
         key = f"Rattle-{crate.name}-proofs." + ".".join(parts) + ".Lts"
         module = f"Rattle.{crate.name}.proofs." + ".".join(parts)
+        if key not in names and parts[-1].startswith("+") and key + "-" + parts[-1][1:] in names:
+            measure = cycle(proof, parts[-1][1:])
+            for it in turn(crate, proof, Function(names[key + "-" + parts[-1][1:]]), module):
+                print(f"left: {proof.parent}: {it}")
+            answers = proof.parent / "Answers.antt"
+            answers.write_text(re.sub(r"^([\w-]+) c =", r"\1 t c =", answers.read_text(encoding="utf-8"), flags=re.M), encoding="utf-8")
+            (proof.parent / "Invariants.antt").write_text(f"use {module}.Given as goal\n\nabbrev pub decreases-{parts[-1][1:]} : goal.decreases-{parts[-1][1:]}\ndecreases-{parts[-1][1:]} l = ?{measure}\n", encoding="utf-8")
+            continue
         if key not in names:
             print(f"left: {proof}: Rattle names no goals of it ({key})")
             continue

@@ -1,0 +1,13 @@
+-- `entry_tables::list::list_runs` meets its contract.
+use Rattle.std.proofs.Common.{◌+◌, ◌-◌, ◌*◌, arith, rules}
+use Rattle.entry_tables.specs.Tables.{entry_numbers, width, shape, Opens}
+use Rattle.entry_tables.proofs.TablesLaws.{Listing, start_going, stops_end, room_for, room_few, opens_last, below_word, table_full, table_none, table_run}
+use Rattle.util.proofs.AnswersLaws.{case}
+use Rattle.entry_tables.proofs.list.list_runs.Given as goal
+
+abbrev pub invariant-loop-n : goal.invariant-loop-n
+invariant-loop-n l =
+    Listing l.image l.segments (shape l.numbered l.more l.stride) l.base_va l.count l.initial.buffer l.initial.k l.k l.n l.buffer
+
+abbrev pub decreases-loop-n : goal.decreases-loop-n
+decreases-loop-n l = l.room - l.n

@@ -1,0 +1,11 @@
+-- `entry_tables::list::put_run` meets its contract.
+use Rattle.std.proofs.Common.{◌≡◌, ◌+◌, ◌-◌, ◌*◌, ◌≤◌, arith, rules}
+use Rattle.entry_tables.proofs.TablesLaws.{Ran, ran_none, run_fits, ran_on, far_on, ran_puts}
+use Rattle.entry_tables.proofs.list.put_run.Given as goal
+
+abbrev pub invariant-loop-n : goal.invariant-loop-n
+invariant-loop-n l =
+    Ran l.image l.numbered l.more l.stride l.place l.last l.address l.most l.initial.buffer l.at l.n l.buffer × ((l.past ≡ l.stride * l.n) × (l.past ≤ l.last))
+
+abbrev pub decreases-loop-n : goal.decreases-loop-n
+decreases-loop-n l = l.most - l.n

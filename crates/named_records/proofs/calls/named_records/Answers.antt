@@ -1,0 +1,13 @@
+-- `named_records::calls::named_records` meets its contract.
+use mathlib.Core.Path.{refl}
+use Rattle.entry_tables.proofs.TablesLaws.{table_refused, table_accepted}
+use Rattle.util.proofs.AnswersLaws.{told}
+use Rattle.refusal.specs.Guarded.{fault_of}
+use borrow.Author.Rules.{rules}
+use Rattle.named_records.proofs.calls.named_records.Goals as goal
+
+pub returns-in-Refused : goal.returns-in-Refused
+returns-in-Refused c = table_refused _ _ _ _ refl (told fault_of c.find_fault.ensures c.in-Refused.is)
+
+pub returns : goal.returns
+returns c = table_accepted _ _ _ _ _ c.list_records.ensures (told fault_of c.find_fault.ensures c.in_default.is)

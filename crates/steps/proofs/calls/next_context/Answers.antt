@@ -1,0 +1,18 @@
+-- `steps::calls::next_context` meets its contract.
+use mathlib.Core.Path.{ap}
+use Rattle.refusal.specs.Refusal.{answered}
+use Rattle.util.proofs.AnswersLaws.{told}
+use Rattle.parent.specs.Chain.{parent_step_of}
+use Rattle.refusal.proofs.GuardedLaws.{refused_list, accepted_as}
+use Rattle.refusal.specs.Guarded.{fault_of}
+use borrow.Author.Rules.{rules}
+use Rattle.steps.proofs.calls.next_context.Goals as goal
+
+pub returns-in-Refused : goal.returns-in-Refused
+returns-in-Refused c = refused_list _ _ (told fault_of c.find_fault.ensures c.in-Refused.is)
+
+pub returns-in-Context : goal.returns-in-Context
+returns-in-Context c = accepted_as _ _ _ (ap answered (told (parent_step_of _) c.next.ensures c.in-Context.is)) (told fault_of c.find_fault.ensures c.in_default.is)
+
+pub returns-in-End : goal.returns-in-End
+returns-in-End c = accepted_as _ _ _ (ap answered (told (parent_step_of _) c.next.ensures c.in-End.is)) (told fault_of c.find_fault.ensures c.in_default.is)

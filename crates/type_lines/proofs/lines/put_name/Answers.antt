@@ -1,0 +1,31 @@
+-- `type_lines::lines::put_name` meets its contract: a part of the line is the name's buffer.
+use Rattle.std.proofs.Common.{◌≡◌, ℕ, ◌+◌, ◌-◌, arith, rules}
+use native.Mathlib.Nat.{add-sub_cancel_left}
+use Rattle.typedescriptor.specs.Row.{row_of}
+use Rattle.util.proofs.AnswersLaws.{told}
+use Rattle.qualified_name.specs.Name.{length_of}
+use Rattle.type_lines.specs.Lines.{name_bytes}
+use Rattle.type_lines.proofs.LinesLaws.{name_put, name_room, refusal_put}
+use Rattle.type_lines.proofs.lines.put_name.Goals as goal
+
+pub overflow_add-result : goal.overflow_add-result
+overflow_add-result c =
+    let a = c.args in
+    let k : ℕ = a.at + name_bytes - a.at in
+    let same : k ≡ name_bytes = add-sub_cancel_left a.at name_bytes in
+    omega
+    (arith, name_room a.image.now a.segments.now (row_of a.image.now a.row) a.line.now c.qualified_name.new.buffer.1.1.0 a.at k same (omega arith) _ (told length_of c.qualified_name.ensures.0 c.in-Length.is))
+
+pub returns-in-Length : goal.returns-in-Length
+returns-in-Length c =
+    let a = c.args in
+    let k : ℕ = a.at + name_bytes - a.at in
+    let same : k ≡ name_bytes = add-sub_cancel_left a.at name_bytes in
+    name_put a.image.now a.segments.now (row_of a.image.now a.row) a.line.now c.qualified_name.new.buffer.1.1.0 a.at k same (omega arith) c.qualified_name.ensures.1 _ (told length_of c.qualified_name.ensures.0 c.in-Length.is)
+
+pub returns-in-Refused : goal.returns-in-Refused
+returns-in-Refused c =
+    let a = c.args in
+    let k : ℕ = a.at + name_bytes - a.at in
+    let same : k ≡ name_bytes = add-sub_cancel_left a.at name_bytes in
+    refusal_put a.image.now a.segments.now (row_of a.image.now a.row) a.line.now c.qualified_name.new.buffer.1.1.0 a.at k same (omega arith) c.qualified_name.ensures.1 _ _ _ (told length_of c.qualified_name.ensures.0 c.in-Refused.is) c.put_refused.ensures
