@@ -153,7 +153,7 @@ class Turned:
             # a method of std has named clauses
             new = re.sub(r"^(wrapping_(?:add|sub|mul)_u\d+[^.]*\.ensures)(?=$|\.[a-z0-9]*$)", r"\1.value", new)
             # an array that a call is lent is the list itself
-            new = re.sub(r"(\.new\.\w+)\.1\.0(?![\w])", r"\1", new)
+            new = re.sub(r"(\.new\.\w+)(?:\.1)+\.0(?![\w])", r"\1", new)
             return "c." + new.replace(".type-inv", ".type_inv")
 
         return PATH.sub(path, text)

@@ -29,7 +29,7 @@ record_body_of kind (r ∷ rs) = cond (eqb r.kind kind) r.body (record_body_of k
 pub place_bytes : (s : List ℕ) (kind at : ℕ) (rs : List Record) → drop at s ≡ bundle_bytes rs → bytes_of s (body_place kind at rs) ≡ record_body_of kind rs
 unfolding body_place record_body_of bundle_bytes
 place_bytes s kind at [] e = part_in s 0 0 (omega arith)
-place_bytes s kind at (r ∷ rs) e = go (place_bytes s kind _ rs (from_next s at r (bundle_bytes rs) e)) (eqb r.kind kind) refl
+place_bytes s kind at (r ∷ rs) e = go (place_bytes s kind (at + 6 + length r.body) rs (from_next s at r (bundle_bytes rs) e)) (eqb r.kind kind) refl
   where
     go : bytes_of s (body_place kind (at + 6 + length r.body) rs) ≡ record_body_of kind rs → (b : Bool) → eqb r.kind kind ≡ b → bytes_of s (body_place kind at (r ∷ rs)) ≡ record_body_of kind (r ∷ rs)
     go below true t =

@@ -6,7 +6,10 @@ use Rattle.std.proofs.Common.{rules}
 use Rattle.type_lines.proofs.lines.next_into.Goals as goal
 
 pub returns-then-ended : goal.returns-then-ended
-returns-then-ended c = step_done _ _ _ _ _ _ c.if-ended.true
+returns-then-ended c =
+    let a = c.args in
+    let all = step_done a.image.now a.segments.now a.types.now a.vmaddr a.lister a.line.now c.if-ended.true in
+    record { result_after = all.0; line_after = all.1 }
 
 pub returns-in-Row : goal.returns-in-Row
 returns-in-Row c = (let all = step_row _ _ _ _ _ _ _ _ c.if-ended.false _ _ (told (type_step_of _) c.next.ensures c.in-Row.is) c.put_row.ensures (c.wrapping_add_usize.ensures.value) in (record { result_after = all.0; line_after = all.1 }))

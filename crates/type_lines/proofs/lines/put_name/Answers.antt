@@ -14,18 +14,18 @@ overflow_add-result c =
     let k : ℕ = a.at + name_bytes - a.at in
     let same : k ≡ name_bytes = add-sub_cancel_left a.at name_bytes in
     omega
-    (arith, name_room a.image.now a.segments.now (row_of a.image.now a.row) a.line.now c.qualified_name.new.buffer.1.1.0 a.at k same (omega arith) _ (told length_of c.qualified_name.ensures.0 c.in-Length.is))
+    (arith, name_room a.image.now a.segments.now (row_of a.image.now a.row) a.line.now c.qualified_name.new.buffer a.at k same (omega arith) _ (told length_of c.qualified_name.ensures.result_value c.in-Length.is))
 
 pub returns-in-Length : goal.returns-in-Length
 returns-in-Length c =
     let a = c.args in
     let k : ℕ = a.at + name_bytes - a.at in
     let same : k ≡ name_bytes = add-sub_cancel_left a.at name_bytes in
-    name_put a.image.now a.segments.now (row_of a.image.now a.row) a.line.now c.qualified_name.new.buffer.1.1.0 a.at k same (omega arith) c.qualified_name.ensures.1 _ (told length_of c.qualified_name.ensures.0 c.in-Length.is)
+    name_put a.image.now a.segments.now (row_of a.image.now a.row) a.line.now c.qualified_name.new.buffer a.at k same (omega arith) c.qualified_name.ensures.buffer_after _ (told length_of c.qualified_name.ensures.result_value c.in-Length.is)
 
 pub returns-in-Refused : goal.returns-in-Refused
 returns-in-Refused c =
     let a = c.args in
     let k : ℕ = a.at + name_bytes - a.at in
     let same : k ≡ name_bytes = add-sub_cancel_left a.at name_bytes in
-    refusal_put a.image.now a.segments.now (row_of a.image.now a.row) a.line.now c.qualified_name.new.buffer.1.1.0 a.at k same (omega arith) c.qualified_name.ensures.1 _ _ _ (told length_of c.qualified_name.ensures.0 c.in-Refused.is) c.put_refused.ensures
+    refusal_put a.image.now a.segments.now (row_of a.image.now a.row) a.line.now c.qualified_name.new.buffer a.at k same (omega arith) c.qualified_name.ensures.buffer_after _ _ _ (told length_of c.qualified_name.ensures.result_value c.in-Refused.is) c.put_refused.ensures
