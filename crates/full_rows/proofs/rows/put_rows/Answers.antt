@@ -16,7 +16,8 @@ returns-then-room-n c =
     let a = c.args in
     let l = c.loop-slot in
     let long = full_row_long a.image.now a.segments.now l.slot (row_of a.image.now c.in-Row.row) in
-    records_told _ _ _ _ _ _ _ _ _ _ (full _ _ _ _ _ _ _ _ _ _ _ l.invariant c.loop-slot-test.true _ _ c.slot_row_moving-step.ensures _ c.in-Row.is (omega (arith, long, l.invariant.long, c.if-room-n.true)))
+    let all = records_told _ _ _ _ _ _ _ _ _ _ (full _ _ _ _ _ _ _ _ _ _ _ l.invariant c.loop-slot-test.true _ _ c.slot_row_moving-step.ensures _ c.in-Row.is (omega (arith, long, l.invariant.long, c.if-room-n.true))) in
+    record { value = all.0; buffer_after = all.1 }
 
 pub overflow_mul-n : goal.overflow_mul-n
 overflow_mul-n c =
@@ -46,4 +47,6 @@ pub loop-slot-preserved : goal.loop-slot-preserved
 loop-slot-preserved c = passes _ _ _ _ _ _ _ _ _ _ _ c.loop-slot.invariant c.loop-slot-test.true _ _ c.slot_row_moving-step.ensures c.in-Nothing.is
 
 pub returns : goal.returns
-returns c = records_told _ _ _ _ _ _ _ _ _ _ (ended _ _ _ _ _ _ _ _ _ _ _ c.loop-slot.invariant (omega (arith, c.loop-slot-test.false)))
+returns c =
+    let all = records_told _ _ _ _ _ _ _ _ _ _ (ended _ _ _ _ _ _ _ _ _ _ _ c.loop-slot.invariant (omega (arith, c.loop-slot-test.false))) in
+    record { value = all.0; buffer_after = all.1 }

@@ -1,0 +1,14 @@
+-- `certainty::calls::row_certain` meets its contract.
+use mathlib.Core.Path.{ap, ◌∙◌}
+use Rattle.refusal.specs.Refusal.{answered}
+use Rattle.refusal.proofs.GuardedLaws.{refused_list, accepted_as}
+use Rattle.util.proofs.AnswersLaws.{told}
+use Rattle.refusal.specs.Guarded.{fault_of}
+use borrow.Author.Rules.{rules}
+use Rattle.certainty.proofs.calls.row_certain.Goals as goal
+
+pub returns-in-Refused : goal.returns-in-Refused
+returns-in-Refused c = refused_list _ _ (told fault_of c.find_fault.ensures c.in-Refused.is)
+
+pub returns : goal.returns
+returns c = accepted_as _ _ _ (c.told.ensures ∙ ap answered c.slot_certain.ensures) (told fault_of c.find_fault.ensures c.in_default.is)

@@ -1,0 +1,18 @@
+-- `certainty::chain::chain_certain` meets its contract. The invariant: what is certain of the whole chain is that of the contexts that are left.
+use mathlib.Core.Path.{◌≡◌, refl, sym, ◌∙◌}
+use borrow.Author.Rules.{rules}
+use borrow.Author.Tests.{not-true, not-false}
+use native.Mathlib.Omega.{arith}
+use Rattle.util.proofs.AnswersLaws.{told}
+use Rattle.parent.specs.Chain.{contexts_most}
+use Rattle.parent.specs.Context.{header_of}
+use Rattle.certainty.specs.JoinedName.{chain_certain}
+use Rattle.certainty.proofs.ReadLaws.{chain_last, chain_deep, chain_open, chain_on}
+use Rattle.certainty.proofs.chain.chain_certain.Given as goal
+
+abbrev pub invariant-loop-flags : goal.invariant-loop-flags
+invariant-loop-flags l =
+    chain_certain l.image l.segments contexts_most l.parent_va ≡ chain_certain l.image l.segments l.left l.next
+
+abbrev pub decreases-loop-flags : goal.decreases-loop-flags
+decreases-loop-flags l = l.left
