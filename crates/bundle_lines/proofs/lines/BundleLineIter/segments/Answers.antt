@@ -6,4 +6,4 @@ use borrow.Author.Rules.{rules}
 use Rattle.bundle_lines.proofs.lines.BundleLineIter.segments.Goals as goal
 
 pub returns-in-Rows : goal.returns-in-Rows
-returns-in-Rows c = numbers_as _ _ _ _ _ _ _ (sym (ap pending_of c.in-Rows.is)) c.segment_numbers.ensures.value c.segment_numbers.ensures.out_after
+returns-in-Rows c = (let all = numbers_as _ _ _ _ _ _ _ (sym (ap pending_of c.in-Rows.is)) c.segment_numbers.ensures.value c.segment_numbers.ensures.out_after in (record { value = all.0; out_after = all.1 }))
