@@ -1,6 +1,7 @@
 -- `bundle_lines::lines::BundleLineIter::next_line` meets its contract.
 use mathlib.Core.Path.{sym, ap}
-use Rattle.bundle_lines.specs.Printed.{pending_of}
+use Rattle.refusal.specs.Refusal.{answered}
+use Rattle.bundle_lines.specs.Printed.{pending_of, print_step}
 use Rattle.type_lines.proofs.LinesLaws.{line_refused, line_accepted}
 use Rattle.bundle_lines.proofs.PrintedLaws.{print_as, print_refusal, print_done}
 use Rattle.util.proofs.AnswersLaws.{told}
@@ -9,13 +10,28 @@ use borrow.Author.Rules.{rules}
 use Rattle.bundle_lines.proofs.lines.BundleLineIter.next_line.Goals as goal
 
 pub returns-in-Refused : goal.returns-in-Refused
-returns-in-Refused c = line_refused _ _ _ (told fault_of c.find_fault.ensures c.in-Refused.is)
+returns-in-Refused c =
+    let a = c.args in
+    let step = answered (print_step a.bytes.now a.segments.now (pending_of a.self)) in
+    let all = line_refused a.segments.now step a.line.now (told fault_of c.find_fault.ensures c.in-Refused.is) in
+    record { result_after = all.0; line_after = all.1 }
 
 pub returns-in-Rows : goal.returns-in-Rows
-returns-in-Rows c = print_as _ _ _ _ _ _ _ (sym (ap pending_of c.in-Rows.is)) (c.rows_line.ensures.result_after, c.rows_line.ensures.line_after)
+returns-in-Rows c =
+    let called = c.rows_line.ensures in
+    let all = print_as _ _ _ _ _ _ _ (sym (ap pending_of c.in-Rows.is)) (called.result_after, called.line_after) in
+    record { result_after = all.0; line_after = all.1 }
 
 pub returns-in-Refused-self : goal.returns-in-Refused-self
-returns-in-Refused-self c = line_accepted _ _ _ _ _ (print_refusal _ _ _ _ _ _ _ (sym (ap pending_of c.in-Refused-self.is)) c.refused_line.ensures) (told fault_of c.find_fault.ensures c.in_default.is)
+returns-in-Refused-self c =
+    let a = c.args in
+    let step = print_refusal a.bytes.now a.segments.now (pending_of a.self) a.line.now _ _ _ (sym (ap pending_of c.in-Refused-self.is)) c.refused_line.ensures in
+    let all = line_accepted _ _ _ _ _ step (told fault_of c.find_fault.ensures c.in_default.is) in
+    record { result_after = all.0; line_after = all.1 }
 
 pub returns-in-Done : goal.returns-in-Done
-returns-in-Done c = line_accepted _ _ _ _ _ (print_done _ _ _ _ (sym (ap pending_of c.in-Done.is))) (told fault_of c.find_fault.ensures c.in_default.is)
+returns-in-Done c =
+    let a = c.args in
+    let step = print_done a.bytes.now a.segments.now (pending_of a.self) a.line.now (sym (ap pending_of c.in-Done.is)) in
+    let all = line_accepted _ _ _ _ _ step (told fault_of c.find_fault.ensures c.in_default.is) in
+    record { result_after = all.0; line_after = all.1 }
