@@ -6,7 +6,6 @@ use Rattle.steps.specs.Bodies.{body_answer}
 use Rattle.c_blocks.specs.Blocks.{start_numbers}
 use Rattle.c_blocks.proofs.BlocksLaws.{answered_then, refused_then}
 use Rattle.c_rows.proofs.NumbersLaws.{tells_as, refuses}
-use borrow.Author.Rules.{rules}
 use Rattle.c_blocks.proofs.hodrupec_first_block.Goals as goal
 
 pub returns-in-Body : goal.returns-in-Body

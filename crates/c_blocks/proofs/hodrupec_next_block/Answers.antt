@@ -4,7 +4,6 @@ use Rattle.steps.specs.Blocks.{next_block_answer}
 use Rattle.c_blocks.specs.Blocks.{block_step_numbers}
 use Rattle.c_blocks.proofs.BlocksLaws.{step_known}
 use Rattle.c_rows.proofs.NumbersLaws.{tells, tells_as, refuses}
-use borrow.Author.Rules.{rules}
 use Rattle.c_blocks.proofs.hodrupec_next_block.Goals as goal
 
 pub returns-in-Block : goal.returns-in-Block

@@ -1,6 +1,5 @@
 -- `c_blocks::start_numbers` meets its contract.
 use Rattle.c_blocks.proofs.BlocksLaws.{start_known}
-use borrow.Author.Rules.{rules}
 use Rattle.c_blocks.proofs.start_numbers.Goals as goal
 
 pub returns-in-Start : goal.returns-in-Start

@@ -1,6 +1,5 @@
 -- `c_default_overrides::hodrupec_default_overrides` meets its contract.
 use Rattle.c_tables.proofs.TablesLaws.{tells_table}
-use borrow.Author.Rules.{rules}
 use Rattle.c_default_overrides.proofs.hodrupec_default_overrides.Goals as goal
 
 pub returns : goal.returns

@@ -1,6 +1,5 @@
 -- `c_methods::hodrupec_methods` meets its contract.
 use Rattle.c_tables.proofs.TablesLaws.{tells_table}
-use borrow.Author.Rules.{rules}
 use Rattle.c_methods.proofs.hodrupec_methods.Goals as goal
 
 pub returns : goal.returns

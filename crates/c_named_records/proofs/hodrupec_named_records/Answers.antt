@@ -1,6 +1,5 @@
 -- `c_named_records::hodrupec_named_records` meets its contract.
 use Rattle.c_tables.proofs.TablesLaws.{tells_table}
-use borrow.Author.Rules.{rules}
 use Rattle.c_named_records.proofs.hodrupec_named_records.Goals as goal
 
 pub returns : goal.returns

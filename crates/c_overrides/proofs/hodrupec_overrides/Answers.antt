@@ -1,6 +1,5 @@
 -- `c_overrides::hodrupec_overrides` meets its contract.
 use Rattle.c_tables.proofs.TablesLaws.{tells_table}
-use borrow.Author.Rules.{rules}
 use Rattle.c_overrides.proofs.hodrupec_overrides.Goals as goal
 
 pub returns : goal.returns

@@ -5,7 +5,6 @@ use Rattle.util.proofs.AnswersLaws.{told}
 use Rattle.steps.specs.Entries.{entry_answer}
 use Rattle.c_rows.proofs.NumbersLaws.{tells_as, refuses}
 use Rattle.c_tables.specs.Tables.{entry_step_numbers}
-use borrow.Author.Rules.{rules}
 use Rattle.c_prespecializations.proofs.hodrupec_next_prespecialization.Goals as goal
 
 pub returns-in-Step : goal.returns-in-Step

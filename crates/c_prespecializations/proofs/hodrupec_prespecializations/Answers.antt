@@ -1,6 +1,5 @@
 -- `c_prespecializations::hodrupec_prespecializations` meets its contract.
 use Rattle.c_tables.proofs.TablesLaws.{tells_table}
-use borrow.Author.Rules.{rules}
 use Rattle.c_prespecializations.proofs.hodrupec_prespecializations.Goals as goal
 
 pub returns : goal.returns

@@ -1,7 +1,6 @@
 -- `c_tables::step_numbers` meets its contract.
 use mathlib.Core.Path.{sym, ap}
 use Rattle.c_tables.specs.Tables.{step_numbers}
-use borrow.Author.Rules.{rules}
 use Rattle.c_tables.proofs.step_numbers.Goals as goal
 
 pub returns-in-Entry : goal.returns-in-Entry

@@ -4,7 +4,6 @@ use Rattle.util.proofs.AnswersLaws.{told}
 use Rattle.entry_tables.specs.Tables.{table_answer}
 use Rattle.c_rows.proofs.NumbersLaws.{tells}
 use Rattle.c_tables.specs.Tables.{count_numbers}
-use borrow.Author.Rules.{rules}
 use Rattle.c_tables.proofs.tell_counts.Goals as goal
 
 pub returns-in-Listed : goal.returns-in-Listed

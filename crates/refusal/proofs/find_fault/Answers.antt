@@ -1,12 +1,8 @@
-use borrow.Author.Rules.{rules}
 use native.Mathlib.Omega.{arith}
-use Prim.Native.Nat.{◌+◌, ◌-◌, ◌%◌, ◌≤◌}
-use mathlib.Core.Path.{◌≡◌, refl}
-use mathlib.Core.Logic.{⊎_elim}
+use Prim.Native.Nat.{◌+◌, ◌≤◌}
+use mathlib.Core.Path.{refl}
 use lib.ListN.{length}
-use Rattle.segment.specs.Segments.{segments_of}
-use Rattle.refusal.specs.Guarded.{any_wrapping}
-use Rattle.refusal.proofs.GuardedLaws.{ragged, wrapped, none_wrapping, wraps_from, counted, passed, all_passed, one_wraps}
+use Rattle.refusal.proofs.GuardedLaws.{ragged, wrapped, none_wrapping, counted, passed, all_passed, one_wraps}
 use Rattle.refusal.proofs.find_fault.Goals as goal
 use Rattle.refusal.proofs.find_fault.Goals.{then-segments-i, else-segments-i}
 

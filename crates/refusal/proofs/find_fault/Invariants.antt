@@ -1,13 +1,10 @@
 -- `refusal::find_fault` meets its contract. The invariant: a segment wraps if one was counted or one from `i` on does.
-use borrow.Author.Rules.{rules}
-use native.Mathlib.Omega.{arith}
-use Prim.Native.Nat.{◌+◌, ◌-◌, ◌%◌, ◌≤◌}
-use mathlib.Core.Path.{◌≡◌, refl}
-use mathlib.Core.Logic.{⊎_elim}
+use Prim.Native.Nat.{◌-◌, ◌%◌, ◌≤◌}
+use mathlib.Core.Path.{◌≡◌}
 use lib.ListN.{length}
 use Rattle.segment.specs.Segments.{segments_of}
 use Rattle.refusal.specs.Guarded.{any_wrapping}
-use Rattle.refusal.proofs.GuardedLaws.{ragged, wrapped, none_wrapping, wraps_from, counted, passed, all_passed, one_wraps}
+use Rattle.refusal.proofs.GuardedLaws.{wraps_from}
 use Rattle.refusal.proofs.find_fault.Given as goal
 
 abbrev pub invariant-loop-i : goal.invariant-loop-i

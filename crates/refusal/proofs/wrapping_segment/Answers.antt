@@ -1,10 +1,6 @@
-use borrow.Author.Rules.{rules}
 use native.Mathlib.Omega.{arith}
-use Prim.Native.Nat.{◌-◌, ◌*◌, ◌/◌, ◌≤◌}
-use mathlib.Core.Path.{◌≡◌, refl}
-use lib.ListN.{length, drop}
-use Rattle.segment.specs.Segments.{segments_of}
-use Rattle.refusal.specs.Guarded.{first_wrapping}
+use Prim.Native.Nat.{◌*◌}
+use mathlib.Core.Path.{refl}
 use Rattle.refusal.proofs.GuardedLaws.{first_here, first_passed, first_nowhere}
 use Rattle.refusal.proofs.wrapping_segment.Goals as goal
 

@@ -1,12 +1,9 @@
 -- `refusal::wrapping_segment` meets its contract. The invariant: the segments from `number` on have the first that wraps.
-use borrow.Author.Rules.{rules}
-use native.Mathlib.Omega.{arith}
 use Prim.Native.Nat.{◌-◌, ◌*◌, ◌/◌, ◌≤◌}
-use mathlib.Core.Path.{◌≡◌, refl}
+use mathlib.Core.Path.{◌≡◌}
 use lib.ListN.{length, drop}
 use Rattle.segment.specs.Segments.{segments_of}
 use Rattle.refusal.specs.Guarded.{first_wrapping}
-use Rattle.refusal.proofs.GuardedLaws.{first_here, first_passed, first_nowhere}
 use Rattle.refusal.proofs.wrapping_segment.Given as goal
 
 abbrev pub invariant-loop-number : goal.invariant-loop-number

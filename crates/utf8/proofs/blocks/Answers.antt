@@ -1,5 +1,4 @@
 -- `utf8::blocks` meets its contract: letters, or one row of the table for each length. Assumes nothing.
-use borrow.Author.Rules.{rules}
 use native.Mathlib.Omega.{arith}
 use Rattle.utf8.specs.Table.{table}
 use Rattle.utf8.specs.ScanAt.{RowOf}

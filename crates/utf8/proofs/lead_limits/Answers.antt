@@ -2,7 +2,6 @@
 use native.Mathlib.Omega.{arith}
 use Rattle.utf8.specs.Table.{table}
 use Rattle.utf8.proofs.Rows.{in_row}
-use borrow.Author.Rules.{rules}
 use Rattle.utf8.proofs.lead_limits.Goals as goal
 
 pub returns-then-b-lt128 : goal.returns-then-b-lt128

@@ -1,7 +1,4 @@
-use borrow.Author.Rules.{rules}
 use native.Mathlib.Omega.{arith}
-use Rattle.std.specs.Prelude.{◌≡◌, ◌-◌, ◌≤◌, true}
-use Rattle.utf8.specs.Plain.{Plain}
 use Rattle.utf8.proofs.Walk.{plain_none, plain_more}
 use Rattle.utf8.proofs.plain.Goals as goal
 

@@ -1,9 +1,6 @@
 -- `utf8::plain` meets its contract. The invariant: if all tests held so far, the bytes before `k` are plain.
-use borrow.Author.Rules.{rules}
-use native.Mathlib.Omega.{arith}
 use Rattle.std.specs.Prelude.{◌≡◌, ◌-◌, ◌≤◌, true}
 use Rattle.utf8.specs.Plain.{Plain}
-use Rattle.utf8.proofs.Walk.{plain_none, plain_more}
 use Rattle.utf8.proofs.plain.Given as goal
 
 abbrev pub invariant-loop-k : goal.invariant-loop-k

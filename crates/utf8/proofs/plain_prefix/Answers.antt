@@ -1,8 +1,5 @@
-use borrow.Author.Rules.{rules}
 use borrow.Author.Tests.{not-false}
 use native.Mathlib.Omega.{arith}
-use Rattle.std.specs.Prelude.{◌-◌, ◌≤◌, length}
-use Rattle.utf8.specs.Plain.{Plain}
 use Rattle.utf8.proofs.Walk.{plain_none, plain_join}
 use Rattle.utf8.proofs.plain_prefix.Goals as goal
 

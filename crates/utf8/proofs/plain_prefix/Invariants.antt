@@ -1,10 +1,6 @@
 -- `utf8::plain_prefix` meets its contract. The invariant: the bytes before `i` are plain.
-use borrow.Author.Rules.{rules}
-use borrow.Author.Tests.{not-false}
-use native.Mathlib.Omega.{arith}
 use Rattle.std.specs.Prelude.{◌-◌, ◌≤◌, length}
 use Rattle.utf8.specs.Plain.{Plain}
-use Rattle.utf8.proofs.Walk.{plain_none, plain_join}
 use Rattle.utf8.proofs.plain_prefix.Given as goal
 
 abbrev pub invariant-loop-i : goal.invariant-loop-i

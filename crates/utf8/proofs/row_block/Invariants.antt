@@ -1,10 +1,6 @@
 -- `utf8::row_block` meets its contract. The invariants: if all tests held so far, the walk goes on at `k`, in the inner loop with `left` ranges pending.
-use borrow.Author.Rules.{rules}
-use native.Mathlib.Omega.{arith}
-use native.Mathlib.Nat.{add-zero}
 use Rattle.std.specs.Prelude.{◌≡◌, ◌+◌, ◌-◌, ◌≤◌, true, []}
 use Rattle.utf8.specs.ScanAt.{ScanAt, others}
-use Rattle.utf8.proofs.Walk.{block_lead, block_tail, tail_done}
 use Rattle.utf8.proofs.row_block.Given as goal
 
 abbrev pub invariant-loop-left : goal.invariant-loop-left

@@ -1,7 +1,4 @@
-use borrow.Author.Rules.{rules}
 use native.Mathlib.Omega.{arith}
-use Rattle.std.specs.Prelude.{◌-◌, ◌≤◌, [], length}
-use Rattle.utf8.specs.ScanAt.{ScanAt}
 use Rattle.utf8.proofs.row_blocks.Goals as goal
 
 pub loop-i-init : goal.loop-i-init

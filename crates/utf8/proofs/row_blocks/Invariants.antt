@@ -1,6 +1,4 @@
 -- `utf8::row_blocks` meets its contract. The invariant: the walk is at `i`. Assumes nothing.
-use borrow.Author.Rules.{rules}
-use native.Mathlib.Omega.{arith}
 use Rattle.std.specs.Prelude.{◌-◌, ◌≤◌, [], length}
 use Rattle.utf8.specs.ScanAt.{ScanAt}
 use Rattle.utf8.proofs.row_blocks.Given as goal

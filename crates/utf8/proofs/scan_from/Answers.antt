@@ -1,12 +1,9 @@
-use Rattle.std.specs.Prelude.{◌≡◌, ◌+◌, ◌-◌, ◌<◌, ◌≤◌, true, [], length}
+use Rattle.std.specs.Prelude.{◌≡◌, ◌+◌, ◌-◌, ◌<◌, true, length}
 use native.Mathlib.Omega.{arith}
-use borrow.Author.Rules.{rules}
-use borrow.Author.Tests.{ltb-false, ltb-true}
+use borrow.Author.Tests.{ltb-false}
 use mathlib.Core.Path.{refl, sym, ap, ◌∙◌}
-use mathlib.Core.Logic.{⊎_elim}
 use Rattle.utf8.specs.Table.{◌to◌}
 use Rattle.utf8.specs.Text.{text_length, leads}
-use Rattle.utf8.specs.ScanAt.{ScanAt, others}
 use Rattle.utf8.proofs.Walk.{tail_low, lead_step, ascii_step, range_step, last_step, last_done, no_lead, no_range, no_last, too_few, at_nul, at_end_lem, outcome, ends, ill_formed}
 use Rattle.std.proofs.lemmas.Bool.{true≢false}
 use Rattle.utf8.proofs.scan_from.Goals as goal

@@ -1,15 +1,7 @@
 -- `utf8::scan_from` meets its contract. All three loops carry where the walk stands (`ScanAt`): the two over sequences with nothing pending, the one
 -- over a sequence's bytes with the ranges up to its last. `formed` is true in all, since each way that makes it false leaves at once.
 use Rattle.std.specs.Prelude.{◌≡◌, ◌+◌, ◌-◌, ◌<◌, ◌≤◌, true, [], length}
-use native.Mathlib.Omega.{arith}
-use borrow.Author.Rules.{rules}
-use borrow.Author.Tests.{ltb-false, ltb-true}
-use mathlib.Core.Path.{refl, sym, ap, ◌∙◌}
-use mathlib.Core.Logic.{⊎_elim}
-use Rattle.utf8.specs.Table.{◌to◌}
-use Rattle.utf8.specs.Text.{text_length, leads}
 use Rattle.utf8.specs.ScanAt.{ScanAt, others}
-use Rattle.utf8.proofs.Walk.{tail_low, lead_step, ascii_step, range_step, last_step, last_done, no_lead, no_range, no_last, too_few, at_nul, at_end_lem, outcome, ends, ill_formed}
 use Rattle.utf8.proofs.scan_from.Given as goal
 
 abbrev pub invariant-loop-i-2 : goal.invariant-loop-i-2

@@ -1,9 +1,7 @@
-use Rattle.std.specs.Prelude.{◌-◌, ◌≤◌, true, [], length}
+use Rattle.std.specs.Prelude.{true}
 use native.Mathlib.Nat.{zero-add}
 use native.Mathlib.Omega.{arith}
-use borrow.Author.Rules.{rules}
 use mathlib.Core.Path.{refl}
-use Rattle.utf8.specs.ScanAt.{ScanAt}
 use Rattle.utf8.proofs.Walk.{start, plain_walk, ascii_step, at_nul, at_end_lem, ends}
 use Rattle.utf8.proofs.scan_text.Goals as goal
 

@@ -1,12 +1,9 @@
 -- `bundle::open::open_bundle` meets its contract: the five kinds in turn.
 use Prim.Native.Nat.{ℕ}
 use native.Mathlib.Omega.{arith}
-use mathlib.Core.Logic.{⊎_elim}
 use mathlib.Core.List.{List}
-use lib.ListN.{length}
 use Rattle.bundle.proofs.OpenLaws.{too_long, taken_within, no_image, left_over, opens}
-use borrow.Author.Tests.{ltb-true, ltb-false}
-use borrow.Author.Rules.{rules}
+use borrow.Author.Tests.{ltb-true}
 use Rattle.bundle.proofs.open.open_bundle.Goals as goal
 use Rattle.bundle.proofs.open.open_bundle.Goals.{else-image-eq0-via-then-image-eq0+else-bytes-gt0, else-image-eq0-via-else-image-eq0}
 

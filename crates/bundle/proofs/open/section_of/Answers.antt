@@ -4,7 +4,6 @@ use Rattle.util.proofs.AnswersLaws.{told}
 use Rattle.util.specs.LittleEndian.{u64_value}
 use Rattle.util.proofs.LittleEndianLaws.{little_beyond}
 use Rattle.bundle.proofs.OpenLaws.{section_there, section_missing}
-use borrow.Author.Rules.{rules}
 use Rattle.bundle.proofs.open.section_of.Goals as goal
 
 pub returns-in-Value : goal.returns-in-Value

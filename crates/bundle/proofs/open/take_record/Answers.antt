@@ -5,7 +5,6 @@ use Rattle.util.proofs.AnswersLaws.{told}
 use Rattle.util.specs.LittleEndian.{u16_value, u32_value}
 use Rattle.util.proofs.LittleEndianLaws.{little_within, little_beyond}
 use Rattle.bundle.proofs.OpenLaws.{take_past, take_cut, take_other, take_unfit, take_there}
-use borrow.Author.Rules.{rules}
 use Rattle.bundle.proofs.open.take_record.Goals as goal
 
 pub returns-in_default : goal.returns-in_default

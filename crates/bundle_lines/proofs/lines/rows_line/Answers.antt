@@ -2,7 +2,6 @@
 use Rattle.util.proofs.AnswersLaws.{told}
 use Rattle.type_lines.specs.Lines.{line_answer}
 use Rattle.bundle_lines.proofs.PrintedLaws.{rows_print}
-use borrow.Author.Rules.{rules}
 use Rattle.bundle_lines.proofs.lines.rows_line.Goals as goal
 
 pub returns-in-Line : goal.returns-in-Line

@@ -3,7 +3,6 @@ use mathlib.Core.Path.{ap}
 use Rattle.util.proofs.AnswersLaws.{told}
 use Rattle.bundle.specs.Open.{opened}
 use Rattle.bundle_lines.specs.Printed.{start_of}
-use borrow.Author.Rules.{rules}
 use Rattle.bundle_lines.proofs.lines.start.Goals as goal
 
 pub returns-in-Bundle : goal.returns-in-Bundle

@@ -2,7 +2,6 @@
 use Rattle.util.proofs.AnswersLaws.{told}
 use Rattle.bundle.specs.Open.{opened}
 use Rattle.bundle_parts.proofs.AcceptedLaws.{accept_broken}
-use borrow.Author.Rules.{rules}
 use Rattle.bundle_parts.proofs.accepted.accept_bundle.Goals as goal
 
 pub with_segments-requires : goal.with_segments-requires

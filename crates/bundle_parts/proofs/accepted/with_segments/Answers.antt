@@ -7,7 +7,6 @@ use Rattle.refusal.specs.Guarded.{fault, fault_of}
 use Rattle.bundle_parts.specs.Parts.{listed_numbers, segment_numbers_most}
 use Rattle.bundle_parts.proofs.PartsLaws.{start_fits, start_lent}
 use Rattle.bundle_parts.proofs.AcceptedLaws.{accept_opened, accept_refused}
-use borrow.Author.Rules.{rules}
 use Rattle.bundle_parts.proofs.accepted.with_segments.Goals as goal
 
 pub slice_bounds-numbers-end : goal.slice_bounds-numbers-end

@@ -1,10 +1,8 @@
-use borrow.Author.Rules.{rules}
 use native.Mathlib.Omega.{arith}
-use Prim.Native.Nat.{◌-◌, ◌/◌}
 use lib.ListN.{length-set}
 use Rattle.util.proofs.AnswersLaws.{told}
-use Rattle.bundle_parts.specs.Parts.{segment_bytes, segment_of, segment_numbers_most}
-use Rattle.bundle_parts.proofs.PartsLaws.{Started, started_none, started_more, filled_all, filled_full}
+use Rattle.bundle_parts.specs.Parts.{segment_of}
+use Rattle.bundle_parts.proofs.PartsLaws.{started_none, started_more, filled_all, filled_full}
 use Rattle.bundle_parts.proofs.segments.fill.Goals as goal
 
 pub loop-k-init : goal.loop-k-init

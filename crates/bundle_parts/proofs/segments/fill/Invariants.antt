@@ -1,11 +1,7 @@
 -- `bundle_parts::segments::fill` meets its contract. The invariant: the numbers of the segments before `k` are in the list.
-use borrow.Author.Rules.{rules}
-use native.Mathlib.Omega.{arith}
 use Prim.Native.Nat.{◌-◌, ◌/◌}
-use lib.ListN.{length-set}
-use Rattle.util.proofs.AnswersLaws.{told}
-use Rattle.bundle_parts.specs.Parts.{segment_bytes, segment_of, segment_numbers_most}
-use Rattle.bundle_parts.proofs.PartsLaws.{Started, started_none, started_more, filled_all, filled_full}
+use Rattle.bundle_parts.specs.Parts.{segment_bytes, segment_numbers_most}
+use Rattle.bundle_parts.proofs.PartsLaws.{Started}
 use Rattle.bundle_parts.proofs.segments.fill.Given as goal
 
 abbrev pub invariant-loop-k : goal.invariant-loop-k

@@ -6,7 +6,6 @@ use Prim.Native.Nat.{ℕ}
 use lib.ListN.{length}
 use Rattle.bundle_parts.specs.Parts.{segment_in}
 use Rattle.bundle_parts.proofs.PartsLaws.{segment_there, segment_past}
-use borrow.Author.Rules.{rules}
 use Rattle.bundle_parts.proofs.segments.segment.Goals as goal
 
 pub returns-then-number-body : goal.returns-then-number-body

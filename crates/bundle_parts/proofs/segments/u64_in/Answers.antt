@@ -3,7 +3,6 @@ use native.Mathlib.Omega.{arith}
 use Rattle.util.proofs.AnswersLaws.{told}
 use Rattle.util.specs.LittleEndian.{u64_value}
 use Rattle.util.proofs.LittleEndianLaws.{little_value, little_beyond}
-use borrow.Author.Rules.{rules}
 use Rattle.bundle_parts.proofs.segments.u64_in.Goals as goal
 
 pub returns-in-Value : goal.returns-in-Value

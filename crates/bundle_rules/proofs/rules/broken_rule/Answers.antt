@@ -1,12 +1,8 @@
-use Prim.Native.Nat.{◌-◌}
 use native.Mathlib.Omega.{arith}
 use mathlib.Core.Path.{sym, ◌∙◌}
 use mathlib.Core.Logic.{⊎_elim}
-use mathlib.Core.Bool.{true≢false}
-use lib.ListN.{length}
-use borrow.Author.Tests.{eqb-true, eqb-false}
 use borrow.Author.Rules.{rules}
-use Rattle.bundle_rules.proofs.RuleLaws.{too_long_whole, RulesWalked, walked_none, walked_breaks, walked_keeps, walked_whole, walked_empty, walked_missing, seen_image, seen_other, kept_by_check}
+use Rattle.bundle_rules.proofs.RuleLaws.{too_long_whole, walked_none, walked_breaks, walked_keeps, walked_whole, walked_empty, walked_missing, seen_image, seen_other, kept_by_check}
 use Rattle.bundle_rules.proofs.rules.broken_rule.Goals as goal
 
 pub returns-then-bytes-gt-BUNDLE_BYTES : goal.returns-then-bytes-gt-BUNDLE_BYTES

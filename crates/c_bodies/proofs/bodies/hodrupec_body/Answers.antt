@@ -3,7 +3,6 @@ use Rattle.util.proofs.AnswersLaws.{told}
 use Rattle.steps.specs.Bodies.{body_answer}
 use Rattle.full_rows.specs.FullRows.{body_numbers}
 use Rattle.c_rows.proofs.NumbersLaws.{tells_as, refuses}
-use borrow.Author.Rules.{rules}
 use Rattle.c_bodies.proofs.bodies.hodrupec_body.Goals as goal
 
 pub returns-in-Body : goal.returns-in-Body

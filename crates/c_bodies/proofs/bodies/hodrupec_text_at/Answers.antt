@@ -3,7 +3,6 @@ use Rattle.util.proofs.AnswersLaws.{told}
 use Rattle.steps.specs.Bodies.{text_answer}
 use Rattle.runtime.specs.PlaceNumbers.{text_numbers}
 use Rattle.c_rows.proofs.NumbersLaws.{tells_as, refuses}
-use borrow.Author.Rules.{rules}
 use Rattle.c_bodies.proofs.bodies.hodrupec_text_at.Goals as goal
 
 pub returns-in-Text : goal.returns-in-Text

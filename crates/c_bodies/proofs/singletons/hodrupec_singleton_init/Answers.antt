@@ -6,7 +6,6 @@ use Rattle.type_body.specs.declared.singleton.SingletonMetadataInit.{SingletonMe
 use Rattle.steps.specs.Singletons.{init_answer}
 use Rattle.c_bodies.specs.Singletons.{init_numbers}
 use Rattle.c_rows.proofs.NumbersLaws.{tells, refuses}
-use borrow.Author.Rules.{rules}
 use Rattle.c_bodies.proofs.singletons.hodrupec_singleton_init.Goals as goal
 
 pub returns-in-At : goal.returns-in-At

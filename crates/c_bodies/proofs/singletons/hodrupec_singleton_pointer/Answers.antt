@@ -6,7 +6,6 @@ use Rattle.type_body.specs.declared.singleton.SingletonMetadataPointer.{Singleto
 use Rattle.steps.specs.Singletons.{pointer_answer}
 use Rattle.c_rows.specs.Numbers.{value_numbers}
 use Rattle.c_rows.proofs.NumbersLaws.{tells, refuses}
-use borrow.Author.Rules.{rules}
 use Rattle.c_bodies.proofs.singletons.hodrupec_singleton_pointer.Goals as goal
 
 pub returns-in-At : goal.returns-in-At

@@ -2,7 +2,6 @@
 use mathlib.Core.Path.{refl}
 use Rattle.util.proofs.AnswersLaws.{told}
 use Rattle.c_numbers.specs.Flags.{field_kind_number}
-use borrow.Author.Rules.{rules}
 use Rattle.c_numbers.proofs.flags.field_kind_number.Goals as goal
 
 pub returns-in-Other : goal.returns-in-Other

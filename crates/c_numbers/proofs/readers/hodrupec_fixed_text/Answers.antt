@@ -1,7 +1,6 @@
 -- `c_numbers::readers::hodrupec_fixed_text` meets its contract.
 use mathlib.Core.Path.{refl}
 use Rattle.c_numbers.proofs.ReadersLaws.{length_given}
-use borrow.Author.Rules.{rules}
 use Rattle.c_numbers.proofs.readers.hodrupec_fixed_text.Goals as goal
 
 pub returns : goal.returns

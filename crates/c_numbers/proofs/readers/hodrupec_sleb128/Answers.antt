@@ -9,7 +9,6 @@ use Rattle.util.specs.Pointer.{modulo}
 use Rattle.util.proofs.AnswersLaws.{told}
 use Rattle.leb128.specs.Leb128.{sleb_value}
 use Rattle.c_numbers.proofs.ReadersLaws.{sleb_given, no_sleb}
-use borrow.Author.Rules.{rules}
 use Rattle.c_numbers.proofs.readers.hodrupec_sleb128.Goals as goal
 
 pub returns-in-Value : goal.returns-in-Value

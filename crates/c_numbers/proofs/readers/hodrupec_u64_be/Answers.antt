@@ -3,7 +3,6 @@ use mathlib.Core.Path.{refl}
 use Rattle.util.proofs.AnswersLaws.{told}
 use Rattle.util.specs.LittleEndian.{u64_value}
 use Rattle.c_numbers.proofs.ReadersLaws.{value_given, no_value}
-use borrow.Author.Rules.{rules}
 use Rattle.c_numbers.proofs.readers.hodrupec_u64_be.Goals as goal
 
 pub returns-in-Value : goal.returns-in-Value

@@ -3,7 +3,6 @@ use mathlib.Core.Path.{refl}
 use Rattle.util.proofs.AnswersLaws.{told}
 use Rattle.leb128.specs.Leb128.{uleb_value}
 use Rattle.c_numbers.proofs.ReadersLaws.{uleb_given, no_uleb}
-use borrow.Author.Rules.{rules}
 use Rattle.c_numbers.proofs.readers.hodrupec_uleb128.Goals as goal
 
 pub returns-in-Value : goal.returns-in-Value

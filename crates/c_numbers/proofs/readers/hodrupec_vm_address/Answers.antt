@@ -5,7 +5,6 @@ use Rattle.segment.specs.VmAddress.{address_of}
 use Rattle.c_rows.specs.Numbers.{value_numbers}
 use Rattle.c_rows.proofs.NumbersLaws.{tells_accepted, tells_refused}
 use Rattle.refusal.specs.Guarded.{fault_of}
-use borrow.Author.Rules.{rules}
 use Rattle.c_numbers.proofs.readers.hodrupec_vm_address.Goals as goal
 
 pub returns-in-Refused : goal.returns-in-Refused

@@ -3,7 +3,6 @@ use mathlib.Core.Path.{refl}
 use Rattle.util.proofs.AnswersLaws.{told}
 use Rattle.runtime.specs.FieldName.{field_name_of}
 use Rattle.runtime.specs.PlaceNumbers.{field_numbers}
-use borrow.Author.Rules.{rules}
 use Rattle.c_rows.proofs.calls.field_name_numbers.Goals as goal
 
 pub returns-in-Image : goal.returns-in-Image

@@ -4,7 +4,6 @@ use Rattle.runtime.specs.PlaceNumbers.{field_numbers}
 use Rattle.c_rows.proofs.NumbersLaws.{tells_accepted, tells_refused}
 use Rattle.util.proofs.AnswersLaws.{told}
 use Rattle.refusal.specs.Guarded.{fault_of}
-use borrow.Author.Rules.{rules}
 use Rattle.c_rows.proofs.calls.hodrupec_field_name.Goals as goal
 
 pub returns-in-Refused : goal.returns-in-Refused

@@ -3,7 +3,6 @@ use Rattle.util.proofs.AnswersLaws.{told}
 use Rattle.steps.specs.Calls.{context_answer}
 use Rattle.c_rows.specs.Numbers.{chain_step_numbers}
 use Rattle.c_rows.proofs.NumbersLaws.{tells, tells_as, refuses, name_told}
-use borrow.Author.Rules.{rules}
 use Rattle.c_rows.proofs.calls.hodrupec_next_context.Goals as goal
 
 pub returns-in-Context : goal.returns-in-Context

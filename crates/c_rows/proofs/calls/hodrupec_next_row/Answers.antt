@@ -3,7 +3,6 @@ use Rattle.util.proofs.AnswersLaws.{told}
 use Rattle.steps.specs.Calls.{row_answer}
 use Rattle.c_rows.specs.Numbers.{row_numbers}
 use Rattle.c_rows.proofs.NumbersLaws.{tells, refuses}
-use borrow.Author.Rules.{rules}
 use Rattle.c_rows.proofs.calls.hodrupec_next_row.Goals as goal
 
 pub returns-in-Row : goal.returns-in-Row

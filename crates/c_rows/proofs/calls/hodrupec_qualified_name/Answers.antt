@@ -3,7 +3,6 @@ use Rattle.util.proofs.AnswersLaws.{told}
 use Rattle.qualified_name.specs.Name.{length_of}
 use Rattle.c_rows.specs.Numbers.{one_number}
 use Rattle.c_rows.proofs.NumbersLaws.{tells, refuses}
-use borrow.Author.Rules.{rules}
 use Rattle.c_rows.proofs.calls.hodrupec_qualified_name.Goals as goal
 
 pub returns-in-Length : goal.returns-in-Length

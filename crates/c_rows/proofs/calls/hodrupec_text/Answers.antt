@@ -3,7 +3,6 @@ use mathlib.Core.Path.{refl, ◌∙◌, ap}
 use Rattle.util.specs.Cstr.{text_at}
 use Rattle.runtime.specs.PlaceNumbers.{text_numbers}
 use Rattle.c_rows.proofs.NumbersLaws.{tells_as}
-use borrow.Author.Rules.{rules}
 use Rattle.c_rows.proofs.calls.hodrupec_text.Goals as goal
 
 pub returns : goal.returns

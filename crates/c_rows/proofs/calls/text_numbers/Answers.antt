@@ -2,7 +2,6 @@
 use mathlib.Core.Path.{sym, ap}
 use Rattle.util.specs.Cstr.{text_of}
 use Rattle.runtime.specs.PlaceNumbers.{text_numbers}
-use borrow.Author.Rules.{rules}
 use Rattle.c_rows.proofs.calls.text_numbers.Goals as goal
 
 pub returns-in-At : goal.returns-in-At

@@ -7,7 +7,6 @@ use Rattle.typedescriptor.specs.Row.{descriptor_of}
 use Rattle.refusal.proofs.GuardedLaws.{refused_list, accepted_as}
 use Rattle.certainty.proofs.ReadLaws.{name_open, name_none, name_by}
 use Rattle.refusal.specs.Guarded.{fault_of}
-use borrow.Author.Rules.{rules}
 use Rattle.certainty.proofs.calls.name_certain.Goals as goal
 
 pub returns-in-Refused : goal.returns-in-Refused

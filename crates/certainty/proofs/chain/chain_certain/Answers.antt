@@ -1,9 +1,7 @@
-use mathlib.Core.Path.{◌≡◌, refl, sym, ◌∙◌}
-use borrow.Author.Rules.{rules}
+use mathlib.Core.Path.{refl, sym, ◌∙◌}
 use borrow.Author.Tests.{not-true, not-false}
 use native.Mathlib.Omega.{arith}
 use Rattle.util.proofs.AnswersLaws.{told}
-use Rattle.parent.specs.Chain.{contexts_most}
 use Rattle.parent.specs.Context.{header_of}
 use Rattle.certainty.specs.JoinedName.{chain_certain}
 use Rattle.certainty.proofs.ReadLaws.{chain_last, chain_deep, chain_open, chain_on}

@@ -1,13 +1,7 @@
 -- `certainty::chain::chain_certain` meets its contract. The invariant: what is certain of the whole chain is that of the contexts that are left.
-use mathlib.Core.Path.{◌≡◌, refl, sym, ◌∙◌}
-use borrow.Author.Rules.{rules}
-use borrow.Author.Tests.{not-true, not-false}
-use native.Mathlib.Omega.{arith}
-use Rattle.util.proofs.AnswersLaws.{told}
+use mathlib.Core.Path.{◌≡◌}
 use Rattle.parent.specs.Chain.{contexts_most}
-use Rattle.parent.specs.Context.{header_of}
 use Rattle.certainty.specs.JoinedName.{chain_certain}
-use Rattle.certainty.proofs.ReadLaws.{chain_last, chain_deep, chain_open, chain_on}
 use Rattle.certainty.proofs.chain.chain_certain.Given as goal
 
 abbrev pub invariant-loop-flags : goal.invariant-loop-flags

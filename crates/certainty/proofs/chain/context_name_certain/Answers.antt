@@ -1,7 +1,6 @@
 -- `certainty::chain::context_name_certain` meets its contract.
 use mathlib.Core.Path.{sym, ◌∙◌}
 use Rattle.certainty.proofs.ReadLaws.{unnamed, is_named}
-use borrow.Author.Rules.{rules}
 use Rattle.certainty.proofs.chain.context_name_certain.Goals as goal
 
 pub returns-then-has_name : goal.returns-then-has_name

@@ -2,7 +2,6 @@
 use native.Mathlib.Omega.{arith}
 use mathlib.Core.Path.{sym, ◌∙◌}
 use Rattle.certainty.proofs.ReadLaws.{high_header, zero_header, short_header, whole_header}
-use borrow.Author.Rules.{rules}
 use Rattle.certainty.proofs.chain.header_certain.Goals as goal
 
 pub returns-then-descriptor_va-gt18446744073709551611 : goal.returns-then-descriptor_va-gt18446744073709551611

@@ -2,7 +2,6 @@
 use native.Mathlib.Omega.{arith}
 use mathlib.Core.Path.{sym, ◌∙◌}
 use Rattle.certainty.proofs.ReadLaws.{high_name, no_slot, zero_name, name_there}
-use borrow.Author.Rules.{rules}
 use Rattle.certainty.proofs.chain.slot_name_certain.Goals as goal
 
 pub returns-then-descriptor_va-gt18446744073709551607 : goal.returns-then-descriptor_va-gt18446744073709551607

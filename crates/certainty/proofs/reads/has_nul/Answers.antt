@@ -1,8 +1,5 @@
-use Prim.Native.Nat.{◌-◌}
 use native.Mathlib.Omega.{arith}
-use mathlib.Core.Path.{◌≡◌, refl, sym, ◌∙◌}
-use lib.ListN.{length, drop}
-use borrow.Author.Rules.{rules}
+use mathlib.Core.Path.{refl, sym, ◌∙◌}
 use Rattle.certainty.specs.Certain.{has_nul}
 use Rattle.certainty.proofs.ReadLaws.{nul_here, nul_later, nul_past}
 use Rattle.certainty.proofs.reads.has_nul.Goals as goal

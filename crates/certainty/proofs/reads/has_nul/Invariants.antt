@@ -1,11 +1,8 @@
 -- `certainty::reads::has_nul` meets its contract. The invariant: no NUL was passed.
 use Prim.Native.Nat.{◌-◌}
-use native.Mathlib.Omega.{arith}
-use mathlib.Core.Path.{◌≡◌, refl, sym, ◌∙◌}
+use mathlib.Core.Path.{◌≡◌}
 use lib.ListN.{length, drop}
-use borrow.Author.Rules.{rules}
 use Rattle.certainty.specs.Certain.{has_nul}
-use Rattle.certainty.proofs.ReadLaws.{nul_here, nul_later, nul_past}
 use Rattle.certainty.proofs.reads.has_nul.Given as goal
 
 abbrev pub invariant-loop-at : goal.invariant-loop-at

@@ -2,7 +2,6 @@
 use Rattle.certainty.proofs.ReadLaws.{in_file_lem, not_in_file}
 use Rattle.util.proofs.AnswersLaws.{told}
 use Rattle.segment.specs.Segments.{offset_of}
-use borrow.Author.Rules.{rules}
 use Rattle.certainty.proofs.reads.is_nowhere.Goals as goal
 
 pub returns-in-At : goal.returns-in-At

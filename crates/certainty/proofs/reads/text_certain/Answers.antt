@@ -3,7 +3,6 @@ use mathlib.Core.Path.{sym, ◌∙◌}
 use Rattle.util.proofs.AnswersLaws.{told}
 use Rattle.segment.specs.Segments.{offset_of}
 use Rattle.certainty.proofs.ReadLaws.{zero_text, nowhere_text, text_there}
-use borrow.Author.Rules.{rules}
 use Rattle.certainty.proofs.reads.text_certain.Goals as goal
 
 pub returns-then-vmaddr-eq0 : goal.returns-then-vmaddr-eq0

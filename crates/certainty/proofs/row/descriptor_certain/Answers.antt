@@ -2,7 +2,6 @@
 use native.Mathlib.Omega.{arith}
 use mathlib.Core.Path.{sym, ◌∙◌}
 use Rattle.certainty.proofs.ReadLaws.{short_descriptor, high_descriptor, named_descriptor}
-use borrow.Author.Rules.{rules}
 use Rattle.certainty.proofs.row.descriptor_certain.Goals as goal
 
 pub returns-then-header-lt20 : goal.returns-then-header-lt20

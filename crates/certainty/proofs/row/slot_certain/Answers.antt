@@ -4,7 +4,6 @@ use Rattle.util.proofs.AnswersLaws.{told}
 use Rattle.segment.specs.VmAddress.{address_of}
 use Rattle.certainty.specs.Certain.{certain}
 use Rattle.certainty.proofs.ReadLaws.{slot_reads}
-use borrow.Author.Rules.{rules}
 use Rattle.certainty.proofs.row.slot_certain.Goals as goal
 
 pub returns-in-At : goal.returns-in-At

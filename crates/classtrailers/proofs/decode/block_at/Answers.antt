@@ -2,7 +2,6 @@
 use Rattle.classtrailers.proofs.CallsLaws.{kind_says}
 use Rattle.classtrailers.specs.Blocks.{row_at, block_at}
 use Rattle.runtime.specs.Reads.{run}
-use borrow.Author.Rules.{rules}
 use Rattle.classtrailers.proofs.decode.block_at.Goals as goal
 
 pub returns-in-Generic : goal.returns-in-Generic

@@ -1,7 +1,6 @@
 -- `classtrailers::decode::end_of` meets its contract.
 use native.Mathlib.Omega.{arith}
 use Rattle.classtrailers.proofs.CallsLaws.{ends_above, ends_below}
-use borrow.Author.Rules.{rules}
 use Rattle.classtrailers.proofs.decode.end_of.Goals as goal
 
 pub returns-then-size-at : goal.returns-then-size-at

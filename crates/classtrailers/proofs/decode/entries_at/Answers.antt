@@ -4,7 +4,6 @@ use mathlib.Core.Path.{refl, ◌∙◌}
 use Rattle.util.proofs.AnswersLaws.{told}
 use Rattle.segment.specs.VmAddress.{address_of}
 use Rattle.classtrailers.proofs.CallsLaws.{no_header, end_overflows, block_says, below_some, entries_fit}
-use borrow.Author.Rules.{rules}
 use Rattle.classtrailers.proofs.decode.entries_at.Goals as goal
 
 pub returns-then-header-lt4 : goal.returns-then-header-lt4

@@ -5,7 +5,6 @@ use Rattle.util.proofs.AnswersLaws.{told}
 use Rattle.segment.specs.VmAddress.{address_of}
 use Rattle.classtrailers.proofs.CallsLaws.{no_header, end_overflows, block_says}
 use Rattle.classtrailers.specs.Blocks.{row_at, generic_size}
-use borrow.Author.Rules.{rules}
 use Rattle.classtrailers.proofs.decode.generic_at.Goals as goal
 
 pub returns-then-header-lt16 : goal.returns-then-header-lt16

@@ -3,7 +3,6 @@ use native.Mathlib.Omega.{arith}
 use mathlib.Core.Path.{refl}
 use Rattle.classtrailers.proofs.CallsLaws.{no_header, set_says, set_counted}
 use Rattle.classtrailers.specs.Blocks.{row_at}
-use borrow.Author.Rules.{rules}
 use Rattle.classtrailers.proofs.decode.invertible_at.Goals as goal
 
 pub returns-then-header-lt2 : goal.returns-then-header-lt2

@@ -2,7 +2,6 @@
 use Rattle.util.proofs.AnswersLaws.{told}
 use Rattle.segment.specs.VmAddress.{address_of}
 use Rattle.classtrailers.proofs.CallsLaws.{ends_as}
-use borrow.Author.Rules.{rules}
 use Rattle.classtrailers.proofs.decode.unread.Goals as goal
 
 pub returns-in-At : goal.returns-in-At

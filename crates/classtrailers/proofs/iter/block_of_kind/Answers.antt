@@ -1,16 +1,11 @@
 use native.Mathlib.Omega.{arith}
-use Prim.Native.Nat.{◌-◌, ◌≤◌}
-use mathlib.Core.Path.{◌≡◌, sym, ◌∙◌}
-use mathlib.Core.Option.{some}
+use mathlib.Core.Path.{sym, ◌∙◌}
 use borrow.Author.Tests.{not-true, not-false}
 use Rattle.util.proofs.AnswersLaws.{told}
-use Rattle.runtime.specs.Reads.{run}
-use Rattle.segment.specs.Mapping.{with_mapping}
-use Rattle.classtrailers.specs.Blocks.{reached, block}
+use Rattle.classtrailers.specs.Blocks.{block}
 use Rattle.segment.specs.VmAddress.{address_of}
-use Rattle.classtrailers.specs.Calls.{trailing_of, block_at_of}
+use Rattle.classtrailers.specs.Calls.{block_at_of}
 use Rattle.classtrailers.proofs.CallsLaws.{record_says, reached_start, reached_next, kind_absent, kind_stops, kind_there_lem}
-use borrow.Author.Rules.{rules}
 use Rattle.classtrailers.proofs.iter.block_of_kind.Goals as goal
 
 pub returns-then-not-has_block : goal.returns-then-not-has_block

@@ -1,17 +1,11 @@
 -- `classtrailers::iter::block_of_kind` meets its contract. The invariant: row `row` lies at `address`.
-use native.Mathlib.Omega.{arith}
 use Prim.Native.Nat.{◌-◌, ◌≤◌}
-use mathlib.Core.Path.{◌≡◌, sym, ◌∙◌}
+use mathlib.Core.Path.{◌≡◌}
 use mathlib.Core.Option.{some}
-use borrow.Author.Tests.{not-true, not-false}
-use Rattle.util.proofs.AnswersLaws.{told}
 use Rattle.runtime.specs.Reads.{run}
 use Rattle.segment.specs.Mapping.{with_mapping}
-use Rattle.classtrailers.specs.Blocks.{reached, block}
-use Rattle.segment.specs.VmAddress.{address_of}
-use Rattle.classtrailers.specs.Calls.{trailing_of, block_at_of}
-use Rattle.classtrailers.proofs.CallsLaws.{record_says, reached_start, reached_next, kind_absent, kind_stops, kind_there_lem}
-use borrow.Author.Rules.{rules}
+use Rattle.classtrailers.specs.Blocks.{reached}
+use Rattle.classtrailers.specs.Calls.{trailing_of}
 use Rattle.classtrailers.proofs.iter.block_of_kind.Given as goal
 
 abbrev pub invariant-loop-row : goal.invariant-loop-row

@@ -2,7 +2,6 @@
 use Rattle.util.proofs.AnswersLaws.{told}
 use Rattle.classtrailers.specs.Calls.{kind_read_of, block_at_of}
 use Rattle.classtrailers.proofs.CallsLaws.{pass_none, pass_kind}
-use borrow.Author.Rules.{rules}
 use Rattle.classtrailers.proofs.iter.pass.Goals as goal
 
 pub returns-in_default : goal.returns-in_default

@@ -2,7 +2,6 @@
 use Rattle.util.proofs.AnswersLaws.{told}
 use Rattle.classtrailers.specs.Calls.{block_at_of}
 use Rattle.classtrailers.proofs.CallsLaws.{step_kind}
-use borrow.Author.Rules.{rules}
 use Rattle.classtrailers.proofs.iter.step_at.Goals as goal
 
 pub returns-in-Block : goal.returns-in-Block

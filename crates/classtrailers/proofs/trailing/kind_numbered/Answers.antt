@@ -1,7 +1,7 @@
 -- `classtrailers::trailing::kind_numbered` meets its contract.
 use native.Mathlib.Omega.{arith}
 use mathlib.Core.Path.{refl}
-use Rattle.classtrailers.proofs.CallsLaws.{past, kind_as, no_kind}
+use Rattle.classtrailers.proofs.CallsLaws.{kind_as, no_kind}
 use Rattle.classtrailers.specs.Blocks.{kind_numbered}
 use Rattle.classtrailers.proofs.trailing.kind_numbered.Goals as goal
 

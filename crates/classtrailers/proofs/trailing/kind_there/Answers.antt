@@ -3,7 +3,6 @@ use mathlib.Core.Path.{sym, ◌∙◌}
 use Rattle.util.proofs.AnswersLaws.{told}
 use Rattle.classtrailers.specs.Calls.{kind_read_of}
 use Rattle.classtrailers.proofs.CallsLaws.{there_kind, absent_kind, no_kind_there}
-use borrow.Author.Rules.{rules}
 use Rattle.classtrailers.proofs.trailing.kind_there.Goals as goal
 
 pub returns-then-has_block : goal.returns-then-has_block

@@ -1,5 +1,5 @@
 -- `entry_tables::calls::table` meets its contract.
-use Rattle.std.proofs.Common.{refl, rules}
+use Rattle.std.proofs.Common.{refl}
 use Rattle.entry_tables.proofs.TablesLaws.{table_refused, table_accepted}
 use Rattle.util.proofs.AnswersLaws.{told}
 use Rattle.refusal.specs.Guarded.{fault_of}

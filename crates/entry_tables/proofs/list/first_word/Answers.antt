@@ -1,6 +1,5 @@
 -- `entry_tables::list::first_word` meets its contract.
 use Rattle.entry_tables.proofs.TablesLaws.{numbered_word, pointer_word}
-use Rattle.std.proofs.Common.{rules}
 use Rattle.entry_tables.proofs.list.first_word.Goals as goal
 
 pub returns-then-numbered : goal.returns-then-numbered

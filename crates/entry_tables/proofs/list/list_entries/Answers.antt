@@ -1,6 +1,5 @@
 -- `entry_tables::list::list_entries` meets its contract.
 use Rattle.entry_tables.proofs.TablesLaws.{lists_least}
-use Rattle.std.proofs.Common.{rules}
 use Rattle.entry_tables.proofs.list.list_entries.Goals as goal
 
 pub returns-then-cursor-eq1 : goal.returns-then-cursor-eq1

@@ -1,5 +1,5 @@
 -- `entry_tables::list::list_one` meets its contract.
-use Rattle.std.proofs.Common.{◌+◌, ◌*◌, arith, rules}
+use Rattle.std.proofs.Common.{arith, rules}
 use Rattle.util.proofs.AnswersLaws.{case}
 use Rattle.entry_tables.specs.Tables.{Opens}
 use Rattle.entry_tables.proofs.TablesLaws.{opens_last, below_word, one_full, one_none, one_some}

@@ -1,6 +1,6 @@
-use Rattle.std.proofs.Common.{◌+◌, ◌-◌, ◌*◌, arith, rules}
+use Rattle.std.proofs.Common.{◌+◌, arith}
 use Rattle.entry_tables.specs.Tables.{entry_numbers, width, shape, Opens}
-use Rattle.entry_tables.proofs.TablesLaws.{Listing, start_going, stops_end, room_for, room_few, opens_last, below_word, table_full, table_none, table_run}
+use Rattle.entry_tables.proofs.TablesLaws.{start_going, stops_end, room_for, room_few, opens_last, below_word, table_full, table_none, table_run}
 use Rattle.util.proofs.AnswersLaws.{case}
 use Rattle.entry_tables.proofs.list.list_runs.Goals as goal
 

@@ -1,8 +1,7 @@
 -- `entry_tables::list::list_runs` meets its contract.
-use Rattle.std.proofs.Common.{◌+◌, ◌-◌, ◌*◌, arith, rules}
-use Rattle.entry_tables.specs.Tables.{entry_numbers, width, shape, Opens}
-use Rattle.entry_tables.proofs.TablesLaws.{Listing, start_going, stops_end, room_for, room_few, opens_last, below_word, table_full, table_none, table_run}
-use Rattle.util.proofs.AnswersLaws.{case}
+use Rattle.std.proofs.Common.{◌-◌}
+use Rattle.entry_tables.specs.Tables.{shape}
+use Rattle.entry_tables.proofs.TablesLaws.{Listing}
 use Rattle.entry_tables.proofs.list.list_runs.Given as goal
 
 abbrev pub invariant-loop-n : goal.invariant-loop-n

@@ -1,5 +1,5 @@
 -- `entry_tables::list::put_entry` meets its contract.
-use Rattle.std.proofs.Common.{arith, length-set, rules}
+use Rattle.std.proofs.Common.{arith, length-set}
 use Rattle.entry_tables.proofs.TablesLaws.{put_one, put_two, put_three}
 use Rattle.entry_tables.proofs.list.put_entry.Goals as goal
 

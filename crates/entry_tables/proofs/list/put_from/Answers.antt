@@ -1,5 +1,5 @@
 -- `entry_tables::list::put_from` meets its contract.
-use Rattle.std.proofs.Common.{◌+◌, ◌*◌, refl, rules}
+use Rattle.std.proofs.Common.{◌+◌, ◌*◌, refl}
 use Rattle.entry_tables.proofs.TablesLaws.{put_words}
 use Rattle.entry_tables.proofs.list.put_from.Goals as goal
 

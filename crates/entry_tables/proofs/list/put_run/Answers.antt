@@ -1,5 +1,5 @@
-use Rattle.std.proofs.Common.{◌≡◌, ◌+◌, ◌-◌, ◌*◌, ◌≤◌, arith, rules}
-use Rattle.entry_tables.proofs.TablesLaws.{Ran, ran_none, run_fits, ran_on, far_on, ran_puts}
+use Rattle.std.proofs.Common.{arith, rules}
+use Rattle.entry_tables.proofs.TablesLaws.{ran_none, run_fits, ran_on, far_on, ran_puts}
 use Rattle.entry_tables.proofs.list.put_run.Goals as goal
 
 pub loop-n-init : goal.loop-n-init

@@ -1,6 +1,6 @@
 -- `entry_tables::list::put_run` meets its contract.
-use Rattle.std.proofs.Common.{◌≡◌, ◌+◌, ◌-◌, ◌*◌, ◌≤◌, arith, rules}
-use Rattle.entry_tables.proofs.TablesLaws.{Ran, ran_none, run_fits, ran_on, far_on, ran_puts}
+use Rattle.std.proofs.Common.{◌≡◌, ◌-◌, ◌*◌, ◌≤◌}
+use Rattle.entry_tables.proofs.TablesLaws.{Ran}
 use Rattle.entry_tables.proofs.list.put_run.Given as goal
 
 abbrev pub invariant-loop-n : goal.invariant-loop-n

@@ -1,6 +1,5 @@
 -- `entry_tables::list::words_at` meets its contract.
 use Rattle.entry_tables.proofs.TablesLaws.{words_are}
-use Rattle.std.proofs.Common.{rules}
 use Rattle.entry_tables.proofs.list.words_at.Goals as goal
 
 pub returns : goal.returns

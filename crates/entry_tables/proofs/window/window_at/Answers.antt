@@ -1,5 +1,5 @@
 -- `entry_tables::window::window_at` meets its contract.
-use Rattle.std.proofs.Common.{arith, rules}
+use Rattle.std.proofs.Common.{arith}
 use Rattle.vtable.proofs.EntriesLaws.{product}
 use Rattle.entry_tables.proofs.TablesLaws.{place_wraps}
 use Rattle.entry_tables.proofs.window.window_at.Goals as goal

@@ -1,5 +1,5 @@
 -- `entry_tables::window::window_of_all` meets its contract.
-use Rattle.std.proofs.Common.{arith, rules}
+use Rattle.std.proofs.Common.{arith}
 use Rattle.util.proofs.AnswersLaws.{case}
 use Rattle.segment.specs.Mapping.{Located}
 use Rattle.entry_tables.proofs.TablesLaws.{opens_nowhere, opens_past, opens_least}

@@ -2,7 +2,6 @@
 use Rattle.util.proofs.AnswersLaws.{told}
 use Rattle.runtime.specs.Bytes.{bytes_place_of}
 use Rattle.entry_tables.proofs.TablesLaws.{opens_one, opens_none}
-use Rattle.std.proofs.Common.{rules}
 use Rattle.entry_tables.proofs.window.window_of_one.Goals as goal
 
 pub returns-in-At : goal.returns-in-At

@@ -1,5 +1,5 @@
 -- `field::iter::field_descriptor` meets its contract.
-use Rattle.std.proofs.Common.{ap, ◌∙◌, rules}
+use Rattle.std.proofs.Common.{ap, ◌∙◌}
 use Rattle.context.specs.Field.{field_kind}
 use Rattle.field.proofs.FieldsLaws.{descriptor_of_lem}
 use Rattle.field.proofs.iter.field_descriptor.Goals as goal

@@ -2,7 +2,6 @@
 use Rattle.vtable.specs.Entries.{packed}
 use Rattle.vtable.proofs.EntriesLaws.{entry_of_lem}
 use Rattle.field.specs.Records.{record_words}
-use Rattle.std.proofs.Common.{rules}
 use Rattle.field.proofs.record.field_record.Goals as goal
 
 pub returns : goal.returns

@@ -1,6 +1,5 @@
 -- `field_offsets::offsets::field_offset` meets its contract.
 use Rattle.field_offsets.proofs.OffsetsLaws.{offset_of_lem}
-use borrow.Author.Rules.{rules}
 use Rattle.field_offsets.proofs.offsets.field_offset.Goals as goal
 
 pub returns-in-At : goal.returns-in-At

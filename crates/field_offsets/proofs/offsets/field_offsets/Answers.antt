@@ -2,7 +2,6 @@
 use mathlib.Core.Path.{refl}
 use Rattle.field_offsets.specs.Offsets.{vector}
 use Rattle.field_offsets.proofs.OffsetsLaws.{offsets_of_lem, no_offsets_of}
-use borrow.Author.Rules.{rules}
 use Rattle.field_offsets.proofs.offsets.field_offsets.Goals as goal
 
 pub returns-in-Class : goal.returns-in-Class

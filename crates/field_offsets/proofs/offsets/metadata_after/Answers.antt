@@ -5,7 +5,6 @@ use Rattle.classtrailers.specs.Calls.{block_read_of}
 use Rattle.type_body.specs.Items.{trailers_of}
 use Rattle.field_offsets.specs.Offsets.{metadata_after}
 use Rattle.field_offsets.proofs.OffsetsLaws.{no_block, by_block}
-use borrow.Author.Rules.{rules}
 use Rattle.field_offsets.proofs.offsets.metadata_after.Goals as goal
 
 pub returns-in_default : goal.returns-in_default

@@ -3,7 +3,6 @@ use native.Mathlib.Omega.{arith}
 use Rattle.util.proofs.AnswersLaws.{told}
 use Rattle.util.specs.LittleEndian.{u32_value}
 use Rattle.field_offsets.proofs.OffsetsLaws.{no_number, not_whole, number_at}
-use borrow.Author.Rules.{rules}
 use Rattle.field_offsets.proofs.offsets.offset_at.Goals as goal
 
 pub returns-then-count-number : goal.returns-then-count-number

@@ -1,7 +1,6 @@
 -- `field_offsets::offsets::pointer_of` meets its contract.
 use mathlib.Core.Path.{refl}
 use Rattle.field_offsets.proofs.OffsetsLaws.{pointer_of_lem, no_pointer_of}
-use borrow.Author.Rules.{rules}
 use Rattle.field_offsets.proofs.offsets.pointer_of.Goals as goal
 
 pub returns-in-At : goal.returns-in-At

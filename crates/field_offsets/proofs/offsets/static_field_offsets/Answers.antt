@@ -3,7 +3,6 @@ use mathlib.Core.Path.{refl}
 use Rattle.util.proofs.AnswersLaws.{told}
 use Rattle.type_body.specs.Singleton.{pointer_of}
 use Rattle.field_offsets.proofs.OffsetsLaws.{static_at}
-use borrow.Author.Rules.{rules}
 use Rattle.field_offsets.proofs.offsets.static_field_offsets.Goals as goal
 
 pub returns-in-At : goal.returns-in-At

@@ -3,7 +3,6 @@ use native.Mathlib.Omega.{arith}
 use Rattle.util.proofs.AnswersLaws.{told}
 use Rattle.runtime.specs.Bytes.{bytes_place_of}
 use Rattle.field_offsets.proofs.OffsetsLaws.{no_offsets, offsets_at}
-use borrow.Author.Rules.{rules}
 use Rattle.field_offsets.proofs.offsets.struct_offsets.Goals as goal
 
 pub returns-then-count-eq0 : goal.returns-then-count-eq0

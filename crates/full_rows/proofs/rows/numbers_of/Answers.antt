@@ -1,7 +1,6 @@
 -- `full_rows::rows::numbers_of` meets its contract.
 use mathlib.Core.Path.{refl}
 use Rattle.full_rows.proofs.BlocksLaws.{recorded_as}
-use borrow.Author.Rules.{rules}
 use Rattle.full_rows.proofs.rows.numbers_of.Goals as goal
 
 pub returns-in-At : goal.returns-in-At

@@ -3,7 +3,6 @@ use Prim.Native.Nat.{ℕ}
 use mathlib.Core.Path.{ap}
 use mathlib.Core.List.{List, ◌∷◌}
 use Rattle.entry_tables.proofs.PastedLaws.{pasted_as}
-use borrow.Author.Rules.{rules}
 use Rattle.full_rows.proofs.rows.put_block.Goals as goal
 
 pub returns : goal.returns

@@ -1,14 +1,12 @@
 use native.Mathlib.Omega.{arith}
-use Prim.Native.Nat.{◌+◌, ◌-◌, ◌*◌}
+use Prim.Native.Nat.{◌+◌, ◌*◌}
 use mathlib.Core.Path.{refl}
 use mathlib.Core.Option.{some}
 use Rattle.util.proofs.AnswersLaws.{told}
-use Rattle.segment.specs.Mapping.{with_mapping}
-use Rattle.classtrailers.specs.Calls.{trailing_of, kind_read_of, block_at_of}
+use Rattle.classtrailers.specs.Calls.{kind_read_of, block_at_of}
 use Rattle.full_rows.specs.FullRows.{block_four}
 use Rattle.entry_tables.proofs.PastedLaws.{pasted_long}
-use Rattle.full_rows.proofs.BlocksLaws.{Putting, start_putting, all_put, absent_put, there_put, last_put, fails_put, block_long}
-use borrow.Author.Rules.{rules}
+use Rattle.full_rows.proofs.BlocksLaws.{start_putting, all_put, absent_put, there_put, last_put, fails_put, block_long}
 use Rattle.full_rows.proofs.rows.put_blocks.Goals as goal
 
 pub loop-row-init : goal.loop-row-init

@@ -1,15 +1,8 @@
 -- `full_rows::rows::put_blocks` meets its contract. The invariant: the blocks of the kinds before `row` are written, and row `row` lies at `address`.
-use native.Mathlib.Omega.{arith}
-use Prim.Native.Nat.{◌+◌, ◌-◌, ◌*◌}
-use mathlib.Core.Path.{refl}
-use mathlib.Core.Option.{some}
-use Rattle.util.proofs.AnswersLaws.{told}
+use Prim.Native.Nat.{◌-◌}
 use Rattle.segment.specs.Mapping.{with_mapping}
-use Rattle.classtrailers.specs.Calls.{trailing_of, kind_read_of, block_at_of}
-use Rattle.full_rows.specs.FullRows.{block_four}
-use Rattle.entry_tables.proofs.PastedLaws.{pasted_long}
-use Rattle.full_rows.proofs.BlocksLaws.{Putting, start_putting, all_put, absent_put, there_put, last_put, fails_put, block_long}
-use borrow.Author.Rules.{rules}
+use Rattle.classtrailers.specs.Calls.{trailing_of}
+use Rattle.full_rows.proofs.BlocksLaws.{Putting}
 use Rattle.full_rows.proofs.rows.put_blocks.Given as goal
 
 abbrev pub invariant-loop-row : goal.invariant-loop-row

@@ -3,7 +3,6 @@ use native.Mathlib.Omega.{arith}
 use Rattle.entry_tables.proofs.PastedLaws.{pasted_as}
 use Rattle.full_rows.proofs.BlocksLaws.{eight_put}
 use Rattle.full_rows.proofs.FullRowsLaws.{body_known}
-use borrow.Author.Rules.{rules}
 use Rattle.full_rows.proofs.rows.put_body.Goals as goal
 
 pub returns-in-Class : goal.returns-in-Class

@@ -2,7 +2,6 @@
 use native.Mathlib.Omega.{arith}
 use Rattle.full_rows.proofs.BlocksLaws.{eight_put}
 use Rattle.full_rows.proofs.FullRowsLaws.{class_known}
-use borrow.Author.Rules.{rules}
 use Rattle.full_rows.proofs.rows.put_class.Goals as goal
 
 pub returns-in-Fixed : goal.returns-in-Fixed

@@ -2,7 +2,6 @@
 use native.Mathlib.Omega.{arith}
 use lib.ListN.{length-set}
 use Rattle.entry_tables.proofs.PastedLaws.{four_put}
-use borrow.Author.Rules.{rules}
 use Rattle.full_rows.proofs.rows.put_four.Goals as goal
 
 pub bounds-buffer-at-2 : goal.bounds-buffer-at-2

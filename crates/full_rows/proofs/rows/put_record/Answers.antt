@@ -6,7 +6,6 @@ use Rattle.type_body.specs.Items.{trailers_of}
 use Rattle.full_rows.specs.FullRows.{block_fours}
 use Rattle.full_rows.proofs.BlocksLaws.{none_follow}
 use Rattle.full_rows.proofs.FullRowsLaws.{parts_put}
-use borrow.Author.Rules.{rules}
 use Rattle.full_rows.proofs.rows.put_record.Goals as goal
 
 pub returns-in-Start : goal.returns-in-Start

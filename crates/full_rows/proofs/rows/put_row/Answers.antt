@@ -1,7 +1,6 @@
 -- `full_rows::rows::put_row` meets its contract.
 use native.Mathlib.Omega.{arith}
 use Rattle.full_rows.proofs.BlocksLaws.{six_put}
-use borrow.Author.Rules.{rules}
 use Rattle.full_rows.proofs.rows.put_row.Goals as goal
 
 pub returns : goal.returns

@@ -1,11 +1,8 @@
 use native.Mathlib.Omega.{arith}
-use Prim.Native.Nat.{◌-◌, ◌*◌}
 use Rattle.segment.proofs.MappingLaws.{empty_mapped}
 use Rattle.typedescriptor.specs.Row.{row_of}
-use Rattle.typedescriptor.proofs.GivenLaws.{Going, start_going, ended, passes, full, goes_on_lem}
-use Rattle.full_rows.specs.FullRows.{full_row}
+use Rattle.typedescriptor.proofs.GivenLaws.{start_going, ended, passes, full, goes_on_lem}
 use Rattle.full_rows.proofs.FullRowsLaws.{full_row_long, row_mapped, records_told}
-use borrow.Author.Rules.{rules}
 use Rattle.full_rows.proofs.rows.put_rows.Goals as goal
 
 pub loop-slot-init : goal.loop-slot-init

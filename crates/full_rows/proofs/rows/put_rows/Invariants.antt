@@ -1,12 +1,7 @@
 -- `full_rows::rows::put_rows` meets its contract. The invariant: the rows before `slot` are written, `n` of them, and the mapping is true.
-use native.Mathlib.Omega.{arith}
 use Prim.Native.Nat.{◌-◌, ◌*◌}
-use Rattle.segment.proofs.MappingLaws.{empty_mapped}
-use Rattle.typedescriptor.specs.Row.{row_of}
-use Rattle.typedescriptor.proofs.GivenLaws.{Going, start_going, ended, passes, full, goes_on_lem}
+use Rattle.typedescriptor.proofs.GivenLaws.{Going}
 use Rattle.full_rows.specs.FullRows.{full_row}
-use Rattle.full_rows.proofs.FullRowsLaws.{full_row_long, row_mapped, records_told}
-use borrow.Author.Rules.{rules}
 use Rattle.full_rows.proofs.rows.put_rows.Given as goal
 
 abbrev pub invariant-loop-slot : goal.invariant-loop-slot

@@ -2,7 +2,6 @@
 use native.Mathlib.Omega.{arith}
 use lib.ListN.{length-set}
 use Rattle.entry_tables.proofs.PastedLaws.{two_put}
-use borrow.Author.Rules.{rules}
 use Rattle.full_rows.proofs.rows.put_two.Goals as goal
 
 pub bounds-buffer-at-2 : goal.bounds-buffer-at-2

@@ -1,10 +1,7 @@
 use native.Mathlib.Omega.{arith}
-use Prim.Native.Nat.{◌-◌, ◌≤◌}
 use mathlib.Core.Path.{◌≡◌, refl, ◌∙◌}
-use lib.ListN.{length, replicate, length-set}
-use Rattle.util.specs.Buffer.{pasted}
+use lib.ListN.{length-set}
 use Rattle.full_rows.proofs.BlocksLaws.{zeros_start, zeros_more, zeros_all}
-use borrow.Author.Rules.{rules}
 use Rattle.full_rows.proofs.rows.put_zeros.Goals as goal
 
 pub loop-n-init : goal.loop-n-init

@@ -1,11 +1,8 @@
 -- `full_rows::rows::put_zeros` meets its contract. The invariant: `n` zeros are written.
-use native.Mathlib.Omega.{arith}
 use Prim.Native.Nat.{◌-◌, ◌≤◌}
-use mathlib.Core.Path.{◌≡◌, refl, ◌∙◌}
-use lib.ListN.{length, replicate, length-set}
+use mathlib.Core.Path.{◌≡◌}
+use lib.ListN.{length, replicate}
 use Rattle.util.specs.Buffer.{pasted}
-use Rattle.full_rows.proofs.BlocksLaws.{zeros_start, zeros_more, zeros_all}
-use borrow.Author.Rules.{rules}
 use Rattle.full_rows.proofs.rows.put_zeros.Given as goal
 
 abbrev pub invariant-loop-n : goal.invariant-loop-n

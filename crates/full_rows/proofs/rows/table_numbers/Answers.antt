@@ -1,7 +1,6 @@
 -- `full_rows::rows::table_numbers` meets its contract.
 use native.Mathlib.Omega.{arith}
 use Rattle.full_rows.proofs.BlocksLaws.{vtable_numbers, other_numbers}
-use borrow.Author.Rules.{rules}
 use Rattle.full_rows.proofs.rows.table_numbers.Goals as goal
 
 pub returns-then-number_of-eq-VTABLE : goal.returns-then-number_of-eq-VTABLE

@@ -1,15 +1,9 @@
-use Prim.Native.Nat.{◌^◌, ◌≤◌, ◌-◌}
-use mathlib.Core.Path.{◌≡◌, refl}
+use Prim.Native.Nat.{◌-◌}
+use mathlib.Core.Path.{refl}
 use native.Mathlib.Omega.{arith}
 use native.Mathlib.Numerals.{add-one}
 use native.Mathlib.Nat.{pow-suc}
-use Rattle.leb128.specs.Leb128Walk.{Running}
 use Rattle.leb128.proofs.Leb128Laws.{running_none, running_ends, running_more, running_last, small_weight, room, running_nine}
-use borrow.Author.Rules.{rules}
-use Rattle.leb128.proofs.leb128.read_chunks.Reads as reads
-use Rattle.leb128.proofs.leb128.read_chunks.Lts as lts
-use Rattle.leb128.proofs.leb128.byte64.Reads as byte64-reads
-use Rattle.leb128.proofs.leb128.tenth.Reads as tenth-reads
 use Rattle.leb128.proofs.leb128.read_chunks.Goals as goal
 
 pub loop-i-init : goal.loop-i-init

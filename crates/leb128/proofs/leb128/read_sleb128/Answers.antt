@@ -6,7 +6,6 @@ use mir.Facts.{to_z-of_z}
 use Rattle.util.proofs.AnswersLaws.{case}
 use Rattle.leb128.specs.Leb128Walk.{Chunked}
 use Rattle.leb128.proofs.Leb128Laws.{sleb_longer, sign_room, sleb_positive, sleb_negative, sleb_ten, sleb_eleven, sleb_refused}
-use borrow.Author.Rules.{rules}
 use Rattle.leb128.proofs.leb128.read_sleb128.Goals as goal
 
 pub returns-then-last-lt64 : goal.returns-then-last-lt64

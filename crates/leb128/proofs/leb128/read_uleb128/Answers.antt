@@ -2,7 +2,6 @@
 use Rattle.util.proofs.AnswersLaws.{case}
 use Rattle.leb128.specs.Leb128Walk.{Chunked}
 use Rattle.leb128.proofs.Leb128Laws.{uleb_longer, uleb_short, uleb_eleven, uleb_refused}
-use borrow.Author.Rules.{rules}
 use Rattle.leb128.proofs.leb128.read_uleb128.Goals as goal
 
 pub returns-then-last-eq0 : goal.returns-then-last-eq0

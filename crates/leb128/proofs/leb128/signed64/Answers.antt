@@ -5,7 +5,6 @@ use mir.Syntax.{w64}
 use mir.Facts.{to_z_pos}
 use Rattle.util.proofs.LittleEndianLaws.{twos_positive}
 use Rattle.leb128.proofs.Signed.{minus_one_fits, twos_high_64}
-use borrow.Author.Rules.{rules}
 use Rattle.leb128.proofs.leb128.signed64.Goals as goal
 
 pub overflow_sub-result-else-n-lt9223372036854775808 : goal.overflow_sub-result-else-n-lt9223372036854775808

@@ -1,7 +1,6 @@
 -- `leb128::leb128::tenth` meets its contract.
 use native.Mathlib.Omega.{arith}
 use Rattle.leb128.proofs.Leb128Laws.{running_small, running_ends, ten_last, ten_ends, eleven_last, eleven_on}
-use borrow.Author.Rules.{rules}
 use Rattle.leb128.proofs.leb128.tenth.Goals as goal
 
 pub returns-then-bytes-le9 : goal.returns-then-bytes-le9

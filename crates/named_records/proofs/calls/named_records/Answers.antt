@@ -3,7 +3,6 @@ use mathlib.Core.Path.{refl}
 use Rattle.entry_tables.proofs.TablesLaws.{table_refused, table_accepted}
 use Rattle.util.proofs.AnswersLaws.{told}
 use Rattle.refusal.specs.Guarded.{fault_of}
-use borrow.Author.Rules.{rules}
 use Rattle.named_records.proofs.calls.named_records.Goals as goal
 
 pub returns-in-Refused : goal.returns-in-Refused

@@ -1,13 +1,11 @@
-use Prim.Native.Nat.{◌-◌, ◌*◌, ◌<◌}
+use Prim.Native.Nat.{◌*◌, ◌<◌}
 use native.Mathlib.Omega.{arith}
-use mathlib.Core.Path.{◌∙◌}
 use Rattle.util.proofs.AnswersLaws.{told}
 use Rattle.field.specs.Records.{record_layout, record_step_of, of_record}
 use Rattle.entry_tables.proofs.PastedLaws.{pasted_as}
-use Rattle.entry_tables.proofs.TablesLaws.{Going, start_going, fits, stops_end, stops_full, stops_none, goes_on_lem}
+use Rattle.entry_tables.proofs.TablesLaws.{start_going, fits, stops_end, stops_full, stops_none, goes_on_lem}
 use Rattle.named_records.specs.NamedRecords.{named_numbers}
 use Rattle.named_records.proofs.NamedRecordsLaws.{named_long, named_mapped, step_ended, step_found}
-use borrow.Author.Rules.{rules}
 use Rattle.named_records.proofs.records.list_records.Goals as goal
 
 pub loop-n-init : goal.loop-n-init

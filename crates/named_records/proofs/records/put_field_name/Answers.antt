@@ -1,10 +1,6 @@
 -- `named_records::records::put_field_name` meets its contract.
 use Rattle.entry_tables.proofs.PastedLaws.{pasted_as}
 use Rattle.named_records.proofs.NamedRecordsLaws.{name_known}
-use borrow.Author.Rules.{rules}
-use Rattle.named_records.proofs.records.put_field_name.Reads as reads
-use Rattle.named_records.proofs.records.put_field_name.Lts as lts
-use Rattle.named_records.proofs.records.put_three.Reads as put-three-reads
 use Rattle.named_records.proofs.records.put_field_name.Goals as goal
 
 pub returns-in-Image : goal.returns-in-Image

@@ -1,10 +1,6 @@
 -- `named_records::records::put_text` meets its contract.
 use Rattle.entry_tables.proofs.PastedLaws.{pasted_as}
 use Rattle.named_records.proofs.NamedRecordsLaws.{text_known}
-use borrow.Author.Rules.{rules}
-use Rattle.named_records.proofs.records.put_text.Reads as reads
-use Rattle.named_records.proofs.records.put_text.Lts as lts
-use Rattle.named_records.proofs.records.put_three.Reads as put-three-reads
 use Rattle.named_records.proofs.records.put_text.Goals as goal
 
 pub returns-in-At : goal.returns-in-At

@@ -2,9 +2,6 @@
 use native.Mathlib.Omega.{arith}
 use lib.ListN.{length-set}
 use Rattle.entry_tables.proofs.PastedLaws.{four_put}
-use borrow.Author.Rules.{rules}
-use Rattle.named_records.proofs.records.put_words.Reads as reads
-use Rattle.named_records.proofs.records.put_words.Lts as lts
 use Rattle.named_records.proofs.records.put_words.Goals as goal
 
 pub bounds-buffer-at-2 : goal.bounds-buffer-at-2

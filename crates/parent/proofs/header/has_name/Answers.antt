@@ -1,7 +1,6 @@
 -- `parent::header::has_name` meets its contract.
 use mathlib.Core.Path.{◌∙◌, ap}
 use Rattle.context.specs.Context.{has_name}
-use borrow.Author.Rules.{rules}
 use Rattle.parent.proofs.header.has_name.Goals as goal
 
 pub returns : goal.returns

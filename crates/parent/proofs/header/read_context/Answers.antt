@@ -2,7 +2,6 @@
 use Rattle.util.proofs.AnswersLaws.{told}
 use Rattle.parent.specs.Context.{header_of}
 use Rattle.parent.proofs.ContextLaws.{unnamed, is_named, no_context, context_at_lem}
-use borrow.Author.Rules.{rules}
 use Rattle.parent.proofs.header.read_context.Goals as goal
 
 pub returns-then-has_name : goal.returns-then-has_name

@@ -2,7 +2,6 @@
 use native.Mathlib.Omega.{arith}
 use mathlib.Core.Path.{sym, ◌∙◌}
 use Rattle.parent.proofs.ContextLaws.{inside, name_wraps, no_slot, no_offset, name_at_lem}
-use borrow.Author.Rules.{rules}
 use Rattle.parent.proofs.header.read_context_name.Goals as goal
 
 pub returns-then-descriptor_va-gt18446744073709551607 : goal.returns-then-descriptor_va-gt18446744073709551607

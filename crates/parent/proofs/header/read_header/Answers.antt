@@ -1,7 +1,6 @@
 -- `parent::header::read_header` meets its contract: each `return` is a case of `header`.
 use native.Mathlib.Omega.{arith}
 use Rattle.parent.proofs.ContextLaws.{zero_header, no_header, parent_wraps, header_at}
-use borrow.Author.Rules.{rules}
 use Rattle.parent.proofs.header.read_header.Goals as goal
 
 pub returns-then-descriptor_va-eq0 : goal.returns-then-descriptor_va-eq0

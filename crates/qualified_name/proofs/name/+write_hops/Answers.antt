@@ -1,5 +1,4 @@
 -- `qualified_name::name::write_hops` meets its contract. It calls itself with fewer contexts allowed, so its measure is `left`.
-use borrow.Author.Rules.{rules}
 use native.Mathlib.Omega.{arith}
 use mathlib.Core.Path.{refl, ap}
 use Rattle.parent.proofs.ContextLaws.{zero_header, no_context}

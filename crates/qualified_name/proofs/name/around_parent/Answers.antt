@@ -1,6 +1,5 @@
 -- `qualified_name::name::around_parent` meets its contract.
 use Rattle.segment.proofs.MappingLaws.{near_mapped}
-use borrow.Author.Rules.{rules}
 use Rattle.qualified_name.proofs.name.around_parent.Goals as goal
 
 pub returns-then-parent-eq0 : goal.returns-then-parent-eq0

@@ -1,14 +1,8 @@
 -- `qualified_name::name::collect` meets its contract. The invariant: the contexts that were read are a block. The measure is how many are allowed yet.
-use borrow.Author.Rules.{rules}
-use native.Mathlib.Omega.{arith}
-use mathlib.Core.Path.{◌≡◌, refl}
+use mathlib.Core.Path.{◌≡◌}
 use lib.ListN.{length}
 use Rattle.segment.specs.Mapping.{with_mapping}
-use Rattle.util.proofs.AnswersLaws.{told, case}
-use Rattle.parent.specs.Context.{header_of, name_read, Inside}
-use Rattle.parent.proofs.ContextLaws.{unnamed, is_named, no_context, context_at_lem}
 use Rattle.qualified_name.specs.Walk.{Block}
-use Rattle.qualified_name.proofs.WalkLaws.{no_block, block_ends, block_full, block_deep, block_unnamed, block_named}
 use Rattle.qualified_name.proofs.name.collect.Given as goal
 
 abbrev pub invariant-loop-count : goal.invariant-loop-count

@@ -1,6 +1,5 @@
-use borrow.Author.Rules.{rules}
 use native.Mathlib.Omega.{arith}
-use Rattle.qualified_name.proofs.WalkLaws.{Putting, put_start, put_next, put_all, put_kept}
+use Rattle.qualified_name.proofs.WalkLaws.{put_start, put_next, put_all, put_kept}
 use Rattle.qualified_name.proofs.name.put_hops.Goals as goal
 
 pub loop-k-init : goal.loop-k-init

@@ -1,7 +1,5 @@
 -- `qualified_name::name::put_hops` meets its contract. The invariant: what is put, and then the hops of the names before `k`, are the hops of all.
-use borrow.Author.Rules.{rules}
-use native.Mathlib.Omega.{arith}
-use Rattle.qualified_name.proofs.WalkLaws.{Putting, put_start, put_next, put_all, put_kept}
+use Rattle.qualified_name.proofs.WalkLaws.{Putting}
 use Rattle.qualified_name.proofs.name.put_hops.Given as goal
 
 abbrev pub invariant-loop-k : goal.invariant-loop-k

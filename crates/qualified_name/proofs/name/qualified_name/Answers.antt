@@ -1,7 +1,6 @@
 -- `qualified_name::name::qualified_name` meets its contract: the mapping around the first context is true.
 use Rattle.segment.proofs.MappingLaws.{empty_mapped}
 use Rattle.qualified_name.proofs.NameLaws.{name_near}
-use borrow.Author.Rules.{rules}
 use Rattle.qualified_name.proofs.name.qualified_name.Goals as goal
 
 pub returns : goal.returns

@@ -2,7 +2,6 @@
 use Rattle.util.proofs.AnswersLaws.{told}
 use Rattle.runtime.specs.Bytes.{bytes_place_of}
 use Rattle.runtime.specs.CallsLaws.{read_at_lem, read_nothing}
-use borrow.Author.Rules.{rules}
 use Rattle.runtime.proofs.reads.read_bytes.Goals as goal
 
 pub returns-in-At : goal.returns-in-At

@@ -1,7 +1,6 @@
 -- `runtime::reflstr::field_name_part` meets its contract.
 use mathlib.Core.Path.{ap, sym, ◌∙◌}
 use Rattle.runtime.specs.FieldName.{name_part, field_name_of}
-use borrow.Author.Rules.{rules}
 use Rattle.runtime.proofs.reflstr.field_name_part.Goals as goal
 
 pub returns-in-Image : goal.returns-in-Image

@@ -2,7 +2,6 @@
 use Rattle.util.proofs.AnswersLaws.{told}
 use Rattle.util.specs.Cstr.{text_of}
 use Rattle.runtime.specs.CallsLaws.{name_zero, name_image, name_strings}
-use borrow.Author.Rules.{rules}
 use Rattle.runtime.proofs.reflstr.lookup_field_name.Goals as goal
 
 pub returns-then-target_va-eq0 : goal.returns-then-target_va-eq0

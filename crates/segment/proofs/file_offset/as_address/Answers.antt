@@ -1,6 +1,5 @@
 -- `segment::file_offset::as_address` meets its contract.
 use mathlib.Core.Path.{sym, ap}
-use borrow.Author.Rules.{rules}
 use Rattle.segment.specs.Segments.{offset_of}
 use Rattle.segment.proofs.file_offset.as_address.Goals as goal
 

@@ -1,11 +1,7 @@
 use borrow.Author.Rules.{rules}
 use native.Mathlib.Omega.{arith}
-use Prim.Native.Nat.{◌≤◌, ◌-◌}
-use mathlib.Core.Path.{◌≡◌, refl}
-use lib.ListN.{length, drop}
-use Rattle.segment.specs.Segments.{segments_of}
+use mathlib.Core.Path.{refl}
 use Rattle.segment.proofs.SegmentsLaws.{segment_at}
-use Rattle.segment.specs.VmAddress.{vm_address}
 use Rattle.segment.proofs.VmAddressLaws.{by_hand, turn_answer, turn_next, turn_end}
 use Rattle.segment.proofs.file_offset.file_offset_to_vm_in.Goals as goal
 
@@ -19,13 +15,12 @@ returns-in-Answer c =
     c.in-Answer.is c.as_address.ensures (omega arith)
 
 pub loop-i-preserved : goal.loop-i-preserved
-loop-i-preserved c =
-    (
-      search rules,
-      turn_next c.args.segments.now c.loop-i.i c.args.offset _ c.loop-i.invariant.1 _
-          (by_hand (segment_at c.args.segments.now c.loop-i.i) _ _ _ c.lower-mapped.ensures c.look_up-found.ensures)
-          c.in-Next.is (omega arith),
-    )
+loop-i-preserved c = (
+  search rules,
+  turn_next c.args.segments.now c.loop-i.i c.args.offset _ c.loop-i.invariant.1 _
+      (by_hand (segment_at c.args.segments.now c.loop-i.i) _ _ _ c.lower-mapped.ensures c.look_up-found.ensures)
+      c.in-Next.is (omega arith),
+)
 
 pub returns : goal.returns
 returns c =

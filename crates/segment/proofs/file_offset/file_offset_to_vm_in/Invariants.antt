@@ -1,13 +1,9 @@
 -- `segment::file_offset::file_offset_to_vm_in` meets its contract. The invariant: what the numbers from `i` on say is what the whole list says.
-use borrow.Author.Rules.{rules}
-use native.Mathlib.Omega.{arith}
 use Prim.Native.Nat.{◌≤◌, ◌-◌}
-use mathlib.Core.Path.{◌≡◌, refl}
+use mathlib.Core.Path.{◌≡◌}
 use lib.ListN.{length, drop}
 use Rattle.segment.specs.Segments.{segments_of}
-use Rattle.segment.proofs.SegmentsLaws.{segment_at}
 use Rattle.segment.specs.VmAddress.{vm_address}
-use Rattle.segment.proofs.VmAddressLaws.{by_hand, turn_answer, turn_next, turn_end}
 use Rattle.segment.proofs.file_offset.file_offset_to_vm_in.Given as goal
 
 abbrev pub invariant-loop-i : goal.invariant-loop-i

@@ -1,7 +1,6 @@
 -- `segment::segment::clip` meets its contract.
 use native.Mathlib.Omega.{arith}
 use Rattle.segment.proofs.MappingLaws.{clip_past, clip_wraps, clip_one, clip_part, clip_order}
-use borrow.Author.Rules.{rules}
 use Rattle.segment.proofs.segment.clip.Goals as goal
 
 pub returns-then-delta-filesize : goal.returns-then-delta-filesize

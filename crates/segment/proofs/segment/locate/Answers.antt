@@ -1,12 +1,8 @@
-use borrow.Author.Rules.{rules}
 use native.Mathlib.Omega.{arith}
-use Prim.Native.Nat.{◌≤◌, ◌-◌}
 use mathlib.Core.Path.{◌∙◌}
 use mathlib.Core.Option.{none}
-use mathlib.Core.Logic.{⊎_elim}
-use lib.ListN.{length}
 use Rattle.segment.proofs.SegmentsLaws.{wraps, told, lookup_end}
-use Rattle.segment.proofs.MappingLaws.{Passed, passed_none, passed_above, passed_below, passed_empty, located}
+use Rattle.segment.proofs.MappingLaws.{passed_none, passed_above, passed_below, passed_empty, located}
 use Rattle.segment.proofs.segment.locate.Goals as goal
 use Rattle.segment.proofs.segment.locate.Goals.{then-address-vmaddr, else-address-vmaddr+then-end-address, else-address-vmaddr+else-end-address+else-filesize-ne0}
 

@@ -1,5 +1,4 @@
 -- `segment::segment::look_up` meets its contract: each `return` is a case of `decides`.
-use borrow.Author.Rules.{rules}
 use native.Mathlib.Omega.{arith}
 use Rattle.segment.proofs.SegmentsLaws.{wraps, below, above, no_bytes, held, past_file, offset_wraps, in_file_lem}
 use Rattle.segment.proofs.segment.look_up.Goals as goal

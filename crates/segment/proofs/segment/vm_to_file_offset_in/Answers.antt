@@ -1,9 +1,6 @@
 use borrow.Author.Rules.{rules}
 use native.Mathlib.Omega.{arith}
-use Prim.Native.Nat.{◌≤◌, ◌-◌}
-use mathlib.Core.Path.{◌≡◌, refl}
-use lib.ListN.{length, drop}
-use Rattle.segment.specs.Segments.{segments_of, file_offset}
+use mathlib.Core.Path.{refl}
 use Rattle.segment.proofs.SegmentsLaws.{lookup_answer, lookup_next, lookup_end}
 use Rattle.segment.proofs.segment.vm_to_file_offset_in.Goals as goal
 
@@ -16,12 +13,11 @@ returns-in-Answer c =
     c.look_up-found.ensures c.in-Answer.is (omega arith)
 
 pub loop-i-preserved : goal.loop-i-preserved
-loop-i-preserved c =
-    (
-      search rules,
-      lookup_next c.args.segments.now c.loop-i.i c.args.vmaddr _ c.loop-i.invariant.1 _
-          c.look_up-found.ensures c.in-Next.is (omega arith),
-    )
+loop-i-preserved c = (
+  search rules,
+  lookup_next c.args.segments.now c.loop-i.i c.args.vmaddr _ c.loop-i.invariant.1 _
+      c.look_up-found.ensures c.in-Next.is (omega arith),
+)
 
 pub returns : goal.returns
 returns c =

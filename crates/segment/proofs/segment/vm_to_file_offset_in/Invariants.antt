@@ -1,11 +1,8 @@
 -- `segment::segment::vm_to_file_offset_in` meets its contract. The invariant: what the numbers from `i` on say is what the whole list says.
-use borrow.Author.Rules.{rules}
-use native.Mathlib.Omega.{arith}
 use Prim.Native.Nat.{◌≤◌, ◌-◌}
-use mathlib.Core.Path.{◌≡◌, refl}
+use mathlib.Core.Path.{◌≡◌}
 use lib.ListN.{length, drop}
 use Rattle.segment.specs.Segments.{segments_of, file_offset}
-use Rattle.segment.proofs.SegmentsLaws.{lookup_answer, lookup_next, lookup_end}
 use Rattle.segment.proofs.segment.vm_to_file_offset_in.Given as goal
 
 abbrev pub invariant-loop-i : goal.invariant-loop-i

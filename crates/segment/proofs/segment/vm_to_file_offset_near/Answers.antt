@@ -1,7 +1,6 @@
 -- `segment::segment::vm_to_file_offset_near` meets its contract.
 use native.Mathlib.Omega.{arith}
 use Rattle.segment.proofs.MappingLaws.{near_answer, near_next}
-use borrow.Author.Rules.{rules}
 use Rattle.segment.proofs.segment.vm_to_file_offset_near.Goals as goal
 
 pub returns-in-Answer : goal.returns-in-Answer

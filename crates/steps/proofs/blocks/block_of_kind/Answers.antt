@@ -7,7 +7,6 @@ use Rattle.type_body.specs.Items.{trailers_of}
 use Rattle.steps.specs.Blocks.{kind_from}
 use Rattle.refusal.proofs.GuardedLaws.{refused_list, accepted_as}
 use Rattle.refusal.specs.Guarded.{fault_of}
-use borrow.Author.Rules.{rules}
 use Rattle.steps.proofs.blocks.block_of_kind.Goals as goal
 
 pub returns-in-Refused : goal.returns-in-Refused

@@ -4,7 +4,6 @@ use Rattle.util.proofs.AnswersLaws.{told}
 use Rattle.classtrailers.specs.Calls.{walk_of}
 use Rattle.type_body.specs.Items.{trailers_of}
 use Rattle.steps.specs.Blocks.{walk_from}
-use borrow.Author.Rules.{rules}
 use Rattle.steps.proofs.blocks.block_walk.Goals as goal
 
 pub returns-in-Start : goal.returns-in-Start

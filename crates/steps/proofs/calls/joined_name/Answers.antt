@@ -2,7 +2,6 @@
 use Rattle.steps.proofs.CallsLaws.{text_refused, text_accepted}
 use Rattle.util.proofs.AnswersLaws.{told}
 use Rattle.refusal.specs.Guarded.{fault_of}
-use borrow.Author.Rules.{rules}
 use Rattle.steps.proofs.calls.joined_name.Goals as goal
 
 pub returns-in-Refused : goal.returns-in-Refused

@@ -5,7 +5,6 @@ use Rattle.util.proofs.AnswersLaws.{told}
 use Rattle.parent.specs.Chain.{parent_step_of}
 use Rattle.refusal.proofs.GuardedLaws.{refused_list, accepted_as}
 use Rattle.refusal.specs.Guarded.{fault_of}
-use borrow.Author.Rules.{rules}
 use Rattle.steps.proofs.calls.next_context.Goals as goal
 
 pub returns-in-Refused : goal.returns-in-Refused

@@ -4,7 +4,6 @@ use Rattle.refusal.specs.Refusal.{answered}
 use Rattle.refusal.proofs.GuardedLaws.{refused_list, accepted_as}
 use Rattle.util.proofs.AnswersLaws.{told}
 use Rattle.refusal.specs.Guarded.{fault_of}
-use borrow.Author.Rules.{rules}
 use Rattle.steps.proofs.entries.next_method.Goals as goal
 
 pub returns-in-Refused : goal.returns-in-Refused

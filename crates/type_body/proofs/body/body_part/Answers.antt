@@ -2,7 +2,6 @@
 use native.Mathlib.Omega.{arith}
 use mathlib.Core.Path.{◌∙◌}
 use Rattle.type_body.proofs.BodyLaws.{part_wraps, part_below}
-use borrow.Author.Rules.{rules}
 use Rattle.type_body.proofs.body.body_part.Goals as goal
 
 pub returns-then-address-size : goal.returns-then-address-size

@@ -1,6 +1,5 @@
 -- `type_body::body::class_in` meets its contract.
 use Rattle.type_body.proofs.BodyLaws.{class_at}
-use borrow.Author.Rules.{rules}
 use Rattle.type_body.proofs.body.class_in.Goals as goal
 
 pub returns : goal.returns

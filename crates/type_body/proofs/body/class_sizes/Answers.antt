@@ -1,6 +1,5 @@
 -- `type_body::body::class_sizes` meets its contract.
 use Rattle.type_body.proofs.BodyLaws.{resilient_at, fixed_at}
-use borrow.Author.Rules.{rules}
 use Rattle.type_body.proofs.body.class_sizes.Goals as goal
 
 pub returns-then-resilient : goal.returns-then-resilient

@@ -2,7 +2,6 @@
 use native.Mathlib.Omega.{arith}
 use mathlib.Core.Path.{refl}
 use Rattle.type_body.proofs.BodyLaws.{ends_below, no_body, body_at, body_kind, bodiless_kind}
-use borrow.Author.Rules.{rules}
 use Rattle.type_body.proofs.body.decode_body.Goals as goal
 
 pub returns-then-header-lt24 : goal.returns-then-header-lt24

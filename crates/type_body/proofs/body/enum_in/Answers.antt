@@ -1,7 +1,6 @@
 -- `type_body::body::enum_in` meets its contract.
 use mathlib.Core.Path.{refl}
 use Rattle.type_body.proofs.BodyLaws.{enum_at}
-use borrow.Author.Rules.{rules}
 use Rattle.type_body.proofs.body.enum_in.Goals as goal
 
 pub returns : goal.returns

@@ -1,6 +1,5 @@
 -- `type_body::body::struct_in` meets its contract.
 use Rattle.type_body.proofs.BodyLaws.{struct_at}
-use borrow.Author.Rules.{rules}
 use Rattle.type_body.proofs.body.struct_in.Goals as goal
 
 pub returns : goal.returns

@@ -1,7 +1,6 @@
 -- `type_body::body::superclass_name` meets its contract.
 use mathlib.Core.Path.{refl}
 use Rattle.type_body.proofs.BodyLaws.{superclass_of}
-use borrow.Author.Rules.{rules}
 use Rattle.type_body.proofs.body.superclass_name.Goals as goal
 
 pub returns-in-Class : goal.returns-in-Class

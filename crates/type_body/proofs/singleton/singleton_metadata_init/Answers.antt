@@ -3,7 +3,6 @@ use native.Mathlib.Omega.{arith}
 use Rattle.util.proofs.AnswersLaws.{told}
 use Rattle.segment.specs.VmAddress.{address_of}
 use Rattle.type_body.proofs.SingletonLaws.{no_init, no_cache, no_incomplete, no_completion, init_at}
-use borrow.Author.Rules.{rules}
 use Rattle.type_body.proofs.singleton.singleton_metadata_init.Goals as goal
 
 pub returns-then-bytes-lt12 : goal.returns-then-bytes-lt12

@@ -1,7 +1,6 @@
 -- `type_body::singleton::singleton_metadata_pointer` meets its contract.
 use native.Mathlib.Omega.{arith}
 use Rattle.type_body.proofs.SingletonLaws.{no_pointer, pointer_at_lem}
-use borrow.Author.Rules.{rules}
 use Rattle.type_body.proofs.singleton.singleton_metadata_pointer.Goals as goal
 
 pub returns-then-bytes-lt4 : goal.returns-then-bytes-lt4

@@ -1,7 +1,6 @@
 -- `type_body::singleton::target_in` meets its contract: each `return` is a case of `slotTarget`.
 use native.Mathlib.Omega.{arith}
 use Rattle.type_body.proofs.SingletonLaws.{zero_target, target_wraps, target_at}
-use borrow.Author.Rules.{rules}
 use Rattle.type_body.proofs.singleton.target_in.Goals as goal
 
 pub returns-then-u32_at-eq0 : goal.returns-then-u32_at-eq0

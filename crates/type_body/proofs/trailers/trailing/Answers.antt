@@ -1,6 +1,5 @@
 -- `type_body::trailers::trailing` meets its contract: each body is a case of `trailers`.
 use Rattle.type_body.proofs.ItemsLaws.{extra_is, trailers_of_lem}
-use borrow.Author.Rules.{rules}
 use Rattle.type_body.proofs.trailers.trailing.Goals as goal
 
 pub returns-in-Class : goal.returns-in-Class

@@ -1,5 +1,5 @@
 -- `type_lines::digits::digit_of` meets its contract.
-use Rattle.std.proofs.Common.{arith, rules}
+use Rattle.std.proofs.Common.{arith}
 use Rattle.type_lines.proofs.DigitsLaws.{digit_low, digit_high}
 use Rattle.type_lines.proofs.digits.digit_of.Goals as goal
 

@@ -1,5 +1,5 @@
-use Rattle.std.proofs.Common.{arith, rules}
-use Rattle.type_lines.proofs.DigitsLaws.{Made, made_none, made_more, made_all}
+use Rattle.std.proofs.Common.{arith}
+use Rattle.type_lines.proofs.DigitsLaws.{made_none, made_more, made_all}
 use Rattle.type_lines.proofs.digits.hex_digits.Goals as goal
 
 pub loop-left-init : goal.loop-left-init

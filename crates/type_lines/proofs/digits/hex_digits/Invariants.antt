@@ -1,6 +1,5 @@
 -- `type_lines::digits::hex_digits` meets its contract. The invariant: zeros, and after them the digits that are made already.
-use Rattle.std.proofs.Common.{arith, rules}
-use Rattle.type_lines.proofs.DigitsLaws.{Made, made_none, made_more, made_all}
+use Rattle.type_lines.proofs.DigitsLaws.{Made}
 use Rattle.type_lines.proofs.digits.hex_digits.Given as goal
 
 abbrev pub invariant-loop-left : goal.invariant-loop-left

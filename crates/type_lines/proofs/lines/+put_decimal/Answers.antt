@@ -1,4 +1,4 @@
-use Rattle.std.proofs.Common.{ℕ, ◌<◌, arith, rules}
+use Rattle.std.proofs.Common.{arith}
 use Rattle.type_lines.proofs.LinesLaws.{one_digit, more_digits, count_none, count_one, count_more}
 use Rattle.type_lines.proofs.lines.+put_decimal.Goals as goal
 

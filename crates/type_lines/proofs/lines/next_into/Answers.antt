@@ -2,7 +2,6 @@
 use Rattle.util.proofs.AnswersLaws.{told}
 use Rattle.typedescriptor.specs.Slots.{type_step_of}
 use Rattle.type_lines.proofs.LinesLaws.{step_done, step_row, step_end}
-use Rattle.std.proofs.Common.{rules}
 use Rattle.type_lines.proofs.lines.next_into.Goals as goal
 
 pub returns-then-ended : goal.returns-then-ended

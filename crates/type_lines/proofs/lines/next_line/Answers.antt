@@ -4,7 +4,6 @@ use Rattle.util.proofs.AnswersLaws.{told}
 use Rattle.refusal.specs.Guarded.{fault_of}
 use Rattle.refusal.specs.Refusal.{answered}
 use Rattle.type_lines.specs.Lines.{line_step}
-use Rattle.std.proofs.Common.{rules}
 use Rattle.type_lines.proofs.lines.next_line.Goals as goal
 
 pub returns-in-Refused : goal.returns-in-Refused

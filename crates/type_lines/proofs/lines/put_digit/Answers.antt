@@ -1,5 +1,5 @@
 -- `type_lines::lines::put_digit` meets its contract.
-use Rattle.std.proofs.Common.{arith, rules}
+use Rattle.std.proofs.Common.{arith}
 use Rattle.type_lines.proofs.LinesLaws.{put_one}
 use Rattle.type_lines.proofs.lines.put_digit.Goals as goal
 

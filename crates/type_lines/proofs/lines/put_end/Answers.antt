@@ -1,5 +1,5 @@
 -- `type_lines::lines::put_end` meets its contract.
-use Rattle.std.proofs.Common.{arith, rules}
+use Rattle.std.proofs.Common.{arith}
 use Rattle.util.proofs.BufferLaws.{put_fits}
 use Rattle.type_lines.proofs.DigitsLaws.{decimal_length}
 use Rattle.type_lines.proofs.LinesLaws.{end_put}

@@ -1,5 +1,5 @@
 -- `type_lines::lines::put_head` meets its contract: pieces one after the other.
-use Rattle.std.proofs.Common.{arith, rules}
+use Rattle.std.proofs.Common.{arith}
 use Rattle.type_lines.proofs.LinesLaws.{head_room, head_put}
 use Rattle.type_lines.proofs.lines.put_head.Goals as goal
 

@@ -1,5 +1,5 @@
 -- `type_lines::lines::put_kind` meets its contract.
-use Rattle.std.proofs.Common.{arith, rules}
+use Rattle.std.proofs.Common.{arith}
 use Rattle.type_lines.proofs.LinesLaws.{kind_class, kind_struct, kind_enum, kind_other, put_as}
 use Rattle.type_lines.proofs.lines.put_kind.Goals as goal
 

@@ -1,5 +1,5 @@
 -- `type_lines::lines::put_name` meets its contract: a part of the line is the name's buffer.
-use Rattle.std.proofs.Common.{◌≡◌, ℕ, ◌+◌, ◌-◌, arith, rules}
+use Rattle.std.proofs.Common.{◌≡◌, ℕ, ◌+◌, ◌-◌, arith}
 use native.Mathlib.Nat.{add-sub_cancel_left}
 use Rattle.typedescriptor.specs.Row.{row_of}
 use Rattle.util.proofs.AnswersLaws.{told}

@@ -1,5 +1,5 @@
 -- `type_lines::lines::put_refused` meets its contract.
-use Rattle.std.proofs.Common.{arith, rules}
+use Rattle.std.proofs.Common.{arith}
 use Rattle.type_lines.proofs.LinesLaws.{refused_put, refused_room}
 use Rattle.type_lines.proofs.lines.put_refused.Goals as goal
 

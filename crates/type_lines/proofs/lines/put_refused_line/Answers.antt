@@ -1,5 +1,5 @@
 -- `type_lines::lines::put_refused_line` meets its contract.
-use Rattle.std.proofs.Common.{arith, rules}
+use Rattle.std.proofs.Common.{arith}
 use Rattle.type_lines.proofs.LinesLaws.{refused_line_put}
 use Rattle.type_lines.proofs.lines.put_refused_line.Goals as goal
 

@@ -1,5 +1,5 @@
 -- `type_lines::lines::put_row` meets its contract.
-use Rattle.std.proofs.Common.{arith, rules}
+use Rattle.std.proofs.Common.{arith}
 use Rattle.type_lines.proofs.LinesLaws.{head_length, name_text_length, row_put}
 use Rattle.type_lines.proofs.lines.put_row.Goals as goal
 

@@ -1,5 +1,5 @@
 -- `typedescriptor::iter::slot_descriptor` meets its contract: each `return` is a case of `slotDescriptor`.
-use Rattle.std.proofs.Common.{◌*◌, sym, refl, ap, ◌∙◌, arith, rules}
+use Rattle.std.proofs.Common.{◌*◌, sym, refl, ap, ◌∙◌, arith}
 use Rattle.util.proofs.LittleEndianLaws.{unsigned_part, signed_part}
 use Rattle.util.specs.Pointer.{relative_pointer}
 use Rattle.typedescriptor.specs.RowLaws.{past_slots, zero_slot, slot_at}

@@ -1,5 +1,5 @@
 -- `typedescriptor::iter::slot_row` meets its contract.
-use Rattle.std.proofs.Common.{◌∙◌, rules}
+use Rattle.std.proofs.Common.{◌∙◌}
 use Rattle.util.proofs.AnswersLaws.{told}
 use Rattle.segment.specs.VmAddress.{address_of}
 use Rattle.typedescriptor.specs.RowLaws.{refers_nowhere, refers_to}

@@ -1,5 +1,5 @@
 -- `typedescriptor::iter::slot_row_moving` meets its contract: the row is the slot's, by a mapping that stays true.
-use Rattle.std.proofs.Common.{◌∙◌, rules}
+use Rattle.std.proofs.Common.{◌∙◌}
 use Rattle.util.proofs.AnswersLaws.{told}
 use Rattle.segment.specs.VmAddress.{address_of}
 use Rattle.segment.proofs.MappingLaws.{near_mapped, near_nowhere}

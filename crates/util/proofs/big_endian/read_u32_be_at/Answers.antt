@@ -1,5 +1,5 @@
 -- `util::big_endian::read_u32_be_at` meets its contract, by the law over the width at 4 bytes.
-use Rattle.std.proofs.Common.{ℕ, get_or, ap, add-zero, arith, rules}
+use Rattle.std.proofs.Common.{ℕ, get_or, ap, add-zero, arith}
 use Rattle.util.proofs.BigEndianLaws.{big_found, big_nothing}
 use Rattle.util.proofs.big_endian.read_u32_be_at.Goals as goal
 

@@ -1,5 +1,5 @@
 -- `util::big_endian::read_u64_be_at` meets its contract: two runs of four bytes are one of eight.
-use Rattle.std.proofs.Common.{arith, rules}
+use Rattle.std.proofs.Common.{arith}
 use Rattle.util.proofs.AnswersLaws.{told}
 use Rattle.util.specs.LittleEndian.{u32_value}
 use Rattle.util.proofs.BigEndianLaws.{big_within, big_join, big_nothing, big_beyond}

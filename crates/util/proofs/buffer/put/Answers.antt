@@ -1,5 +1,5 @@
 -- `util::buffer::put` meets its contract.
-use Rattle.std.proofs.Common.{arith, rules}
+use Rattle.std.proofs.Common.{arith}
 use Rattle.util.proofs.BufferLaws.{put_whole, fits_end, fits_into, past_end, past_into}
 use Rattle.util.proofs.buffer.put.Goals as goal
 

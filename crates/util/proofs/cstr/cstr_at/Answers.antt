@@ -1,5 +1,5 @@
 -- `util::cstr::cstr_at` meets its contract.
-use Rattle.std.proofs.Common.{ap, ◌∙◌, rules}
+use Rattle.std.proofs.Common.{ap, ◌∙◌}
 use Rattle.util.specs.Cstr.{text_part}
 use Rattle.util.proofs.cstr.cstr_at.Goals as goal
 

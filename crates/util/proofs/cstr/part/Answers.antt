@@ -1,5 +1,5 @@
 -- `util::cstr::part` meets its contract: at each `return` the tests say whether the part lies within.
-use Rattle.std.proofs.Common.{arith, rules}
+use Rattle.std.proofs.Common.{arith}
 use Rattle.util.specs.CstrLaws.{part_range, part_out}
 use Rattle.util.proofs.cstr.part.Goals as goal
 

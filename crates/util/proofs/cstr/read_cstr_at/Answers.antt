@@ -1,5 +1,5 @@
 -- `util::cstr::read_cstr_at` meets its contract: the text of the slice from the offset on.
-use Rattle.std.proofs.Common.{arith, rules}
+use Rattle.std.proofs.Common.{arith}
 use Rattle.utf8.specs.Text.{scanned}
 use Rattle.util.proofs.AnswersLaws.{told}
 use Rattle.util.specs.CstrLaws.{text_past, text_scanned}

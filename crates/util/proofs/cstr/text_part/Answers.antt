@@ -1,5 +1,5 @@
 -- `util::cstr::text_part` meets its contract.
-use Rattle.std.proofs.Common.{sym, ap, ◌∙◌, rules}
+use Rattle.std.proofs.Common.{sym, ap, ◌∙◌}
 use Rattle.util.specs.Cstr.{text_part, text_of}
 use Rattle.util.proofs.cstr.text_part.Goals as goal
 

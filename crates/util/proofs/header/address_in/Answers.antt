@@ -1,5 +1,5 @@
 -- `util::header::address_in` meets its contract.
-use Rattle.std.proofs.Common.{ap, ◌∙◌, to_z-of_z, w32, rules}
+use Rattle.std.proofs.Common.{ap, ◌∙◌, to_z-of_z, w32}
 use Rattle.util.specs.Pointer.{relative_address}
 use Rattle.util.proofs.header.address_in.Goals as goal
 

@@ -1,5 +1,5 @@
 -- `util::header::i32_at` meets its contract.
-use Rattle.std.proofs.Common.{◌∙◌, arith, to_z-of_z, w32, rules}
+use Rattle.std.proofs.Common.{◌∙◌, arith, to_z-of_z, w32}
 use Rattle.util.proofs.AnswersLaws.{told}
 use Rattle.util.specs.LittleEndian.{i32_value}
 use Rattle.util.proofs.LittleEndianLaws.{signed_in_lem}

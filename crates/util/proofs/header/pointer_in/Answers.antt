@@ -1,5 +1,5 @@
 -- `util::header::pointer_in` meets its contract.
-use Rattle.std.proofs.Common.{ap, ◌∙◌, to_z-of_z, w32, rules}
+use Rattle.std.proofs.Common.{ap, ◌∙◌, to_z-of_z, w32}
 use Rattle.util.specs.Pointer.{relative_pointer}
 use Rattle.util.proofs.header.pointer_in.Goals as goal
 

@@ -2,7 +2,6 @@
 use Rattle.util.proofs.AnswersLaws.{told}
 use Rattle.util.specs.LittleEndian.{u16_value}
 use Rattle.util.proofs.LittleEndianLaws.{unsigned_in_lem}
-use Rattle.std.proofs.Common.{rules}
 use Rattle.util.proofs.header.u16_at.Goals as goal
 
 pub returns-in-Value : goal.returns-in-Value

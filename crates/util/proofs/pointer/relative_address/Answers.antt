@@ -1,5 +1,5 @@
 -- `util::pointer::relative_address` meets its contract.
-use Rattle.std.proofs.Common.{ap, ◌∙◌, to_z-of_z, rules}
+use Rattle.std.proofs.Common.{ap, ◌∙◌, to_z-of_z}
 use Rattle.util.specs.Pointer.{relative_pointer}
 use Rattle.util.proofs.PointerLaws.{zero_offset, other_offset, null_address, address_at}
 use Rattle.util.proofs.pointer.relative_address.Goals as goal

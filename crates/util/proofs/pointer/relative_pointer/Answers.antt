@@ -1,5 +1,5 @@
 -- `util::pointer::relative_pointer` meets its contract: both ways round are the sum modulo 2^64.
-use Rattle.std.proofs.Common.{arith, rules}
+use Rattle.std.proofs.Common.{arith}
 use Rattle.util.proofs.Signed.{forward_cast, forward, widened, negated_fits, back_cast, back}
 use Rattle.util.proofs.pointer.relative_pointer.Goals as goal
 

@@ -1,5 +1,5 @@
 -- `util::read::read_i32_le_at` meets its contract: the unsigned number's bits, read as signed.
-use Rattle.std.proofs.Common.{◌∙◌, to_z-of_z, w32, rules}
+use Rattle.std.proofs.Common.{◌∙◌, to_z-of_z, w32}
 use Rattle.util.proofs.AnswersLaws.{told}
 use Rattle.util.specs.LittleEndian.{u32_value}
 use Rattle.util.proofs.LittleEndianLaws.{signed_found, signed_nothing}

@@ -1,5 +1,5 @@
 -- `util::read::read_u16_le_at` meets its contract, by the law over the width at 2 bytes.
-use Rattle.std.proofs.Common.{ℕ, get_or, ap, add-zero, arith, rules}
+use Rattle.std.proofs.Common.{ℕ, get_or, ap, add-zero, arith}
 use Rattle.util.proofs.LittleEndianLaws.{little_found, little_nothing}
 use Rattle.util.proofs.read.read_u16_le_at.Goals as goal
 

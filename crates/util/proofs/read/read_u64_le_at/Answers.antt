@@ -1,5 +1,5 @@
 -- `util::read::read_u64_le_at` meets its contract: two runs of four bytes are one of eight.
-use Rattle.std.proofs.Common.{arith, rules}
+use Rattle.std.proofs.Common.{arith}
 use Rattle.util.proofs.AnswersLaws.{told}
 use Rattle.util.specs.LittleEndian.{u32_value}
 use Rattle.util.proofs.LittleEndianLaws.{little_within, little_join, little_nothing, little_beyond}

@@ -1,5 +1,5 @@
 -- `util::read::signed` meets its contract.
-use Rattle.std.proofs.Common.{arith, rules}
+use Rattle.std.proofs.Common.{arith}
 use Rattle.util.proofs.Signed.{minus_fits, minus_cast, twos_low, twos_high}
 use Rattle.util.proofs.read.signed.Goals as goal
 

@@ -1,5 +1,5 @@
 -- `vtable::iter::table_entry` meets its contract.
-use Rattle.std.proofs.Common.{◌+◌, ◌-◌, ◌^◌, ◌<◌, [], ◌∷◌, arith, rules}
+use Rattle.std.proofs.Common.{◌+◌, ◌-◌, ◌^◌, ◌<◌, [], ◌∷◌, arith}
 use Rattle.util.proofs.AnswersLaws.{case}
 use Rattle.vtable.specs.declared.entry.EntryKind.{EntryKind}
 use Rattle.vtable.specs.Entries.{kind_layout, entry_size}

@@ -6,7 +6,6 @@ use Rattle.type_lines.proofs.LinesLaws.{line_refused, line_accepted}
 use Rattle.bundle_lines.proofs.PrintedLaws.{print_as, print_refusal, print_done}
 use Rattle.util.proofs.AnswersLaws.{told}
 use Rattle.refusal.specs.Guarded.{fault_of}
-use borrow.Author.Rules.{rules}
 use Rattle.bundle_lines.proofs.lines.BundleLineIter.next_line.Goals as goal
 
 pub returns-in-Refused : goal.returns-in-Refused

@@ -2,7 +2,6 @@
 use mathlib.Core.Path.{sym, ap}
 use Rattle.bundle_lines.specs.Printed.{pending_of}
 use Rattle.bundle_lines.proofs.PrintedLaws.{numbers_as}
-use borrow.Author.Rules.{rules}
 use Rattle.bundle_lines.proofs.lines.BundleLineIter.segments.Goals as goal
 
 pub returns-in-Rows : goal.returns-in-Rows

@@ -1,11 +1,8 @@
 use native.Mathlib.Omega.{arith}
-use Prim.Native.Nat.{◌-◌}
-use mathlib.Core.Path.{◌≡◌, refl, sym, ◌∙◌}
+use mathlib.Core.Path.{refl, sym, ◌∙◌}
 use Rattle.util.proofs.AnswersLaws.{told}
-use Rattle.classtrailers.specs.Blocks.{next_block}
-use Rattle.classtrailers.specs.Calls.{trailing_of, kind_read_of}
+use Rattle.classtrailers.specs.Calls.{kind_read_of}
 use Rattle.classtrailers.proofs.CallsLaws.{is_there_lem, is_absent, next_there, next_absent, walk_over}
-use borrow.Author.Rules.{rules}
 use Rattle.classtrailers.proofs.iter.BlockIter.next.Goals as goal
 
 pub loop-row-init : goal.loop-row-init

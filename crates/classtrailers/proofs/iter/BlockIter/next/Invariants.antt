@@ -1,12 +1,8 @@
 -- `classtrailers::iter::BlockIter::next` meets its contract. The invariant: the next block from `row` on is the answer.
-use native.Mathlib.Omega.{arith}
 use Prim.Native.Nat.{◌-◌}
-use mathlib.Core.Path.{◌≡◌, refl, sym, ◌∙◌}
-use Rattle.util.proofs.AnswersLaws.{told}
+use mathlib.Core.Path.{◌≡◌}
 use Rattle.classtrailers.specs.Blocks.{next_block}
-use Rattle.classtrailers.specs.Calls.{trailing_of, kind_read_of}
-use Rattle.classtrailers.proofs.CallsLaws.{is_there_lem, is_absent, next_there, next_absent, walk_over}
-use borrow.Author.Rules.{rules}
+use Rattle.classtrailers.specs.Calls.{trailing_of}
 use Rattle.classtrailers.proofs.iter.BlockIter.next.Given as goal
 
 abbrev pub invariant-loop-row : goal.invariant-loop-row

@@ -1,5 +1,5 @@
 -- `field::iter::FieldDescriptor::records` meets its contract.
-use Rattle.std.proofs.Common.{◌∙◌, ⊎_elim, arith, rules}
+use Rattle.std.proofs.Common.{◌∙◌, arith}
 use Rattle.field.proofs.RecordsLaws.{base_wraps, base_below, records_of_lem}
 use Rattle.field.proofs.iter.FieldDescriptor.records.Goals as goal
 use Rattle.field.proofs.iter.FieldDescriptor.records.Goals.{then-self-gt18446744073709551599, else-self-gt18446744073709551599}

@@ -2,7 +2,6 @@
 use Rattle.util.proofs.AnswersLaws.{case}
 use Rattle.segment.specs.Mapping.{Located}
 use Rattle.segment.proofs.MappingLaws.{empty_mapped}
-use Rattle.std.proofs.Common.{rules}
 use Rattle.field.proofs.record.FieldRecordIter.locate.Goals as goal
 
 pub returns-in-Mapping : goal.returns-in-Mapping

@@ -1,5 +1,5 @@
 -- `field::record::FieldRecordIter::next` meets its contract: each `return` is a case of `recordStep`.
-use Rattle.std.proofs.Common.{arith, rules}
+use Rattle.std.proofs.Common.{arith}
 use Rattle.vtable.proofs.EntriesLaws.{slots_below, no_entry, an_entry}
 use Rattle.field.specs.Records.{record_layout}
 use Rattle.field.proofs.RecordsLaws.{record_end, record_gives}

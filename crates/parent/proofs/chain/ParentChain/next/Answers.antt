@@ -3,7 +3,6 @@ use native.Mathlib.Omega.{arith}
 use Rattle.util.proofs.AnswersLaws.{told}
 use Rattle.parent.specs.Context.{context_of}
 use Rattle.parent.proofs.ContextLaws.{chain_full, chain_ends, chain_goes_on}
-use borrow.Author.Rules.{rules}
 use Rattle.parent.proofs.chain.ParentChain.next.Goals as goal
 
 pub returns-then-given-ge-CONTEXTS : goal.returns-then-given-ge-CONTEXTS

@@ -1,10 +1,6 @@
 -- `typedescriptor::iter::TypeIter::next` meets its contract. The invariant: the next row from `slot` on is the answer.
-use Rattle.std.proofs.Common.{◌≡◌, ◌-◌, sym, refl, ◌∙◌, arith, rules}
-use Rattle.util.proofs.AnswersLaws.{told}
-use Rattle.segment.proofs.MappingLaws.{empty_mapped}
-use Rattle.typedescriptor.specs.Row.{descriptor_of}
+use Rattle.std.proofs.Common.{◌≡◌, ◌-◌}
 use Rattle.typedescriptor.specs.Slots.{slots, next_row}
-use Rattle.typedescriptor.specs.RowLaws.{row_next, slot_passed, rows_end}
 use Rattle.typedescriptor.proofs.iter.TypeIter.next.Given as goal
 
 abbrev pub invariant-loop-slot : goal.invariant-loop-slot

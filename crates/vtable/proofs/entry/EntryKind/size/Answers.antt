@@ -1,5 +1,5 @@
 -- `vtable::entry::EntryKind::size` meets its contract.
-use Rattle.std.proofs.Common.{sym, ap, rules}
+use Rattle.std.proofs.Common.{sym, ap}
 use Rattle.vtable.specs.declared.entry.EntryKind.{EntryKind}
 use Rattle.vtable.specs.Entries.{kind_layout, entry_size}
 use Rattle.vtable.proofs.entry.EntryKind.size.Goals as goal

@@ -1,5 +1,5 @@
 -- `vtable::iter::EntryIter::next` meets its contract: each `return` is a case of `entryStep`.
-use Rattle.std.proofs.Common.{arith, rules}
+use Rattle.std.proofs.Common.{arith}
 use Rattle.vtable.proofs.EntriesLaws.{kind_end, kind_unreadable, kind_below, kind_entry}
 use Rattle.vtable.proofs.iter.EntryIter.next.Goals as goal
 

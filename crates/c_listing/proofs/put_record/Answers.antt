@@ -1,0 +1,52 @@
+-- `c_listing::put_record` meets its contract: the name is written after the room for its head, and then the head.
+use native.Mathlib.Omega.{arith}
+use Prim.Native.Nat.{◌+◌, ◌-◌}
+use lib.ListN.{length}
+use mathlib.Core.Path.{sym, ◌∙◌}
+use Rattle.util.proofs.AnswersLaws.{told}
+use Rattle.util.proofs.BufferLaws.{past_end, past_into}
+use Rattle.typedescriptor.specs.Row.{row_of}
+use Rattle.qualified_name.specs.Name.{length_of}
+use Rattle.qualified_name.proofs.NameLaws.{name_length}
+use Rattle.c_listing.proofs.ListingLaws.{head_long, row_long, written_bytes, refused_bytes, kept_part, part_long, record_put, head_alone}
+use Rattle.c_listing.proofs.put_record.Goals as goal
+
+pub returns-then-buffer-at : goal.returns-then-buffer-at
+returns-then-buffer-at c = (record { value = past_end _ _ _ (omega arith); buffer_after = past_into _ _ _ (omega arith) })
+
+pub returns-then-buffer-at-lt-HEAD : goal.returns-then-buffer-at-lt-HEAD
+returns-then-buffer-at-lt-HEAD c =
+    let a = c.args in
+    let l = row_long a.image.now a.segments.now a.slot (row_of a.image.now a.row) in
+    (record { value = past_end _ _ _ (omega (arith, l)); buffer_after = past_into _ _ _ (omega (arith, l)) })
+
+pub overflow_add-result : goal.overflow_add-result
+overflow_add-result c =
+    let a = c.args in
+    let f = told length_of c.joined.ensures.result_value c.in-Length.is in
+    let k = name_length _ _ _ _ _ f in
+    let w = record_put a.buffer.now _ _ _ _ _ a.at _ _ _ c.joined.ensures.name_after k.0 k.1.0 (head_long _ _ _ _) c.put_head.ensures (omega (arith, k.1.1, part_long (a.at + 32) a.buffer.now)) (written_bytes _ _ a.slot _ _ _ f) in
+    omega (arith, w.0)
+
+pub returns-then-number-ne-DEEP_CONTEXTS : goal.returns-then-number-ne-DEEP_CONTEXTS
+returns-then-number-ne-DEEP_CONTEXTS c =
+    let a = c.args in
+    let f = told length_of c.joined.ensures.result_value c.in-Refused.is in
+    let l = (refused_bytes _ _ a.slot _ _ _ f).1 (λ z. c.if-number-ne-DEEP_CONTEXTS.true (c.number.ensures ∙ z)) in
+    let p = part_long (a.at + 32) a.buffer.now in
+    (past_end _ _ _ (omega (arith, l, p)), kept_part (a.at + 32) (length a.buffer.now - (a.at + 32)) a.buffer.now _ _ _ _ _ _ c.joined.ensures.name_after f ∙ past_into _ _ _ (omega (arith, l, p)))
+
+pub returns-in-Length : goal.returns-in-Length
+returns-in-Length c =
+    let a = c.args in
+    let f = told length_of c.joined.ensures.result_value c.in-Length.is in
+    let k = name_length _ _ _ _ _ f in
+    let w = record_put a.buffer.now _ _ _ _ _ a.at _ _ _ c.joined.ensures.name_after k.0 k.1.0 (head_long _ _ _ _) c.put_head.ensures (omega (arith, k.1.1, part_long (a.at + 32) a.buffer.now)) (written_bytes _ _ a.slot _ _ _ f) in
+    w.1
+
+pub returns-else-number-ne-DEEP_CONTEXTS : goal.returns-else-number-ne-DEEP_CONTEXTS
+returns-else-number-ne-DEEP_CONTEXTS c =
+    let a = c.args in
+    let f = told length_of c.joined.ensures.result_value c.in-Refused.is in
+    let k = kept_part (a.at + 32) (length a.buffer.now - (a.at + 32)) a.buffer.now _ _ _ _ _ _ c.joined.ensures.name_after f in
+    head_alone _ _ _ _ _ _ _ k ((refused_bytes _ _ a.slot _ _ _ f).0 (sym c.number.ensures ∙ c.if-number-ne-DEEP_CONTEXTS.false)) (head_long _ _ _ _) c.put_head-in-Refused.ensures (omega arith)
