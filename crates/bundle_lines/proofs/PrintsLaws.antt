@@ -18,7 +18,7 @@ use Rattle.bundle_parts.proofs.AcceptedLaws.{accepted_is}
 use Rattle.bundle_parts.proofs.LayoutLaws.{Fit, opened_fit}
 use Rattle.bundle.specs.declared.open.Layout.{Layout}
 use Rattle.typedescriptor.specs.Slots.{slots, Found, next_row, rows_from}
-use Rattle.typedescriptor.specs.SlotsLaws.{row_left, none_left, rows_start}
+use Rattle.typedescriptor.proofs.SlotsLaws.{row_left, none_left, rows_start}
 use Rattle.typedescriptor.specs.Slots as Slots
 use Rattle.type_lines.specs.Lines.{refused_line, row_line, end_line, lines, Line, line_at, line_step}
 use Rattle.bundle_lines.specs.Printed.{printed, lines_most, Pending, rows, refusal, finished, start_of, with_layout, print_step, numbers_for, Taken, taken}

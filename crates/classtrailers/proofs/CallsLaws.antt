@@ -14,7 +14,7 @@ use Rattle.std.proofs.lemmas.Bool.{lt-leb}
 use Rattle.runtime.specs.Reads.{done, run, and_then}
 use Rattle.runtime.proofs.ReadsLaws.{run_bind}
 use Rattle.runtime.specs.Bytes.{bytes_read}
-use Rattle.runtime.specs.CallsLaws.{run_bytes, run_no_bytes}
+use Rattle.runtime.proofs.CallsLaws.{run_bytes, run_no_bytes}
 use Rattle.classtrailers.specs.Blocks.{Trailing, set_block, BlockRow, plain, block_table, set_bits, row_at, below, Ended, ended, block_at, record_at, somewhere, end_at, passed, reached, block_in, block, row_number, kind_numbered, kind_there, after, Step, step_at, step_in, next_block}
 use Rattle.classtrailers.specs.declared.block.Block.{Block}
 use Rattle.classtrailers.specs.declared.block.BlockBody.{BlockBody}

@@ -16,7 +16,7 @@ use Rattle.runtime.proofs.ReadsLaws.{run_bind, path_bind, cut}
 use Rattle.runtime.proofs.PathLaws.{bytes_clear}
 use Rattle.typedescriptor.specs.Row.{TypeRow}
 use Rattle.typedescriptor.specs.Slots.{Found, rows}
-use Rattle.typedescriptor.specs.SlotsLaws.{in_rows}
+use Rattle.typedescriptor.proofs.SlotsLaws.{in_rows}
 use Rattle.parent.specs.Context.{Header, header, name, Context, with_name, context_name}
 use Rattle.parent.specs.Chain.{contexts_most, header_at, chain}
 use Rattle.parent.proofs.ChainLaws.{chain_by, next_by}

@@ -22,10 +22,11 @@ use Rattle.refusal.specs.Refusal.{Guarded, answered, refused, mapped, answer_of}
 use Rattle.refusal.specs.Guarded.{fault, guarded}
 use Rattle.refusal.proofs.GuardedLaws.{refused_list, accepted_list}
 use Rattle.runtime.specs.Reads.{bytes_place, run}
-use Rattle.runtime.specs.CallsLaws.{bytes_at_lem, bytes_past, bytes_nowhere, bytes_within}
+use Rattle.runtime.proofs.CallsLaws.{bytes_at_lem, bytes_past, bytes_nowhere, bytes_within}
 use Rattle.vtable.specs.Entries.{Word, Layout, Entry, entry_size, entry_of, entry_address, entry_at, Step, entry_step, word_at, words_from}
 use Rattle.vtable.proofs.EntriesLaws.{step_end, step_gives}
-use Rattle.vtable.proofs.ListLaws.{iter_at, listed_entries}
+use Rattle.vtable.specs.Listed.{listed_entries}
+use Rattle.vtable.proofs.ListLaws.{iter_at}
 use Rattle.vtable.specs.declared.iter.EntryIter.{EntryIter}
 use Rattle.entry_tables.specs.declared.list.Words.{Words}
 use Rattle.entry_tables.specs.declared.list.Listed.{Listed}

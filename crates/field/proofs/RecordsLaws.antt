@@ -14,7 +14,8 @@ use Rattle.runtime.proofs.ReadsLaws.{run_bind}
 use Rattle.vtable.specs.declared.iter.EntryIter.{EntryIter}
 use Rattle.vtable.specs.Entries.{Entry, entry_at, start, moved, Step, entry_step}
 use Rattle.vtable.proofs.EntriesLaws.{step_end, step_gives, step_mapped}
-use Rattle.vtable.proofs.ListLaws.{iter_at, Readable, stepped_entry, step_after as entriesAfter, listed_entries as entriesListed, entries_listed_all as entries-all}
+use Rattle.vtable.specs.Listed.{listed_entries as entriesListed}
+use Rattle.vtable.proofs.ListLaws.{iter_at, Readable, stepped_entry, step_after as entriesAfter, entries_listed_all as entries-all}
 use Rattle.field.specs.declared.iter.FieldDescriptor.{FieldDescriptor}
 use Rattle.field.specs.declared.record.FieldRecordIter.{FieldRecordIter}
 use Rattle.field.specs.Fields.{descriptor_at}

@@ -16,12 +16,13 @@ use Rattle.steps.specs.Blocks.{kind_from}
 use Rattle.segment.specs.Mapping.{with_mapping, TrueMapping}
 use Rattle.segment.specs.declared.segment.Mapping.{Mapping}
 use Rattle.runtime.specs.Reads.{run}
-use Rattle.runtime.specs.CallsLaws.{run_mapped}
+use Rattle.runtime.proofs.CallsLaws.{run_mapped}
 use Rattle.classtrailers.specs.Blocks as blocks
 use Rattle.classtrailers.specs.declared.block.BlockKind.{BlockKind}
 use Rattle.typedescriptor.specs.Row.{TypeRow}
 use Rattle.typedescriptor.specs.Slots.{slots, Found}
-use Rattle.typedescriptor.specs.SlotsLaws.{stepped_rows, stepped_rows_take}
+use Rattle.typedescriptor.specs.Steps.{stepped_rows}
+use Rattle.typedescriptor.proofs.SlotsLaws.{stepped_rows_take}
 use Rattle.typedescriptor.specs.Given.{given_in}
 use Rattle.typedescriptor.proofs.GivenLaws.{row_fits, row_full, Done, records_of}
 use Rattle.type_body.specs.Body.{Body, of_class, of_struct, of_enum, fixed, resilient, body, body_of, class_of, sizes_of}

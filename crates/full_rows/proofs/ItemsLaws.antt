@@ -13,7 +13,7 @@ use Rattle.type_body.specs.Body.{Body, body}
 use Rattle.type_body.specs.Items.{trailers}
 use Rattle.type_body.proofs.PathLaws.{blocks_start_lem}
 use Rattle.vtable.specs.Entries.{method, start}
-use Rattle.vtable.proofs.ListLaws.{listed_entries}
+use Rattle.vtable.specs.Listed.{listed_entries}
 use Rattle.items.specs.Keys.{Sections, EntryKind, Key, Answer}
 use Rattle.items.specs.Items.{item}
 use Rattle.items.proofs.ListedLaws as items

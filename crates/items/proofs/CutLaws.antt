@@ -19,11 +19,7 @@ use Rattle.items.proofs.ProgramLaws.{on_item}
 use Rattle.items.proofs.PremiseLaws.{row_clear}
 use Rattle.items.proofs.TextsLaws.{TextClaim, cut_beside}
 use Rattle.items.proofs.OffsetsLaws.{offsets_told, cut_offsets}
-
--- the claim: the image's first `c` bytes give the whole image's answer if every range of the item's path ends at or before `c`, else none
-abbrev pub Claim : List ℕ → List ℕ → Sections → ℕ → Key → Type 0
-Claim image segments s c k =
-    run (take c image) segments (item s k) ≡ cond (every (ends_by c) (path image segments (item s k))) (run image segments (item s k)) none
+use Rattle.items.specs.Claim.{Claim}
 
 -- ---- the theorem
 

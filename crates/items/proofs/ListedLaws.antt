@@ -22,8 +22,9 @@ use Rattle.classtrailers.specs.declared.block.Block.{Block}
 use Rattle.classtrailers.specs.declared.block.BlockKind.{BlockKind}
 use Rattle.typedescriptor.specs.Row.{TypeRow}
 use Rattle.typedescriptor.specs.Slots.{slots, Found, found, rows_from, rows}
-use Rattle.typedescriptor.specs.RowLaws.{past_slots, refers_nowhere}
-use Rattle.typedescriptor.specs.SlotsLaws.{stepped_rows, stepped_rows_lem}
+use Rattle.typedescriptor.proofs.RowLaws.{past_slots, refers_nowhere}
+use Rattle.typedescriptor.specs.Steps.{stepped_rows}
+use Rattle.typedescriptor.proofs.SlotsLaws.{stepped_rows_lem}
 use Rattle.type_body.specs.Body.{Body, body, trailing, trailing_start}
 use Rattle.type_body.specs.Singleton.{needing, singleton_init, singleton_pointer}
 use Rattle.type_body.specs.Items.{slot_block, slot_pointer, pointer_of_block}
@@ -33,7 +34,8 @@ use Rattle.field_offsets.specs.Offsets.{field_offsets, Offsets, offsets_place, s
 use Rattle.field_offsets.proofs.OffsetsLaws as Vector
 use Rattle.field_offsets.proofs.OffsetsLaws.{offset_list}
 use Rattle.vtable.specs.Entries.{Layout, method, override, default_override, prespecialization, Entry, entry, start}
-use Rattle.vtable.proofs.ListLaws.{listed_entries, entries_listed_all}
+use Rattle.vtable.specs.Listed.{listed_entries}
+use Rattle.vtable.proofs.ListLaws.{entries_listed_all}
 use Rattle.field.specs.declared.iter.FieldDescriptor.{FieldDescriptor}
 use Rattle.field.specs.Fields.{descriptor_at}
 use Rattle.field.proofs.FieldsLaws.{listed_descriptors, descriptors_listed_all as descriptors-all}

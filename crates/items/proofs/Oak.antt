@@ -23,7 +23,7 @@ use Rattle.parent.specs.Context.{header_in, header}
 use Rattle.parent.specs.Chain.{header_at}
 use Rattle.items.specs.Keys.{Sections, EntryKind, Key, Answer}
 use Rattle.items.specs.Items.{map_reads, entry_of_slot, context_of_slot, item}
-use Rattle.items.proofs.CutLaws.{Claim}
+use Rattle.items.specs.Claim.{Claim}
 use Rattle.items.proofs.Worked.{Table, small_u32, laid, one_slot, bytes_to, row_reads, read_by, told_by, cut_to}
 
 -- 113 bytes, each line from the offset that it names

@@ -13,7 +13,7 @@ use Rattle.util.specs.Cstr.{Place, part_of}
 use Rattle.runtime.specs.Reads.{Reads, done, and_then, text_place, run, Range, bytes_range, also, path, bind, every, Clear, ends_by}
 use Rattle.runtime.proofs.ReadsLaws.{run_bind, path_bind, cut}
 use Rattle.runtime.proofs.PathLaws.{bytes_clear, path_text_zero}
-use Rattle.runtime.specs.CallsLaws.{run_text, run_no_text}
+use Rattle.runtime.proofs.CallsLaws.{run_text, run_no_text}
 use Rattle.runtime.specs.FieldName.{NamePlace, in_image, in_strings, section_text, or_else, field_name}
 use Rattle.type_body.specs.Body.{Body, of_class, of_struct, of_enum, superclass_name}
 use Rattle.field.specs.declared.record.FieldRecord.{FieldRecord}

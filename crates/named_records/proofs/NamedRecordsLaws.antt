@@ -10,7 +10,7 @@ use Rattle.util.specs.declared.cstr.Text.{Text}
 use Rattle.segment.specs.Mapping.{with_mapping, TrueMapping}
 use Rattle.segment.specs.declared.segment.Mapping.{Mapping}
 use Rattle.runtime.specs.Reads.{text_place, run}
-use Rattle.runtime.specs.CallsLaws.{text_mapped, name_mapped}
+use Rattle.runtime.proofs.CallsLaws.{text_mapped, name_mapped}
 use Rattle.runtime.specs.FieldName.{NamePlace, in_image, in_strings, field_name, field_name_of}
 use Rattle.runtime.specs.PlaceNumbers.{text_numbers, field_numbers}
 use Rattle.runtime.specs.declared.reflstr.FieldName.{FieldName}

@@ -15,7 +15,7 @@ use Rattle.runtime.specs.Reads.{within, bytes_place, text_offset, text_place, ru
 use Rattle.runtime.specs.FieldName.{NamePlace, in_image, in_strings, section_text, field_name}
 use Rattle.runtime.specs.PlaceNumbers.{text_numbers, field_numbers}
 use Rattle.vtable.specs.Entries.{Layout, Entry, entry_at, entry_step}
-use Rattle.vtable.proofs.ListLaws.{listed_entries}
+use Rattle.vtable.specs.Listed.{listed_entries}
 use Rattle.field.specs.declared.record.FieldRecordIter.{FieldRecordIter}
 use Rattle.field.specs.Records.{record_layout, entries_of}
 use Rattle.entry_tables.specs.Tables.{entry_numbers, WholeTable, counts, table_by, table_from}

@@ -12,7 +12,7 @@ use Rattle.runtime.specs.Reads.{done, bytes, run, text_place}
 use Rattle.runtime.specs.Bytes.{bytes_read}
 use Rattle.segment.specs.Mapping.{with_mapping, TrueMapping}
 use Rattle.segment.specs.declared.segment.Mapping.{Mapping}
-use Rattle.runtime.specs.CallsLaws.{text_within, run_bytes, run_no_bytes, run_text, run_no_text, run_mapped}
+use Rattle.runtime.proofs.CallsLaws.{text_within, run_bytes, run_no_bytes, run_text, run_no_text, run_mapped}
 use Rattle.context.specs.Context.{context_kind, has_name}
 use Rattle.parent.specs.Context.{Name, Header, header_in, header, slot_name, name_at, name, context_name, Context, with_name, context_read, name_read, Inside}
 use Rattle.parent.specs.Chain.{chain_step}

@@ -14,7 +14,7 @@ use Rattle.util.specs.Buffer.{Put, overwritten}
 use Rattle.util.proofs.BufferLaws.{put_then}
 use Rattle.segment.specs.Mapping.{with_mapping, TrueMapping}
 use Rattle.segment.specs.declared.segment.Mapping.{Mapping}
-use Rattle.runtime.specs.CallsLaws.{run_mapped}
+use Rattle.runtime.proofs.CallsLaws.{run_mapped}
 use Rattle.parent.specs.Context.{Context, context_read}
 use Rattle.parent.proofs.ContextLaws.{context_mapped}
 use Rattle.parent.specs.Chain.{contexts_most, header_at, chain}

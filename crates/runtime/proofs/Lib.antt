@@ -1,2 +1,3 @@
+pub mod CallsLaws
 pub mod PathLaws
 pub mod ReadsLaws

@@ -1,5 +1,4 @@
 pub mod Bytes
-pub mod CallsLaws
 pub mod FieldName
-pub mod Reads
 pub mod PlaceNumbers
+pub mod Reads

@@ -9,7 +9,7 @@ use Rattle.refusal.specs.Refusal.{Guarded, answered, refused}
 use Rattle.refusal.specs.Guarded.{fault, guarded}
 use Rattle.refusal.proofs.GuardedLaws.{answered_is, never_refused, refused_list}
 use Rattle.typedescriptor.specs.Slots.{Found, next_row}
-use Rattle.typedescriptor.specs.SlotsLaws.{stepped_rows}
+use Rattle.typedescriptor.specs.Steps.{stepped_rows}
 use Rattle.field.specs.Fields.{Step, field_step}
 use Rattle.field.specs.declared.iter.FieldDescriptor.{FieldDescriptor}
 use Rattle.test_replay_full.specs.Shown.{rows_shown, walk_end}

@@ -2,7 +2,7 @@
 use Rattle.std.specs.Prelude.{ℕ, zero, suc, List, length}
 use Rattle.std.proofs.Math.Option.{some, none}
 use Rattle.refusal.specs.Guarded.{fault}
-use Rattle.typedescriptor.specs.SlotsLaws.{stepped_rows}
+use Rattle.typedescriptor.specs.Steps.{stepped_rows}
 use Rattle.field.specs.Fields.{field_step}
 
 -- how many rows: those of at most 4,096 steps, and none if the segments are refused

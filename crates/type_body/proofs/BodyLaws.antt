@@ -10,7 +10,7 @@ use Rattle.util.specs.Pointer.{relative_address}
 use Rattle.util.specs.Cstr.{Place}
 use Rattle.runtime.specs.Reads.{Reads, done, nothing, run}
 use Rattle.runtime.specs.Bytes.{bytes_read}
-use Rattle.runtime.specs.CallsLaws.{run_bytes, run_no_bytes}
+use Rattle.runtime.proofs.CallsLaws.{run_bytes, run_no_bytes}
 use Rattle.context.specs.Context.{context_kind, kind_specific_flags}
 use Rattle.context.specs.TypeContext.{class_has_resilient_superclass}
 use Rattle.context.specs.declared.descriptor.ContextDescriptorKind.{ContextDescriptorKind}

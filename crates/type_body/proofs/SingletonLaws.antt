@@ -8,7 +8,7 @@ use Rattle.util.specs.LittleEndian.{unsigned_in, signed_in}
 use Rattle.util.specs.Pointer.{relative_pointer, relative_address}
 use Rattle.runtime.specs.Reads.{done, run}
 use Rattle.runtime.specs.Bytes.{bytes_read}
-use Rattle.runtime.specs.CallsLaws.{run_bytes, run_no_bytes}
+use Rattle.runtime.proofs.CallsLaws.{run_bytes, run_no_bytes}
 use Rattle.type_body.specs.Singleton.{initialization, slot_target, targets, singleton_init, singleton_pointer}
 
 -- ---- an offset

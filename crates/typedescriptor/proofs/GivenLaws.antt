@@ -16,7 +16,7 @@ use Rattle.segment.specs.declared.segment.Mapping.{Mapping}
 use Rattle.runtime.specs.Reads.{run}
 use Rattle.typedescriptor.specs.Row.{TypeRow, row_of, descriptor_of}
 use Rattle.typedescriptor.specs.Slots.{slots, slot_row, Found, found, rows_from}
-use Rattle.typedescriptor.specs.SlotsLaws.{slot_left, slot_without, rows_out}
+use Rattle.typedescriptor.proofs.SlotsLaws.{slot_left, slot_without, rows_out}
 use Rattle.typedescriptor.specs.Moving.{RowMoved}
 use Rattle.typedescriptor.specs.Given.{RowRecord, RowsGiven, stops_at, record_then, given_in, rows_given}
 use Rattle.typedescriptor.specs.declared.descriptor.Row.{Row}

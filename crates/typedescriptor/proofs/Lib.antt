@@ -1,2 +1,4 @@
 pub mod GivenLaws
 pub mod PathLaws
+pub mod RowLaws
+pub mod SlotsLaws

@@ -15,7 +15,7 @@ use Rattle.segment.specs.Mapping.{with_mapping, TrueMapping}
 use Rattle.segment.specs.declared.segment.Mapping.{Mapping}
 use Rattle.runtime.specs.Reads.{Reads, bytes_place, run, done}
 use Rattle.runtime.specs.Bytes.{bytes_from, bytes_read}
-use Rattle.runtime.specs.CallsLaws.{bytes_within, run_bytes, run_no_bytes, run_mapped}
+use Rattle.runtime.proofs.CallsLaws.{bytes_within, run_bytes, run_no_bytes, run_mapped}
 use Rattle.vtable.specs.declared.entry.EntryKind.{EntryKind}
 use Rattle.vtable.specs.declared.entry.TableEntry.{TableEntry}
 use Rattle.vtable.specs.declared.iter.EntryIter.{EntryIter}

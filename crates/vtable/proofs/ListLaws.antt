@@ -13,6 +13,7 @@ use Rattle.runtime.proofs.ReadsLaws.{run_bind}
 use Rattle.vtable.specs.declared.iter.EntryIter.{EntryIter}
 use Rattle.vtable.specs.Entries.{Layout, Entry, entry_at, up_to, entry, start, Step, entry_step}
 use Rattle.vtable.proofs.EntriesLaws.{step_end, step_gives}
+use Rattle.vtable.specs.Listed.{listed_entries}
 
 -- a walk over the same table at entry `k`
 abbrev pub iter_at : ℕ → ℕ → ℕ → EntryIter
@@ -75,15 +76,6 @@ module _ (image segments : List ℕ) (layout : Layout) where
 
   -- ---- as a list
 
-  -- the entries that at most `n` steps give, up to the first unreadable one
-  unfoldable pub listed_entries : ℕ → EntryIter → List Entry
-  listed_entries zero c = []
-  listed_entries (suc n) c =
-      elim (entry_step image segments layout c) [
-        | none ↦ []
-        | some s ↦ elim s.found [ none ↦ [] | some e ↦ e ∷ listed_entries n s.next ]
-      ]
-
   module _ (base count : ℕ) where
     -- entry `k` from entry `i` on: the entries `i` to `i` + `k` are read
     unfoldable from : ℕ → ℕ → Option Entry
@@ -112,11 +104,11 @@ module _ (image segments : List ℕ) (layout : Layout) where
         ∙ sym (run_bind image segments (λ _. entry_at layout base (suc k)) (up_to layout base k))
 
     listed_by : (n i : ℕ) → i < count → (x : Option Entry) → run image segments (entry_at layout base i) ≡ x
-        → listed_entries (suc n) (iter_at base count i) ≡ (elim x as (λ _. List Entry) [ none ↦ [] | some e ↦ e ∷ listed_entries n (iter_at base count (i + 1)) ])
+        → listed_entries image segments layout (suc n) (iter_at base count i) ≡ (elim x as (λ _. List Entry) [ none ↦ [] | some e ↦ e ∷ listed_entries image segments layout n (iter_at base count (i + 1)) ])
     unfolding listed_entries
     listed_by n i l x e = rw (listed_entries, sym (step_gives image segments layout (iter_at base count i) x (sym e) l))
 
-    listed_none : (n i : ℕ) → count ≤ i → listed_entries n (iter_at base count i) ≡ []
+    listed_none : (n i : ℕ) → count ≤ i → listed_entries image segments layout n (iter_at base count i) ≡ []
     unfolding listed_entries
     listed_none zero i l = refl
     listed_none (suc n) i l = rw (listed_entries, sym (step_end image segments layout (iter_at base count i) l))
@@ -153,24 +145,24 @@ module _ (image segments : List ℕ) (layout : Layout) where
     place_past : (i k : ℕ) → count ≤ i → place i k ≡ none
     place_past i k l = let j : count ≤ k + i = omega arith in simp (le-ltb (k + i) count j)
 
-    listed_at : (n i k : ℕ) → k < n → get_elem? (listed_entries n (iter_at base count i)) k ≡ place i k
+    listed_at : (n i k : ℕ) → k < n → get_elem? (listed_entries image segments layout n (iter_at base count i)) k ≡ place i k
     listed_at zero i k l = absurd (omega arith)
     listed_at (suc n) i k l = go (listed_at n (i + 1)) (dec_lt i count)
       where
-        with_first : ((j : ℕ) → j < n → get_elem? (listed_entries n (iter_at base count (i + 1))) j ≡ place (i + 1) j) → i < count
+        with_first : ((j : ℕ) → j < n → get_elem? (listed_entries image segments layout n (iter_at base count (i + 1))) j ≡ place (i + 1) j) → i < count
             → (x : Option Entry) → run image segments (entry_at layout base i) ≡ x → (k : ℕ) → k < suc n
-            → get_elem? (elim x as (λ _. List Entry) [ none ↦ [] | some e ↦ e ∷ listed_entries n (iter_at base count (i + 1)) ]) k ≡ place i k
+            → get_elem? (elim x as (λ _. List Entry) [ none ↦ [] | some e ↦ e ∷ listed_entries image segments layout n (iter_at base count (i + 1)) ]) k ≡ place i k
         with_first ih h none e k l = sym (place_none i k e)
         with_first ih h (some a) e zero l = sym (place_first i a h e)
         with_first ih h (some a) e (suc k) l = ih k (omega arith) ∙ sym (place_some i k a e)
 
-        go : ((j : ℕ) → j < n → get_elem? (listed_entries n (iter_at base count (i + 1))) j ≡ place (i + 1) j) → Dec (i < count)
-            → get_elem? (listed_entries (suc n) (iter_at base count i)) k ≡ place i k
+        go : ((j : ℕ) → j < n → get_elem? (listed_entries image segments layout n (iter_at base count (i + 1))) j ≡ place (i + 1) j) → Dec (i < count)
+            → get_elem? (listed_entries image segments layout (suc n) (iter_at base count i)) k ≡ place i k
         go ih (yes h) = rw (listed_by n i h (run image segments (entry_at layout base i)) refl) (with_first ih h (run image segments (entry_at layout base i)) refl k l)
         go ih (no h) = rw (listed_none (suc n) i (omega arith)) (sym (place_past i k (omega arith)))
 
     -- entry `k` of the list of a caller who steps `n` times is what its program reads
-    pub listed_entry : (n k : ℕ) → k < n → get_elem? (listed_entries n (start base count)) k ≡ run image segments (entry layout base count k)
+    pub listed_entry : (n k : ℕ) → k < n → get_elem? (listed_entries image segments layout n (start base count)) k ≡ run image segments (entry layout base count k)
     unfolding entry run
     listed_entry n k l = listed_at n 0 k l ∙ rw (from_start k) (ap (λ (j : ℕ). cond (nat_lt j count) (run image segments (up_to layout base k)) none) (omega arith) ∙ go (nat_lt k count))
       where
@@ -178,17 +170,17 @@ module _ (image segments : List ℕ) (layout : Layout) where
         go true = refl
         go false = refl
 
-    few : (n i : ℕ) → length (listed_entries n (iter_at base count i)) ≤ n
+    few : (n i : ℕ) → length (listed_entries image segments layout n (iter_at base count i)) ≤ n
     unfolding listed_entries
     few zero i = omega arith
     few (suc n) i = go (few n (i + 1)) (dec_lt i count)
       where
-        with_first : length (listed_entries n (iter_at base count (i + 1))) ≤ n → (x : Option Entry)
-            → length {A = Entry} (elim x as (λ _. List Entry) [ none ↦ [] | some e ↦ e ∷ listed_entries n (iter_at base count (i + 1)) ]) ≤ suc n
+        with_first : length (listed_entries image segments layout n (iter_at base count (i + 1))) ≤ n → (x : Option Entry)
+            → length {A = Entry} (elim x as (λ _. List Entry) [ none ↦ [] | some e ↦ e ∷ listed_entries image segments layout n (iter_at base count (i + 1)) ]) ≤ suc n
         with_first ih none = omega arith
         with_first ih (some a) = omega arith
 
-        go : length (listed_entries n (iter_at base count (i + 1))) ≤ n → Dec (i < count) → length (listed_entries (suc n) (iter_at base count i)) ≤ suc n
+        go : length (listed_entries image segments layout n (iter_at base count (i + 1))) ≤ n → Dec (i < count) → length (listed_entries image segments layout (suc n) (iter_at base count i)) ≤ suc n
         go ih (yes h) = rw (listed_by n i h (run image segments (entry_at layout base i)) refl) (with_first ih (run image segments (entry_at layout base i)))
         go ih (no h) = rw (listed_none (suc n) i (omega arith)) (omega arith)
 
@@ -199,10 +191,10 @@ module _ (image segments : List ℕ) (layout : Layout) where
     past_end (a ∷ l) (suc k) h = past_end l k (omega arith)
 
     -- the list of a caller who steps to the end: its entry `k` is what the program of entry `k` reads, for every `k`
-    pub entries_listed_all : (n k : ℕ) → count ≤ n → get_elem? (listed_entries n (start base count)) k ≡ run image segments (entry layout base count k)
+    pub entries_listed_all : (n k : ℕ) → count ≤ n → get_elem? (listed_entries image segments layout n (start base count)) k ≡ run image segments (entry layout base count k)
     unfolding entry run
     entries_listed_all n k c = go (dec_lt k n)
       where
-        go : Dec (k < n) → get_elem? (listed_entries n (start base count)) k ≡ run image segments (entry layout base count k)
+        go : Dec (k < n) → get_elem? (listed_entries image segments layout n (start base count)) k ≡ run image segments (entry layout base count k)
         go (yes l) = listed_entry n k l
-        go (no l) = past_end (listed_entries n (start base count)) k (omega (arith, few n 0)) ∙ simp (le-ltb k count (omega arith))
+        go (no l) = past_end (listed_entries image segments layout n (start base count)) k (omega (arith, few n 0)) ∙ simp (le-ltb k count (omega arith))

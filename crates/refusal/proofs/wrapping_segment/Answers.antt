@@ -15,11 +15,10 @@ returns-then-segments-number c =
     first_here c.args.segments.now c.loop-number.number _ c.loop-number.invariant.1 (omega arith) (omega (arith, c.type_inv.segments (4 * c.loop-number.number)))
 
 pub loop-number-preserved : goal.loop-number-preserved
-loop-number-preserved c =
-    (
-      omega arith,
-      first_passed c.args.segments.now c.loop-number.number _ c.loop-number.invariant.1 (omega arith) (omega (arith, c.type_inv.segments (4 * c.loop-number.number))),
-    )
+loop-number-preserved c = (
+  omega arith,
+  first_passed c.args.segments.now c.loop-number.number _ c.loop-number.invariant.1 (omega arith) (omega (arith, c.type_inv.segments (4 * c.loop-number.number))),
+)
 
 pub returns : goal.returns
 returns c =

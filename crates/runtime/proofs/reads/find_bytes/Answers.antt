@@ -2,7 +2,7 @@
 use native.Mathlib.Omega.{arith}
 use Rattle.util.proofs.AnswersLaws.{told}
 use Rattle.segment.specs.Segments.{offset_of}
-use Rattle.runtime.specs.CallsLaws.{bytes_at_lem, bytes_past, bytes_nowhere}
+use Rattle.runtime.proofs.CallsLaws.{bytes_at_lem, bytes_past, bytes_nowhere}
 use Rattle.runtime.proofs.reads.find_bytes.Goals as goal
 
 pub returns-then-image-off : goal.returns-then-image-off

@@ -1,7 +1,7 @@
 -- `runtime::reads::read_bytes` meets its contract.
 use Rattle.util.proofs.AnswersLaws.{told}
 use Rattle.runtime.specs.Bytes.{bytes_place_of}
-use Rattle.runtime.specs.CallsLaws.{read_at_lem, read_nothing}
+use Rattle.runtime.proofs.CallsLaws.{read_at_lem, read_nothing}
 use Rattle.runtime.proofs.reads.read_bytes.Goals as goal
 
 pub returns-in-At : goal.returns-in-At

@@ -2,7 +2,7 @@
 use Rattle.util.proofs.AnswersLaws.{told}
 use Rattle.segment.specs.Segments.{offset_of}
 use Rattle.util.specs.Cstr.{text_of}
-use Rattle.runtime.specs.CallsLaws.{text_zero, text_at_lem, text_there, text_nowhere}
+use Rattle.runtime.proofs.CallsLaws.{text_zero, text_at_lem, text_there, text_nowhere}
 use Rattle.runtime.proofs.reads.read_cstr.Goals as goal
 
 pub returns-then-vmaddr-eq0 : goal.returns-then-vmaddr-eq0

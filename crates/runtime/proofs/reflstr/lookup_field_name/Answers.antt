@@ -1,7 +1,7 @@
 -- `runtime::reflstr::lookup_field_name` meets its contract: each `return` is a case of `fieldName`.
 use Rattle.util.proofs.AnswersLaws.{told}
 use Rattle.util.specs.Cstr.{text_of}
-use Rattle.runtime.specs.CallsLaws.{name_zero, name_image, name_strings}
+use Rattle.runtime.proofs.CallsLaws.{name_zero, name_image, name_strings}
 use Rattle.runtime.proofs.reflstr.lookup_field_name.Goals as goal
 
 pub returns-then-target_va-eq0 : goal.returns-then-target_va-eq0

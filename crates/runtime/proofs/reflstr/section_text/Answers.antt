@@ -1,6 +1,6 @@
 -- `runtime::reflstr::section_text` meets its contract: each `return` is a case of `sectionText`.
 use native.Mathlib.Omega.{arith}
-use Rattle.runtime.specs.CallsLaws.{section_below, section_past, section_at}
+use Rattle.runtime.proofs.CallsLaws.{section_below, section_past, section_at}
 use Rattle.runtime.proofs.reflstr.section_text.Goals as goal
 
 pub returns-then-target_va-vmaddr : goal.returns-then-target_va-vmaddr

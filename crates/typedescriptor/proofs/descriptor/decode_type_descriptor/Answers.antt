@@ -2,7 +2,7 @@
 use Rattle.std.proofs.Common.{arith, rules}
 use Rattle.util.proofs.AnswersLaws.{told}
 use Rattle.util.specs.Cstr.{text_of}
-use Rattle.typedescriptor.specs.RowLaws.{no_header, no_slot, no_name, row_at}
+use Rattle.typedescriptor.proofs.RowLaws.{no_header, no_slot, no_name, row_at}
 use Rattle.typedescriptor.proofs.descriptor.decode_type_descriptor.Goals as goal
 
 pub returns-then-header-lt20 : goal.returns-then-header-lt20

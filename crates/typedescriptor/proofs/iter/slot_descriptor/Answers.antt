@@ -2,7 +2,7 @@
 use Rattle.std.proofs.Common.{◌*◌, sym, refl, ap, ◌∙◌, arith}
 use Rattle.util.proofs.LittleEndianLaws.{unsigned_part, signed_part}
 use Rattle.util.specs.Pointer.{relative_pointer}
-use Rattle.typedescriptor.specs.RowLaws.{past_slots, zero_slot, slot_at}
+use Rattle.typedescriptor.proofs.RowLaws.{past_slots, zero_slot, slot_at}
 use Rattle.typedescriptor.proofs.iter.slot_descriptor.Goals as goal
 
 pub returns-then-types-slot : goal.returns-then-types-slot

@@ -2,7 +2,7 @@
 use Rattle.std.proofs.Common.{◌∙◌}
 use Rattle.util.proofs.AnswersLaws.{told}
 use Rattle.segment.specs.VmAddress.{address_of}
-use Rattle.typedescriptor.specs.RowLaws.{refers_nowhere, refers_to}
+use Rattle.typedescriptor.proofs.RowLaws.{refers_nowhere, refers_to}
 use Rattle.typedescriptor.proofs.iter.slot_row.Goals as goal
 
 pub returns-in-At : goal.returns-in-At

@@ -3,8 +3,8 @@ use Rattle.std.proofs.Common.{◌∙◌}
 use Rattle.util.proofs.AnswersLaws.{told}
 use Rattle.segment.specs.VmAddress.{address_of}
 use Rattle.segment.proofs.MappingLaws.{near_mapped, near_nowhere}
-use Rattle.runtime.specs.CallsLaws.{run_mapped}
-use Rattle.typedescriptor.specs.RowLaws.{refers_nowhere, refers_to, no_place}
+use Rattle.runtime.proofs.CallsLaws.{run_mapped}
+use Rattle.typedescriptor.proofs.RowLaws.{refers_nowhere, refers_to, no_place}
 use Rattle.typedescriptor.proofs.iter.slot_row_moving.Goals as goal
 
 pub returns-in_default : goal.returns-in_default

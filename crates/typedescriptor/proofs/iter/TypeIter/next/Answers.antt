@@ -2,7 +2,7 @@ use Rattle.std.proofs.Common.{sym, refl, ◌∙◌, arith, rules}
 use Rattle.util.proofs.AnswersLaws.{told}
 use Rattle.segment.proofs.MappingLaws.{empty_mapped}
 use Rattle.typedescriptor.specs.Row.{descriptor_of}
-use Rattle.typedescriptor.specs.RowLaws.{row_next, slot_passed, rows_end}
+use Rattle.typedescriptor.proofs.RowLaws.{row_next, slot_passed, rows_end}
 use Rattle.typedescriptor.proofs.iter.TypeIter.next.Goals as goal
 
 pub loop-slot-init : goal.loop-slot-init

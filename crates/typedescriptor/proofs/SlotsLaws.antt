@@ -12,19 +12,8 @@ use Rattle.std.proofs.Math.Option.{Option, some, none}
 use Rattle.runtime.specs.Reads.{run}
 use Rattle.typedescriptor.specs.Row.{TypeRow}
 use Rattle.typedescriptor.specs.Slots.{slots, slot_row, Found, found, first_row, next_row, rows_from, rows}
-use Rattle.typedescriptor.specs.RowLaws.{past_slots, refers_nowhere, rows_end}
-
--- the rows that at most `n` steps from slot `i` on give, each step from where the one before it left off
-unfoldable pub stepped_rows : List ℕ → List ℕ → List ℕ → ℕ → ℕ → ℕ → List Found
-stepped_rows image segments types start zero i = []
-stepped_rows image segments types start (suc n) i =
-    elim (next_row image segments types start i) [ none ↦ [] | some f ↦ f ∷ stepped_rows image segments types start n f.next ]
-
--- and the slot at which they leave off
-unfoldable pub stepped_rows_to : List ℕ → List ℕ → List ℕ → ℕ → ℕ → ℕ → ℕ
-stepped_rows_to image segments types start zero i = i
-stepped_rows_to image segments types start (suc n) i =
-    elim (next_row image segments types start i) [ none ↦ i | some f ↦ stepped_rows_to image segments types start n f.next ]
+use Rattle.typedescriptor.proofs.RowLaws.{past_slots, refers_nowhere, rows_end}
+use Rattle.typedescriptor.specs.Steps.{stepped_rows, stepped_rows_to}
 
 module _ (image segments types : List ℕ) (start : ℕ) where
   -- ---- the first row of some slots, and those after it

@@ -10,7 +10,7 @@ use Rattle.util.specs.Cstr.{Place, part_of}
 use Rattle.segment.specs.Segments.{segments_of, file_offset}
 use Rattle.runtime.specs.Reads.{done, run, bytes_place, text_place}
 use Rattle.runtime.specs.Bytes.{bytes_read}
-use Rattle.runtime.specs.CallsLaws.{run_bytes, run_no_bytes, run_text, run_no_text}
+use Rattle.runtime.proofs.CallsLaws.{run_bytes, run_no_bytes, run_text, run_no_text}
 use Rattle.typedescriptor.specs.Row.{TypeRow, type_row, row_name, descriptor}
 use Rattle.typedescriptor.specs.Slots.{slots, slot_descriptor, slot_row, found, first_row, next_row}
 
