@@ -4,4 +4,4 @@ use Rattle.list.specs.declared.Input.{Input}
 
 abbrev pub Came : List ℕ → Input → Type 0
 Came space (Input.Bytes n) = n ≤ length space
-Came space Input.Failed = Unit
+Came space (Input.Failed e) = Unit

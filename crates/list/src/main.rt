@@ -11,30 +11,44 @@ ghost use Rattle.type_lines.specs.Lines.{line_text};
 ghost use Rattle.bundle_lines.specs.Printed.{pending_of, print_step, printed, lines_most, taken};
 ghost use Rattle.list.specs.Input.{Came};
 
+mod reason;
+
 use bundle::{BUNDLE_BYTES, Layout, Opened};
 use bundle_lines::{BundleLineIter, LINES, PrintStep};
 use bundle_parts::{SEGMENT_NUMBERS, SegmentRead};
 use bundle_rules::{Broken, Rule};
-use libc::{STDERR_FILENO, STDIN_FILENO, STDOUT_FILENO};
+use reason::say_reason;
 use refusal::Wrapping;
+use std::env::{Env, FillError};
+use std::io::{IsTerminal, Read, Stderr, Stdout};
+use std::{fs, io};
 use type_lines::LINE_BYTES;
 use util::ReadU32;
 
 // One byte more than any bundle has, so that a longer input is noticed.
 const INPUT_BYTES: usize = BUNDLE_BYTES + 1;
 
-// How many lines were given, and whether all of them could be written.
+// The longest argument that is looked at. A path has fewer bytes.
+const WORD_BYTES: usize = 4096;
+
+// How many lines were given, and whether all of them could be written: if not, why the first that could not was not.
 #[derive(Clone, Copy)]
 pub struct Written {
     pub lines: usize,
-    pub all: bool,
+    pub all: io::Result<()>,
 }
 
 // Writes the line that the step from `pending` gives: apart from --help and --version, the only place that writes to standard output.
-fn write_line(bytes: &[u8], segments: &[u64], pending: BundleLineIter, text: &[u8]) -> bool
+fn write_line(
+    out: Stdout,
+    bytes: &[u8],
+    segments: &[u64],
+    pending: BundleLineIter,
+    text: &[u8],
+) -> io::Result<()>
     requires { line_text (answered (print_step bytes.now segments.now (pending_of pending))) ≡ some text.now }
 {
-    io::write_all(STDOUT_FILENO, text)
+    out.write_all(text)
 }
 
 // The bytes of a line in its buffer.
@@ -45,19 +59,19 @@ fn line_part(line: &[u8; LINE_BYTES], length: usize) -> &[u8]
 }
 
 // Steps to the end. Lines are written as long as they can be.
-fn print_lines(bytes: &[u8], segments: &[u64], first: BundleLineIter) -> Written
+fn print_lines(out: Stdout, bytes: &[u8], segments: &[u64], first: BundleLineIter) -> Written
     requires { none ≡ fault segments.now }
     ensures { result.lines ≡ length (taken lines_most bytes.now segments.now (pending_of first)).lines }
 {
     let mut line = [0u8; LINE_BYTES];
     let mut left = first;
     let mut lines: usize = 0;
-    let mut all = true;
+    let mut all = Ok(());
     while lines < LINES {
         match left.next_line(bytes, segments, &mut line) {
             PrintStep::Line { length, next } => {
-                if all {
-                    all = write_line(bytes, segments, left, line_part(&line, length));
+                if all.is_ok() {
+                    all = write_line(out, bytes, segments, left, line_part(&line, length));
                 }
                 left = next;
                 lines += 1;
@@ -74,45 +88,51 @@ fn print_lines(bytes: &[u8], segments: &[u64], first: BundleLineIter) -> Written
 }
 
 // Writes the listing of a bundle.
-fn print_listing(bytes: &[u8]) -> Written
+fn print_listing(out: Stdout, bytes: &[u8]) -> Written
     ensures { result.lines ≡ length (printed bytes.now) }
 {
     let mut numbers = [0u64; SEGMENT_NUMBERS];
     let first = bundle_lines::start(bytes);
     let count = first.segments(bytes, &mut numbers);
-    print_lines(bytes, &numbers[..count], first)
+    print_lines(out, bytes, &numbers[..count], first)
 }
 
-fn say(text: &[u8]) {
-    io::write_all(STDERR_FILENO, text);
+// Where standard error cannot be written, there is nobody to say it to.
+fn say(err: Stderr, text: &[u8]) {
+    let _ = err.write_all(text);
 }
 
-// Says why a call failed, from errno, which a successful write does not change.
-fn fail(what: &[u8]) {
-    say(b"list: ");
-    os::fail(what);
+fn fail(err: Stderr, what: &[u8], error: io::Error) {
+    say(err, b"list: ");
+    say(err, what);
+    say(err, b": ");
+    say_reason(err, error);
+    say(err, b"\n");
 }
 
-fn say_rule(rule: Rule) {
+fn say_rule(err: Stderr, rule: Rule) {
     match rule {
-        Rule::CutShort => say(b"a record is cut short"),
-        Rule::KindRange => say(b"a kind is not 1 to 5"),
-        Rule::KindOrder => say(b"a kind does not rise"),
-        Rule::SegmentBody => say(b"a segment body is not of whole segments of 32 bytes"),
-        Rule::LedBody => say(b"a section body has no room for its address of 8 bytes"),
-        Rule::NoImage => say(b"there is no image"),
+        Rule::CutShort => say(err, b"a record is cut short"),
+        Rule::KindRange => say(err, b"a kind is not 1 to 5"),
+        Rule::KindOrder => say(err, b"a kind does not rise"),
+        Rule::SegmentBody => say(err, b"a segment body is not of whole segments of 32 bytes"),
+        Rule::LedBody => say(
+            err,
+            b"a section body has no room for its address of 8 bytes",
+        ),
+        Rule::NoImage => say(err, b"there is no image"),
     }
 }
 
 // Why a bundle is refused with 2, and at which byte.
-fn say_broken(bytes: &[u8]) {
+fn say_broken(err: Stderr, bytes: &[u8]) {
     match bundle_rules::broken_rule(bytes) {
         Broken::At { rule, at } => {
-            say(b"list: refused 2: ");
-            say_rule(rule);
-            say(b", at byte ");
-            io::print_decimal(STDERR_FILENO, at as u64);
-            say(b"\n");
+            say(err, b"list: refused 2: ");
+            say_rule(err, rule);
+            say(err, b", at byte ");
+            let _ = print!(err; "{at}");
+            say(err, b"\n");
         }
         Broken::Whole => {}
     }
@@ -130,169 +150,189 @@ fn is_macho(bytes: &[u8]) -> bool {
     }
 }
 
-fn say_macho(bytes: &[u8]) {
+fn say_macho(err: Stderr, bytes: &[u8]) {
     if BUNDLE_BYTES < bytes.len() {
-        say(b"list: refused 5: ");
+        say(err, b"list: refused 5: ");
     } else {
-        say(b"list: refused 2: ");
+        say(err, b"list: refused 2: ");
     }
     say(
+        err,
         b"this is a Mach-O file and not a bundle; `scripts/make_bundle.py --macho FILE` makes a bundle of it\n",
     );
 }
 
-fn say_number(before: &[u8], n: u64) {
-    say(before);
-    io::print_hex(STDERR_FILENO, n, 16);
+fn say_number(err: Stderr, before: &[u8], n: u64) {
+    say(err, before);
+    let _ = print!(err; "{n:016x}");
 }
 
 // Which segment a bundle is refused with 9 for, and its addresses.
-fn say_wrapping(bytes: &[u8], layout: Layout) {
+fn say_wrapping(err: Stderr, bytes: &[u8], layout: Layout) {
     let mut numbers = [0u64; SEGMENT_NUMBERS];
     let count = bundle_parts::segment_numbers(bytes, layout, &mut numbers);
     if let Wrapping::At(number) = refusal::wrapping_segment(&numbers[..count]) {
-        say(b"list: refused 9: segment ");
-        io::print_decimal(STDERR_FILENO, std::num::wrapping_add_u64(number as u64, 1));
-        say(b" of ");
-        io::print_decimal(STDERR_FILENO, (count / 4) as u64);
+        say(err, b"list: refused 9: segment ");
+        let _ = print!(err; "{}", number.wrapping_add(1));
+        say(err, b" of ");
+        let _ = print!(err; "{}", count / 4);
         if let SegmentRead::Segment(segment) = bundle_parts::segment(bytes, layout, number) {
-            say_number(b" does not end below 2^64: vmaddr 0x", segment.vmaddr);
-            say_number(b", vmsize 0x", segment.vmsize);
+            say_number(err, b" does not end below 2^64: vmaddr 0x", segment.vmaddr);
+            say_number(err, b", vmsize 0x", segment.vmsize);
         }
-        say(b"\n");
+        say(err, b"\n");
     }
 }
 
 // Why a bundle by the format's rules is refused, if it is.
-fn say_segments(bytes: &[u8]) {
+fn say_segments(err: Stderr, bytes: &[u8]) {
     if let Opened::Bundle(layout) = bundle::open_bundle(bytes) {
-        say_wrapping(bytes, layout);
+        say_wrapping(err, bytes, layout);
     }
 }
 
-fn say_refused(bytes: &[u8]) {
+fn say_refused(err: Stderr, bytes: &[u8]) {
     if is_macho(bytes) {
-        say_macho(bytes);
+        say_macho(err, bytes);
     } else if BUNDLE_BYTES < bytes.len() {
-        say(b"list: refused 5: a bundle has at most 65536 bytes\n");
+        say(err, b"list: refused 5: a bundle has at most 65536 bytes\n");
     } else {
-        say_broken(bytes);
-        say_segments(bytes);
+        say_broken(err, bytes);
+        say_segments(err, bytes);
     }
 }
 
 // Prints what came: `space` has room for more than a bundle.
-fn print_input(space: &[u8], count: usize)
+fn print_input(out: Stdout, err: Stderr, space: &[u8], count: usize)
     requires { (bundle_most < length space.now) × (count ≤ length space.now) }
 {
     let bytes = &space[..count];
-    let written = print_listing(bytes);
-    if !written.all {
-        fail(b"standard output");
+    let written = print_listing(out, bytes);
+    if let Err(error) = written.all {
+        fail(err, b"standard output", error);
     }
-    say_refused(bytes);
+    say_refused(err, bytes);
 }
 
-// What reading ended with: a count of bytes, or an error that is in errno.
+// What reading ended with: a count of bytes, or an error.
 #[derive(Clone, Copy)]
 pub enum Input {
     Bytes(usize),
-    Failed,
+    Failed(io::Error),
 }
 
 // Reads to the end, or until the space is full.
-fn read_input(fd: i32, space: &mut [u8]) -> Input
+fn read_input<R: Read>(from: &mut R, space: &mut [u8]) -> Input
     ensures { Came space.new result }
 {
     let mut n: usize = 0;
     while n < space.len() {
-        let got = libc::read(fd, &mut space[n..]);
-        if got < 0 {
-            return Input::Failed;
+        match from.read(&mut space[n..]) {
+            Ok(0) => return Input::Bytes(n),
+            Ok(more) => n += more,
+            Err(error) => return Input::Failed(error),
         }
-        let more = io::count(got, &space[n..]);
-        if more == 0 {
-            return Input::Bytes(n);
-        }
-        n += more;
     }
     Input::Bytes(n)
 }
 
-fn print_from(fd: i32, name: &[u8]) {
+fn print_from<R: Read>(out: Stdout, err: Stderr, from: &mut R, name: &[u8]) {
     let mut space = [0u8; INPUT_BYTES];
-    match read_input(fd, &mut space) {
-        Input::Bytes(count) => print_input(&space, count),
-        Input::Failed => fail(name),
+    match read_input(from, &mut space) {
+        Input::Bytes(count) => print_input(out, err, &space, count),
+        Input::Failed(error) => fail(err, name, error),
     }
 }
 
-fn print_file(path: &[u8]) {
-    let fd = os::open_read(path);
-    if fd < 0 {
-        fail(path);
-        return;
+// std opens a path only if it is a text.
+fn print_file(rt: &HostRuntime, path: &[u8]) {
+    let (out, err) = (rt.stdout(), rt.stderr());
+    match str::from_utf8(path) {
+        Ok(name) => match fs::open(rt, name) {
+            Ok(mut file) => print_from(out, err, &mut file, path),
+            Err(error) => fail(err, path, error),
+        },
+        Err(_) => {
+            say(err, b"list: ");
+            say(err, path);
+            say(err, b": the name is not UTF-8\n");
+        }
     }
-    print_from(fd, path);
-    libc::close(fd);
 }
 
-fn print(text: &[u8]) {
-    if !io::write_all(STDOUT_FILENO, text) {
-        fail(b"standard output");
+fn print_standard_input(rt: &HostRuntime) {
+    let (out, err) = (rt.stdout(), rt.stderr());
+    let mut input = rt.stdin();
+    if input.is_terminal() {
+        say(
+            err,
+            b"list: reading a bundle from the terminal; `list --help` says more\n",
+        );
+    }
+    print_from(out, err, &mut input, b"standard input");
+}
+
+fn print(rt: &HostRuntime, text: &[u8]) {
+    if let Err(error) = rt.stdout().write_all(text) {
+        fail(rt.stderr(), b"standard output", error);
     }
 }
 
-fn print_help() {
+fn print_help(rt: &HostRuntime) {
     print(
+        rt,
         b"usage: list [FILE]\n       list --help | --version\nPrints the types that a bundle lists: the file's, or standard input's where there is no FILE.\nA line has a type's address, its kind and its name; the last one is `end` and the number of types.\nA bundle comes from a Mach-O file, such as a framework's, by scripts/make_bundle.py:\n    scripts/make_bundle.py --macho Name.framework/Name | target/bin/list\n",
     );
 }
 
 // The version in CHANGELOG.md; nowhere else in the code.
-fn print_version() {
-    print(b"list 0.1.0\n");
+fn print_version(rt: &HostRuntime) {
+    print(rt, b"list 0.1.0\n");
 }
 
-fn say_option(word: &[u8]) {
-    say(b"list: no such option: ");
-    say(word);
-    say(b" (list --help says more)\n");
+fn say_option(err: Stderr, word: &[u8]) {
+    say(err, b"list: no such option: ");
+    say(err, word);
+    say(err, b" (list --help says more)\n");
 }
 
 // A word that begins with `-` is an option and not a file.
-fn print_argument(word: &[u8]) {
+fn print_argument(rt: &HostRuntime, word: &[u8]) {
     if word.len() == 0 {
-        print_file(word);
+        print_file(rt, word);
     } else if word[0] != b'-' {
-        print_file(word);
-    } else if check::same(word, b"--help") {
-        print_help();
-    } else if check::same(word, b"--version") {
-        print_version();
+        print_file(rt, word);
+    } else if word == b"--help".as_slice() {
+        print_help(rt);
+    } else if word == b"--version".as_slice() {
+        print_version(rt);
     } else {
-        say_option(word);
+        say_option(rt.stderr(), word);
     }
 }
 
-fn main() {
-    let count = os::arg_count();
-    if 2 < count {
-        say(b"list: one FILE at most (list --help says more)\n");
+// Whether there is an argument of this number, whatever it is.
+fn is_given(rt: &HostRuntime, number: usize) -> bool {
+    let mut word = [0u8; 1];
+    match rt.arg(number, &mut word) {
+        Ok(_) => true,
+        Err(FillError::TooLong) => true,
+        Err(FillError::NotPresent) => false,
+    }
+}
+
+fn main(rt: HostRuntime) {
+    if is_given(&rt, 2) {
+        say(
+            rt.stderr(),
+            b"list: one FILE at most (list --help says more)\n",
+        );
         return;
     }
-    if count < 2 {
-        if libc::isatty(STDIN_FILENO) == 1 {
-            say(b"list: reading a bundle from the terminal; `list --help` says more\n");
-        }
-        print_from(STDIN_FILENO, b"standard input");
-        return;
+    let mut word = [0u8; WORD_BYTES];
+    match rt.arg(1, &mut word) {
+        Ok(length) => print_argument(&rt, &word[..length]),
+        Err(FillError::TooLong) => say(rt.stderr(), b"list: argument: File name too long\n"),
+        Err(FillError::NotPresent) => print_standard_input(&rt),
     }
-    let mut path = io::buffer();
-    let length = os::arg(1, &mut path);
-    if os::errno() != 0 {
-        fail(b"argument");
-        return;
-    }
-    print_argument(&path[..length]);
 }

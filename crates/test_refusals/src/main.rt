@@ -13,6 +13,7 @@ use classtrailers::{Block, BlockBody, BlockIter, BlockKind, Trailing};
 use parent::ParentChain;
 use qualified_name::QualifiedName;
 use refusal::Refusal;
+use std::io::Stdout;
 use steps::{
     BlockAnswer, BodyAnswer, InitAnswer, NextBlock, NextContext, NextEntry, NextRow, PointerAnswer,
     TextAnswer,
@@ -25,40 +26,44 @@ use typedescriptor::{Row, TypeIter};
 use util::Text;
 use vtable::{EntryIter, EntryKind, EntryStep, TableEntry};
 
-fn number(n: u64) {
-    io::write_all(1, b" ");
-    io::print_decimal(1, n);
+// What could not be written is missing where the output is compared.
+fn write(out: Stdout, text: &[u8]) {
+    let _ = out.write_all(text);
+}
+
+fn number(out: Stdout, n: u64) {
+    let _ = print!(out; " {n}");
 }
 
 // A line's first word, and how many segment numbers there are.
-fn head(word: &[u8], segments: &[u64]) {
-    io::write_all(1, word);
-    number(segments.len() as u64);
+fn head(out: Stdout, word: &[u8], segments: &[u64]) {
+    write(out, word);
+    number(out, segments.len() as u64);
 }
 
-fn refused(refusal: Refusal) {
-    io::write_all(1, b" refused");
-    number(refusal::number(refusal));
+fn refused(out: Stdout, refusal: Refusal) {
+    write(out, b" refused");
+    number(out, refusal::number(refusal));
 }
 
-fn try_row(image: &[u8], segments: &[u64]) {
+fn try_row(out: Stdout, image: &[u8], segments: &[u64]) {
     let types = b"\x00\xf0\xff\xff";
     match steps::next_row(image, segments, types, 0x2000, TypeIter::new()) {
-        NextRow::Row { slot, row, next } => number(row.address),
-        NextRow::End => end(),
-        NextRow::Refused(refusal) => refused(refusal),
+        NextRow::Row { slot, row, next } => number(out, row.address),
+        NextRow::End => end(out),
+        NextRow::Refused(refusal) => refused(out, refusal),
     }
 }
 
-fn try_context(image: &[u8], segments: &[u64]) {
+fn try_context(out: Stdout, image: &[u8], segments: &[u64]) {
     match steps::next_context(image, segments, ParentChain::starting_at(0x1000)) {
-        NextContext::Context { context, next } => number(context.address),
-        NextContext::End => end(),
-        NextContext::Refused(refusal) => refused(refusal),
+        NextContext::Context { context, next } => number(out, context.address),
+        NextContext::End => end(out),
+        NextContext::Refused(refusal) => refused(out, refusal),
     }
 }
 
-fn try_line(image: &[u8], segments: &[u64]) {
+fn try_line(out: Stdout, image: &[u8], segments: &[u64]) {
     let mut line = [0u8; LINE_BYTES];
     match type_lines::next_line(
         image,
@@ -68,58 +73,58 @@ fn try_line(image: &[u8], segments: &[u64]) {
         LineIter::new(),
         &mut line,
     ) {
-        NextLine::Line { length, next } => number(length as u64),
-        NextLine::Done => end(),
-        NextLine::Refused(refusal) => refused(refusal),
+        NextLine::Line { length, next } => number(out, length as u64),
+        NextLine::Done => end(out),
+        NextLine::Refused(refusal) => refused(out, refusal),
     }
 }
 
-fn try_walks(image: &[u8], segments: &[u64]) {
-    head(b"walks", segments);
-    try_row(image, segments);
-    try_context(image, segments);
-    try_line(image, segments);
-    io::write_all(1, b"\n");
+fn try_walks(out: Stdout, image: &[u8], segments: &[u64]) {
+    head(out, b"walks", segments);
+    try_row(out, image, segments);
+    try_context(out, image, segments);
+    try_line(out, image, segments);
+    write(out, b"\n");
 }
 
-fn nothing() {
-    io::write_all(1, b" nothing");
+fn nothing(out: Stdout) {
+    write(out, b" nothing");
 }
 
-fn end() {
-    io::write_all(1, b" end");
+fn end(out: Stdout) {
+    write(out, b" end");
 }
 
-fn unreadable() {
-    io::write_all(1, b" unreadable");
+fn unreadable(out: Stdout) {
+    write(out, b" unreadable");
 }
 
 // The fields of the body.
-fn try_body(image: &[u8], segments: &[u64]) {
+fn try_body(out: Stdout, image: &[u8], segments: &[u64]) {
     match steps::row_body(image, segments, 0x1000, 17) {
         BodyAnswer::Body(body) => match body {
-            TypeBody::Class(_) => nothing(),
-            TypeBody::Struct(fields) => number(fields.num_fields as u64),
-            TypeBody::Enum(_) => nothing(),
-            TypeBody::Nothing => nothing(),
+            TypeBody::Class(_) => nothing(out),
+            TypeBody::Struct(fields) => number(out, fields.num_fields as u64),
+            TypeBody::Enum(_) => nothing(out),
+            TypeBody::Nothing => nothing(out),
         },
-        BodyAnswer::Refused(refusal) => refused(refusal),
+        BodyAnswer::Refused(refusal) => refused(out, refusal),
     }
 }
 
 // The place of a text.
-fn answer_text(found: TextAnswer) {
+fn answer_text(out: Stdout, found: TextAnswer) {
     match found {
         TextAnswer::Text(text) => match text {
-            Text::At { place, length } => number(place as u64),
-            Text::Nothing => nothing(),
+            Text::At { place, length } => number(out, place as u64),
+            Text::Nothing => nothing(out),
         },
-        TextAnswer::Refused(refusal) => refused(refusal),
+        TextAnswer::Refused(refusal) => refused(out, refusal),
     }
 }
 
 // The name at 0x101c, as that of a superclass and by itself.
-fn try_texts(image: &[u8], segments: &[u64]) {
+fn try_texts(out: Stdout, image: &[u8], segments: &[u64]) {
     let class = TypeBody::Class(ClassBody {
         superclass_va: 0x101c,
         sizes: ClassSizes::Fixed {
@@ -130,21 +135,21 @@ fn try_texts(image: &[u8], segments: &[u64]) {
         num_fields: 0,
         field_offset_vector_offset: 0,
     });
-    answer_text(steps::superclass_name(image, segments, class));
-    answer_text(steps::text_at(image, segments, 0x101c));
+    answer_text(out, steps::superclass_name(image, segments, class));
+    answer_text(out, steps::text_at(image, segments, 0x101c));
 }
 
 // The address of a generic block.
-fn block(found: Block) {
+fn block(out: Stdout, found: Block) {
     let body = found.body;
     match body {
-        BlockBody::At(va) => number(va),
-        _ => nothing(),
+        BlockBody::At(va) => number(out, va),
+        _ => nothing(out),
     }
 }
 
 // The descriptor's bytes as the generic block of a walk, and as that of a struct 28 bytes before them.
-fn try_blocks(image: &[u8], segments: &[u64]) {
+fn try_blocks(out: Stdout, image: &[u8], segments: &[u64]) {
     let walk = BlockIter {
         trailing: Trailing {
             flags: 0x91,
@@ -155,98 +160,106 @@ fn try_blocks(image: &[u8], segments: &[u64]) {
         address: 0x1000,
     };
     match steps::next_block(image, segments, walk) {
-        NextBlock::Block { block: found, next } => block(found),
-        NextBlock::End => end(),
-        NextBlock::Refused(refusal) => refused(refusal),
+        NextBlock::Block { block: found, next } => block(out, found),
+        NextBlock::End => end(out),
+        NextBlock::Refused(refusal) => refused(out, refusal),
     }
     let body = TypeBody::Struct(StructBody {
         num_fields: 0,
         field_offset_vector_offset: 0,
     });
     match steps::block_of_kind(image, segments, 0xfe4, 0x91, body, BlockKind::Generic) {
-        BlockAnswer::Block(found) => block(found),
-        BlockAnswer::Nothing => nothing(),
-        BlockAnswer::Refused(refusal) => refused(refusal),
+        BlockAnswer::Block(found) => block(out, found),
+        BlockAnswer::Nothing => nothing(out),
+        BlockAnswer::Refused(refusal) => refused(out, refusal),
     }
 }
 
 // The last word of an entry of each kind of table.
-fn last_word(kind: EntryKind, entry: TableEntry) {
+fn last_word(out: Stdout, kind: EntryKind, entry: TableEntry) {
     match kind {
-        EntryKind::Method => number(entry.second),
-        EntryKind::Override => number(entry.third),
-        EntryKind::DefaultOverride => number(entry.second),
-        EntryKind::Prespecialization => number(entry.first),
+        EntryKind::Method => number(out, entry.second),
+        EntryKind::Override => number(out, entry.third),
+        EntryKind::DefaultOverride => number(out, entry.second),
+        EntryKind::Prespecialization => number(out, entry.first),
     }
 }
 
-fn entry_word(kind: EntryKind, answer: NextEntry) {
+fn entry_word(out: Stdout, kind: EntryKind, answer: NextEntry) {
     match answer {
         NextEntry::Step(step) => match step {
-            EntryStep::Entry { entry, next: _ } => last_word(kind, entry),
-            EntryStep::Unreadable { next: _ } => unreadable(),
-            EntryStep::End => end(),
+            EntryStep::Entry { entry, next: _ } => last_word(out, kind, entry),
+            EntryStep::Unreadable { next: _ } => unreadable(out),
+            EntryStep::End => end(out),
         },
-        NextEntry::Refused(refusal) => refused(refusal),
+        NextEntry::Refused(refusal) => refused(out, refusal),
     }
 }
 
-fn try_table(image: &[u8], segments: &[u64], cursor: EntryIter, kind: EntryKind) {
-    entry_word(kind, steps::next_entry(image, segments, cursor, kind));
+fn try_table(out: Stdout, image: &[u8], segments: &[u64], cursor: EntryIter, kind: EntryKind) {
+    entry_word(out, kind, steps::next_entry(image, segments, cursor, kind));
 }
 
 // The descriptor's bytes as the first entry of each kind of table.
-fn try_tables(image: &[u8], segments: &[u64]) {
+fn try_tables(out: Stdout, image: &[u8], segments: &[u64]) {
     let cursor = EntryIter::new(0x1000, 1);
     entry_word(
+        out,
         EntryKind::Method,
         steps::next_method(image, segments, cursor),
     );
-    try_table(image, segments, cursor, EntryKind::Override);
-    try_table(image, segments, cursor, EntryKind::DefaultOverride);
-    try_table(image, segments, cursor, EntryKind::Prespecialization);
+    try_table(out, image, segments, cursor, EntryKind::Override);
+    try_table(out, image, segments, cursor, EntryKind::DefaultOverride);
+    try_table(out, image, segments, cursor, EntryKind::Prespecialization);
 }
 
 // The descriptor's bytes as the records of a singleton: the completion function, and the metadata.
-fn try_singletons(image: &[u8], segments: &[u64]) {
+fn try_singletons(out: Stdout, image: &[u8], segments: &[u64]) {
     match steps::singleton_init(image, segments, 0x1000) {
         InitAnswer::Init(init) => match init {
             SingletonMetadataInit::At {
                 initialization_cache_va: _,
                 incomplete_metadata_va: _,
                 completion_function_va,
-            } => number(completion_function_va),
-            SingletonMetadataInit::Nothing => nothing(),
+            } => number(out, completion_function_va),
+            SingletonMetadataInit::Nothing => nothing(out),
         },
-        InitAnswer::Refused(refusal) => refused(refusal),
+        InitAnswer::Refused(refusal) => refused(out, refusal),
     }
     match steps::singleton_pointer(image, segments, 0x1000) {
         PointerAnswer::Pointer(pointer) => match pointer {
-            SingletonMetadataPointer::At(metadata_va) => number(metadata_va),
-            SingletonMetadataPointer::Nothing => nothing(),
+            SingletonMetadataPointer::At(metadata_va) => number(out, metadata_va),
+            SingletonMetadataPointer::Nothing => nothing(out),
         },
-        PointerAnswer::Refused(refusal) => refused(refusal),
+        PointerAnswer::Refused(refusal) => refused(out, refusal),
     }
 }
 
-fn try_reads(image: &[u8], segments: &[u64]) {
-    head(b"reads", segments);
-    try_body(image, segments);
-    try_texts(image, segments);
-    try_blocks(image, segments);
-    try_tables(image, segments);
-    try_singletons(image, segments);
-    io::write_all(1, b"\n");
+fn try_reads(out: Stdout, image: &[u8], segments: &[u64]) {
+    head(out, b"reads", segments);
+    try_body(out, image, segments);
+    try_texts(out, image, segments);
+    try_blocks(out, image, segments);
+    try_tables(out, image, segments);
+    try_singletons(out, image, segments);
+    write(out, b"\n");
 }
 
-fn answer(joined: QualifiedName) {
+fn answer(out: Stdout, joined: QualifiedName) {
     match joined {
-        QualifiedName::Length(n) => number(n as u64),
-        QualifiedName::Refused(refusal) => refused(refusal),
+        QualifiedName::Length(n) => number(out, n as u64),
+        QualifiedName::Refused(refusal) => refused(out, refusal),
     }
 }
 
-fn try_buffer(image: &[u8], segments: &[u64], parent: u64, size: usize, buffer: &mut [u8]) {
+fn try_buffer(
+    out: Stdout,
+    image: &[u8],
+    segments: &[u64],
+    parent: u64,
+    size: usize,
+    buffer: &mut [u8],
+) {
     if buffer.len() < size {
         return;
     }
@@ -258,46 +271,59 @@ fn try_buffer(image: &[u8], segments: &[u64], parent: u64, size: usize, buffer: 
         name_length: 4,
     };
     let joined = steps::joined_name(image, segments, row, &mut buffer[..size]);
-    answer(joined);
-    io::write_all(1, b" ");
-    io::write_all(1, buffer);
+    answer(out, joined);
+    write(out, b" ");
+    write(out, buffer);
 }
 
-fn try_name(image: &[u8], segments: &[u64], parent: u64, size: usize) {
-    head(b"name", segments);
-    number(parent);
-    number(size as u64);
+fn try_name(out: Stdout, image: &[u8], segments: &[u64], parent: u64, size: usize) {
+    head(out, b"name", segments);
+    number(out, parent);
+    number(out, size as u64);
     let mut buffer = [45u8; 8];
-    try_buffer(image, segments, parent, size, &mut buffer);
-    io::write_all(1, b"\n");
+    try_buffer(out, image, segments, parent, size, &mut buffer);
+    write(out, b"\n");
 }
 
-fn try_all(image: &[u8], segments: &[u64]) {
-    try_walks(image, segments);
-    try_reads(image, segments);
-    try_name(image, segments, 0, 8);
-    try_name(image, segments, 0, 4);
-    try_name(image, segments, 0, 3);
-    try_name(image, segments, 0x1000, 8);
-    try_name(image, segments, 0x1000, 3);
-    try_name(image, segments, 0x1000, 0);
+fn try_all(out: Stdout, image: &[u8], segments: &[u64]) {
+    try_walks(out, image, segments);
+    try_reads(out, image, segments);
+    try_name(out, image, segments, 0, 8);
+    try_name(out, image, segments, 0, 4);
+    try_name(out, image, segments, 0, 3);
+    try_name(out, image, segments, 0x1000, 8);
+    try_name(out, image, segments, 0x1000, 3);
+    try_name(out, image, segments, 0x1000, 0);
 }
 
-fn try_list(image: &[u8], numbers: &[u64]) {
+fn try_list(out: Stdout, image: &[u8], numbers: &[u64]) {
     let mut count = 0;
     while count < numbers.len() {
-        try_all(image, &numbers[..count]);
+        try_all(out, image, &numbers[..count]);
         count += 1;
     }
-    try_all(image, numbers);
+    try_all(out, image, numbers);
 }
 
-fn main() {
+fn main(rt: HostRuntime) {
+    let out = rt.stdout();
     // A struct named Clue at 0x1000 that is its own parent.
     let image =
         b"\x11\x00\x00\x00\xfc\xff\xff\xff\x14\x00\x00\x00\x00\x00\x00\x00\x00\x00\x00\x00\x00\x00\x00\x00\x00\x00\x00\x00Clue\x00";
-    try_list(image, &[0x1000, 33, 0, 33, 0x9000, 1, 0, 1]);
-    try_list(image, &[0x1000, 33, 0, 33, 0xFFFFFFFFFFFFFFF0, 16, 0, 0]);
-    try_list(image, &[0xFFFFFFFFFFFFFFFF, 1, 0, 1, 0x1000, 33, 0, 33]);
-    try_list(image, &[0xFFFFFFFFFFFFFFEF, 16, 0, 16, 0x1000, 33, 0, 33]);
+    try_list(out, image, &[0x1000, 33, 0, 33, 0x9000, 1, 0, 1]);
+    try_list(
+        out,
+        image,
+        &[0x1000, 33, 0, 33, 0xFFFFFFFFFFFFFFF0, 16, 0, 0],
+    );
+    try_list(
+        out,
+        image,
+        &[0xFFFFFFFFFFFFFFFF, 1, 0, 1, 0x1000, 33, 0, 33],
+    );
+    try_list(
+        out,
+        image,
+        &[0xFFFFFFFFFFFFFFEF, 16, 0, 16, 0x1000, 33, 0, 33],
+    );
 }

@@ -24,6 +24,7 @@ use qualified_name::QualifiedName;
 use refusal::Refusal;
 use runtime::FieldName;
 use segment::FileOffset;
+use std::io::Stdout;
 use steps::{NextContext, NextRow};
 use test_lines::Count;
 use typedescriptor::{Row, TypeIter};
@@ -31,196 +32,207 @@ use util::Text;
 
 // Parts of lines.
 
+// What could not be written is missing where the output is compared.
+fn write(out: Stdout, text: &[u8]) {
+    let _ = out.write_all(text);
+}
+
 // A line that is never expected: for an input line that cannot be read, or an answer that no call may give.
-fn bad_line() {
-    io::write_all(1, b"bad line\n");
+fn bad_line(out: Stdout) {
+    write(out, b"bad line\n");
 }
 
 // A space and a number.
-fn number_field(n: u64) {
-    io::write_all(1, b" ");
-    io::print_hex(1, n, 1);
+fn number_field(out: Stdout, n: u64) {
+    let _ = print!(out; " {n:x}");
 }
 
 // The rest of a line that ends with a number.
-fn last_field(n: u64) {
-    number_field(n);
-    io::write_all(1, b"\n");
+fn last_field(out: Stdout, n: u64) {
+    number_field(out, n);
+    write(out, b"\n");
 }
 
 // The rest of a line for an answer that is nothing.
-fn nothing() {
-    io::write_all(1, b" nothing\n");
+fn nothing(out: Stdout) {
+    write(out, b" nothing\n");
 }
 
 // The rest of a line that ends with a place and a length.
-fn place_end(place: usize, length: usize) {
-    number_field(place as u64);
-    last_field(length as u64);
+fn place_end(out: Stdout, place: usize, length: usize) {
+    number_field(out, place as u64);
+    last_field(out, length as u64);
 }
 
-fn refused(refusal: Refusal) {
-    io::write_all(1, b"refused");
-    last_field(refusal::number(refusal));
+fn refused(out: Stdout, refusal: Refusal) {
+    write(out, b"refused");
+    last_field(out, refusal::number(refusal));
 }
 
-fn byte_digits(b: u8) {
-    io::print_hex(1, b as u64, 2);
+fn byte_digits(out: Stdout, b: u8) {
+    let _ = print!(out; "{b:02x}");
 }
 
-fn name_line(name: &[u8]) {
-    io::write_all(1, b"name");
-    number_field(name.len() as u64);
-    io::write_all(1, b" ");
+fn name_line(out: Stdout, name: &[u8]) {
+    write(out, b"name");
+    number_field(out, name.len() as u64);
+    write(out, b" ");
     if name.len() == 0 {
-        io::write_all(1, b"-");
+        write(out, b"-");
     }
     let mut i = 0;
     while i < name.len() {
-        byte_digits(name[i]);
+        byte_digits(out, name[i]);
         i += 1;
     }
-    io::write_all(1, b"\n");
+    write(out, b"\n");
 }
 
 // The rows.
 
 // The joined name once more, into a buffer that is one byte too short for its `n` bytes.
-fn shorter(image: &[u8], segments: &[u64], row: Row, n: usize, buffer: &mut [u8]) {
+fn shorter(out: Stdout, image: &[u8], segments: &[u64], row: Row, n: usize, buffer: &mut [u8]) {
     if n == 0 {
         return;
     }
     if buffer.len() < n {
-        bad_line();
+        bad_line(out);
         return;
     }
     let end = n - 1;
     match steps::joined_name(image, segments, row, &mut buffer[..end]) {
-        QualifiedName::Length(_) => bad_line(),
-        QualifiedName::Refused(refusal) => refused(refusal),
+        QualifiedName::Length(_) => bad_line(out),
+        QualifiedName::Refused(refusal) => refused(out, refusal),
     }
 }
 
-fn name_lines(image: &[u8], segments: &[u64], row: Row, buffer: &mut [u8]) {
+fn name_lines(out: Stdout, image: &[u8], segments: &[u64], row: Row, buffer: &mut [u8]) {
     match steps::joined_name(image, segments, row, buffer) {
         QualifiedName::Length(n) => {
-            name_line(util::part(buffer, 0, n));
-            shorter(image, segments, row, n, buffer);
+            name_line(out, util::part(buffer, 0, n));
+            shorter(out, image, segments, row, n, buffer);
         }
-        QualifiedName::Refused(refusal) => refused(refusal),
+        QualifiedName::Refused(refusal) => refused(out, refusal),
     }
 }
 
-fn context_line(context: ParentContext) {
-    io::write_all(1, b"context");
-    number_field(context.address);
-    number_field(context.flags as u64);
+fn context_line(out: Stdout, context: ParentContext) {
+    write(out, b"context");
+    number_field(out, context.address);
+    number_field(out, context.flags as u64);
     let name = context.name;
     match name {
-        Text::At { place, length } => place_end(place, length),
+        Text::At { place, length } => place_end(out, place, length),
         Text::Nothing => {
-            io::write_all(1, b" -\n");
+            write(out, b" -\n");
         }
     }
 }
 
 // One of the contexts: only the first 8 are written.
-fn shown(depth: u64, context: ParentContext) {
+fn shown(out: Stdout, depth: u64, context: ParentContext) {
     if depth < 8 {
-        context_line(context);
+        context_line(out, context);
     }
 }
 
-fn depth_line(depth: u64) {
-    io::write_all(1, b"depth");
-    last_field(depth);
+fn depth_line(out: Stdout, depth: u64) {
+    write(out, b"depth");
+    last_field(out, depth);
 }
 
 // The contexts from a row's parent on. A walk gives at most 256, and then its end.
-fn context_lines(image: &[u8], segments: &[u64], parent: u64) {
+fn context_lines(out: Stdout, image: &[u8], segments: &[u64], parent: u64) {
     let mut walk = ParentChain::starting_at(parent);
     let mut depth: u64 = 0;
     while depth < 257 {
         let step = steps::next_context(image, segments, walk);
         match step {
             NextContext::Context { context, next } => {
-                shown(depth, context);
+                shown(out, depth, context);
                 walk = next;
                 depth += 1;
             }
             NextContext::End => {
-                depth_line(depth);
+                depth_line(out, depth);
                 return;
             }
             NextContext::Refused(refusal) => {
-                refused(refusal);
+                refused(out, refusal);
                 return;
             }
         }
     }
-    bad_line();
+    bad_line(out);
 }
 
-fn row_line(slot: usize, row: Row) {
-    io::write_all(1, b"row");
-    number_field(slot as u64);
-    number_field(row.address);
-    number_field(row.flags as u64);
-    number_field(row.parent);
-    place_end(row.name_place, row.name_length);
+fn row_line(out: Stdout, slot: usize, row: Row) {
+    write(out, b"row");
+    number_field(out, slot as u64);
+    number_field(out, row.address);
+    number_field(out, row.flags as u64);
+    number_field(out, row.parent);
+    place_end(out, row.name_place, row.name_length);
 }
 
-fn row_lines(image: &[u8], segments: &[u64], slot: usize, row: Row) {
+fn row_lines(out: Stdout, image: &[u8], segments: &[u64], slot: usize, row: Row) {
     let mut buffer = [0u8; 1024];
-    row_line(slot, row);
-    context_lines(image, segments, row.parent);
-    name_lines(image, segments, row, &mut buffer);
+    row_line(out, slot, row);
+    context_lines(out, image, segments, row.parent);
+    name_lines(out, image, segments, row, &mut buffer);
 }
 
-fn end_line(rows: u64) {
-    io::write_all(1, b"end");
-    last_field(rows);
+fn end_line(out: Stdout, rows: u64) {
+    write(out, b"end");
+    last_field(out, rows);
 }
 
 // The rows of a types section of fewer than 4,096 slots.
-fn all_rows(image: &[u8], segments: &[u64], types: &[u8], vmaddr: u64) {
+fn all_rows(out: Stdout, image: &[u8], segments: &[u64], types: &[u8], vmaddr: u64) {
     let mut walk = TypeIter::new();
     let mut rows: u64 = 0;
     while rows < 4096 {
         let step = steps::next_row(image, segments, types, vmaddr, walk);
         match step {
             NextRow::Row { slot, row, next } => {
-                row_lines(image, segments, slot, row);
+                row_lines(out, image, segments, slot, row);
                 walk = next;
                 rows += 1;
             }
             NextRow::End => {
-                end_line(rows);
+                end_line(out, rows);
                 return;
             }
             NextRow::Refused(refusal) => {
-                refused(refusal);
+                refused(out, refusal);
                 return;
             }
         }
     }
-    bad_line();
+    bad_line(out);
 }
 
 // The addresses.
 
-fn offset_line(segments: &[u64], address: u64) {
-    io::write_all(1, b"offset");
-    number_field(address);
+fn offset_line(out: Stdout, segments: &[u64], address: u64) {
+    write(out, b"offset");
+    number_field(out, address);
     match runtime::vm_to_file_offset(segments, address) {
-        FileOffset::At(n) => last_field(n),
-        FileOffset::Nothing => nothing(),
+        FileOffset::At(n) => last_field(out, n),
+        FileOffset::Nothing => nothing(out),
     }
 }
 
-fn field_line(image: &[u8], segments: &[u64], strings: &[u8], section: u64, address: u64) {
-    io::write_all(1, b"field");
-    number_field(address);
+fn field_line(
+    out: Stdout,
+    image: &[u8],
+    segments: &[u64],
+    strings: &[u8],
+    section: u64,
+    address: u64,
+) {
+    write(out, b"field");
+    number_field(out, address);
     match runtime::lookup_field_name(
         image,
         segments,
@@ -230,23 +242,23 @@ fn field_line(image: &[u8], segments: &[u64], strings: &[u8], section: u64, addr
         address,
     ) {
         FieldName::Image { place, length } => {
-            number_field(1);
-            place_end(place, length);
+            number_field(out, 1);
+            place_end(out, place, length);
         }
         FieldName::Strings { place, length } => {
-            number_field(2);
-            place_end(place, length);
+            number_field(out, 2);
+            place_end(out, place, length);
         }
-        FieldName::Nothing => nothing(),
+        FieldName::Nothing => nothing(out),
     }
 }
 
-fn text_line(image: &[u8], off: usize) {
-    io::write_all(1, b"text");
-    number_field(off as u64);
+fn text_line(out: Stdout, image: &[u8], off: usize) {
+    write(out, b"text");
+    number_field(out, off as u64);
     match util::read_cstr_at(image, off) {
-        Text::At { place, length } => place_end(place, length),
-        Text::Nothing => nothing(),
+        Text::At { place, length } => place_end(out, place, length),
+        Text::Nothing => nothing(out),
     }
 }
 
@@ -259,13 +271,20 @@ fn offset_by(image: &[u8], address: u64) -> usize {
     }
 }
 
-fn all_addresses(image: &[u8], segments: &[u64], strings: &[u8], section: u64, addresses: &[u64]) {
+fn all_addresses(
+    out: Stdout,
+    image: &[u8],
+    segments: &[u64],
+    strings: &[u8],
+    section: u64,
+    addresses: &[u64],
+) {
     let mut i = 0;
     while i < addresses.len() {
         let address = addresses[i];
-        offset_line(segments, address);
-        field_line(image, segments, strings, section, address);
-        text_line(image, offset_by(image, address));
+        offset_line(out, segments, address);
+        field_line(out, image, segments, strings, section, address);
+        text_line(out, image, offset_by(image, address));
         i += 1;
     }
 }
@@ -273,33 +292,43 @@ fn all_addresses(image: &[u8], segments: &[u64], strings: &[u8], section: u64, a
 // From a line to its answers.
 
 // How many bytes or numbers a field has; if it cannot be read, 0, and a line that no expected answer has.
-fn count(read: Count) -> usize {
+fn count(out: Stdout, read: Count) -> usize {
     match read {
         Count::Of(n) => n,
         Count::Bad => {
-            bad_line();
+            bad_line(out);
             0
         }
     }
 }
 
 // The line's three pieces of bytes and two lists, and all its answers.
-fn run_line(line: &[u8], types_va: u64, strings_va: u64) {
+fn run_line(out: Stdout, line: &[u8], types_va: u64, strings_va: u64) {
     let mut image = [0u8; 4096];
     let mut types = [0u8; 1024];
     let mut strings = [0u8; 1024];
     let mut segments = [0u64; 64];
     let mut addresses = [0u64; 64];
-    let bytes = count(test_lines::parse_bytes(test_lines::field(line, 1), &mut image));
-    let slots = count(test_lines::parse_bytes(test_lines::field(line, 3), &mut types));
-    let names = count(test_lines::parse_bytes(test_lines::field(line, 5), &mut strings));
-    let numbers = count(test_lines::parse_list(line, 6, &mut segments));
-    let next = std::num::wrapping_add_usize(7, numbers);
-    let given = count(test_lines::parse_list(line, next, &mut addresses));
+    let bytes = count(
+        out,
+        test_lines::parse_bytes(test_lines::field(line, 1), &mut image),
+    );
+    let slots = count(
+        out,
+        test_lines::parse_bytes(test_lines::field(line, 3), &mut types),
+    );
+    let names = count(
+        out,
+        test_lines::parse_bytes(test_lines::field(line, 5), &mut strings),
+    );
+    let numbers = count(out, test_lines::parse_list(line, 6, &mut segments));
+    let next = numbers.wrapping_add(7);
+    let given = count(out, test_lines::parse_list(line, next, &mut addresses));
     let whole = util::part(&image, 0, bytes);
     let list = test_lines::first(&segments, numbers);
-    all_rows(whole, list, util::part(&types, 0, slots), types_va);
+    all_rows(out, whole, list, util::part(&types, 0, slots), types_va);
     all_addresses(
+        out,
         whole,
         list,
         util::part(&strings, 0, names),
@@ -308,30 +337,30 @@ fn run_line(line: &[u8], types_va: u64, strings_va: u64) {
     );
 }
 
-fn answer_line(line: &[u8]) {
+fn answer_line(out: Stdout, line: &[u8]) {
     if !test_lines::same(test_lines::field(line, 0), b"input") {
-        bad_line();
+        bad_line(out);
         return;
     }
     let mut addresses = [0u64; 2];
     if !test_lines::parse_numbers(line, 2, 2, &mut addresses) {
-        bad_line();
+        bad_line(out);
         return;
     }
-    run_line(line, addresses[0], addresses[1]);
+    run_line(out, line, addresses[0], addresses[1]);
 }
 
-fn answer_lines(input: &[u8]) {
+fn answer_lines(out: Stdout, input: &[u8]) {
     let mut at = 0;
     while at < input.len() {
-        answer_line(test_lines::line_at(input, at));
+        answer_line(out, test_lines::line_at(input, at));
         at = test_lines::after_line(input, at);
     }
 }
 
 // Nothing past the first 131,072 bytes is read.
-fn main() {
+fn main(rt: HostRuntime) {
     let mut space = [0u8; 131072];
-    let n = io::read_full(0, &mut space);
-    answer_lines(&space[..n]);
+    let n = test_lines::read_full(&mut rt.stdin(), &mut space);
+    answer_lines(rt.stdout(), &space[..n]);
 }

@@ -8,6 +8,7 @@ use crate::{
 use context::FieldDescriptorKind;
 use field::{FieldDescriptor, FieldIter, FieldRecord, FieldRecordStep, FieldStep};
 use runtime::FieldName;
+use std::io::Stdout;
 
 // The kind's number. The call for C adds 256 to the number of a kind that has no name.
 fn kind_number(kind: FieldDescriptorKind) -> u64 {
@@ -15,35 +16,48 @@ fn kind_number(kind: FieldDescriptorKind) -> u64 {
     if number < 256 { number } else { number - 256 }
 }
 
-fn unreadable() {
-    word(b"unreadable\n");
+fn unreadable(out: Stdout) {
+    word(out, b"unreadable\n");
 }
 
 // Records.
 
-fn name_line(image: &[u8], segments: &[u64], strings: &[u8], strings_va: u64, record: FieldRecord) {
-    word(b"name");
-    match field::field_name(image, segments, strings, strings_va, record) {
-        FieldName::Image { place, length } => three(1, place as u64, length as u64),
-        FieldName::Strings { place, length } => three(2, place as u64, length as u64),
-        FieldName::Nothing => nothing(),
-    }
-}
-
-fn record_lines(
+fn name_line(
+    out: Stdout,
     image: &[u8],
     segments: &[u64],
     strings: &[u8],
     strings_va: u64,
     record: FieldRecord,
 ) {
-    word(b"record");
-    one(record.flags as u64);
-    text_line(b"type", field::record_type_name(image, segments, record));
-    name_line(image, segments, strings, strings_va, record);
+    word(out, b"name");
+    match field::field_name(image, segments, strings, strings_va, record) {
+        FieldName::Image { place, length } => three(out, 1, place as u64, length as u64),
+        FieldName::Strings { place, length } => three(out, 2, place as u64, length as u64),
+        FieldName::Nothing => nothing(out),
+    }
+}
+
+fn record_lines(
+    out: Stdout,
+    image: &[u8],
+    segments: &[u64],
+    strings: &[u8],
+    strings_va: u64,
+    record: FieldRecord,
+) {
+    word(out, b"record");
+    one(out, record.flags as u64);
+    text_line(
+        out,
+        b"type",
+        field::record_type_name(image, segments, record),
+    );
+    name_line(out, image, segments, strings, strings_va, record);
 }
 
 fn records(
+    out: Stdout,
     image: &[u8],
     segments: &[u64],
     strings: &[u8],
@@ -57,31 +71,32 @@ fn records(
         let step = walk.next(image, segments, mapping);
         match step {
             FieldRecordStep::Record { record, next } => {
-                record_lines(image, segments, strings, strings_va, record);
+                record_lines(out, image, segments, strings, strings_va, record);
                 walk = next;
                 shown += 1;
             }
             FieldRecordStep::Unreadable { next } => {
-                unreadable();
+                unreadable(out);
                 walk = next;
                 shown += 1;
             }
             FieldRecordStep::End => {
-                done();
+                done(out);
                 return;
             }
         }
     }
-    after_shown(descriptor.num_fields);
+    after_shown(out, descriptor.num_fields);
 }
 
 // Descriptors.
 
-fn descriptor_line(descriptor: FieldDescriptor) {
+fn descriptor_line(out: Stdout, descriptor: FieldDescriptor) {
     let kind = descriptor.kind;
-    word(b"descriptor");
-    number_field(descriptor.address);
+    word(out, b"descriptor");
+    number_field(out, descriptor.address);
     three(
+        out,
         kind_number(kind),
         descriptor.field_record_size as u64,
         descriptor.num_fields as u64,
@@ -89,30 +104,34 @@ fn descriptor_line(descriptor: FieldDescriptor) {
 }
 
 fn descriptor_lines(
+    out: Stdout,
     image: &[u8],
     segments: &[u64],
     strings: &[u8],
     strings_va: u64,
     descriptor: FieldDescriptor,
 ) {
-    descriptor_line(descriptor);
+    descriptor_line(out, descriptor);
     text_line(
+        out,
         b"type",
         field::mangled_type_name(image, segments, descriptor),
     );
     text_line(
+        out,
         b"superclass",
         field::superclass_mangled_name(image, segments, descriptor),
     );
-    records(image, segments, strings, strings_va, descriptor);
+    records(out, image, segments, strings, strings_va, descriptor);
 }
 
-fn end_line() {
-    word(b"end\n");
+fn end_line(out: Stdout) {
+    word(out, b"end\n");
 }
 
 // The descriptors up to the end of the walk, from there on.
 fn walk_fields(
+    out: Stdout,
     image: &[u8],
     segments: &[u64],
     fields: &[u8],
@@ -129,23 +148,24 @@ fn walk_fields(
         let step = walk.next(fields, vmaddr);
         match step {
             FieldStep::Descriptor { descriptor, next } => {
-                descriptor_lines(image, segments, strings, strings_va, descriptor);
+                descriptor_lines(out, image, segments, strings, strings_va, descriptor);
                 walk = next;
                 given += 1;
             }
             FieldStep::End { next } => {
-                end_line();
+                end_line(out);
                 return next;
             }
         }
     }
-    bad_line();
+    bad_line(out);
     walk
 }
 
 // The descriptors of a section of fewer than 65,536 bytes: up to the end of the walk, and from there up to the next end. Returns where that
 // is.
 pub fn all_fields(
+    out: Stdout,
     image: &[u8],
     segments: &[u64],
     fields: &[u8],
@@ -156,6 +176,7 @@ pub fn all_fields(
     ensures { result ≡ walk_end fields.now vmaddr 4096 (walk_end fields.now vmaddr 4096 0) }
 {
     let stopped = walk_fields(
+        out,
         image,
         segments,
         fields,
@@ -165,7 +186,7 @@ pub fn all_fields(
         FieldIter::new(),
     );
     let again = walk_fields(
-        image, segments, fields, vmaddr, strings, strings_va, stopped,
+        out, image, segments, fields, vmaddr, strings, strings_va, stopped,
     );
     again.at
 }

@@ -42,6 +42,7 @@ mod rows;
 use crate::fields::all_fields;
 use crate::rows::all_rows;
 use refusal::Refusal;
+use std::io::Stdout;
 use test_lines::Count;
 use util::Text;
 
@@ -50,102 +51,115 @@ use util::Text;
 // How many entries of a table, records of a descriptor and offsets of a struct are written.
 const SHOWN: u32 = 12;
 
-fn word(text: &[u8]) {
-    io::write_all(1, text);
+// What could not be written is missing where the output is compared.
+fn word(out: Stdout, text: &[u8]) {
+    let _ = out.write_all(text);
 }
 
 // A space and a number.
-fn number_field(n: u64) {
-    io::write_all(1, b" ");
-    io::print_hex(1, n, 1);
+fn number_field(out: Stdout, n: u64) {
+    let _ = print!(out; " {n:x}");
 }
 
-fn newline() {
-    io::write_all(1, b"\n");
+fn newline(out: Stdout) {
+    word(out, b"\n");
 }
 
 // The rest of a line for an answer that is nothing.
-fn nothing() {
-    io::write_all(1, b" nothing\n");
+fn nothing(out: Stdout) {
+    word(out, b" nothing\n");
 }
 
 // The rest of a line of one, two or three numbers.
-fn one(a: u64) {
-    number_field(a);
-    newline();
+fn one(out: Stdout, a: u64) {
+    number_field(out, a);
+    newline(out);
 }
 
-fn two(a: u64, b: u64) {
-    number_field(a);
-    one(b);
+fn two(out: Stdout, a: u64, b: u64) {
+    number_field(out, a);
+    one(out, b);
 }
 
-fn three(a: u64, b: u64, c: u64) {
-    number_field(a);
-    two(b, c);
+fn three(out: Stdout, a: u64, b: u64, c: u64) {
+    number_field(out, a);
+    two(out, b, c);
 }
 
-fn refused(refusal: Refusal) {
-    word(b"refused");
-    one(refusal::number(refusal));
+fn refused(out: Stdout, refusal: Refusal) {
+    word(out, b"refused");
+    one(out, refusal::number(refusal));
 }
 
 // A text of the image.
-fn text_line(name: &[u8], text: Text) {
-    word(name);
+fn text_line(out: Stdout, name: &[u8], text: Text) {
+    word(out, name);
     match text {
-        Text::At { place, length } => two(place as u64, length as u64),
-        Text::Nothing => nothing(),
+        Text::At { place, length } => two(out, place as u64, length as u64),
+        Text::Nothing => nothing(out),
     }
 }
 
-fn done() {
-    word(b"done\n");
+fn done(out: Stdout) {
+    word(out, b"done\n");
 }
 
 // The line after the entries that are shown of a table of `count`.
-fn after_shown(count: u32) {
+fn after_shown(out: Stdout, count: u32) {
     if count > SHOWN {
-        word(b"more\n");
+        word(out, b"more\n");
     } else {
-        done();
+        done(out);
     }
 }
 
 // Lines of the input.
 
 // A line that is never expected: for an input line that cannot be read, or an answer that no call may give.
-fn bad_line() {
-    word(b"bad line\n");
+fn bad_line(out: Stdout) {
+    word(out, b"bad line\n");
 }
 
 // How many bytes or numbers a field has; if it cannot be read, 0, and a bad line.
-fn count(read: Count) -> usize {
+fn count(out: Stdout, read: Count) -> usize {
     match read {
         Count::Of(n) => n,
         Count::Bad => {
-            bad_line();
+            bad_line(out);
             0
         }
     }
 }
 
 // The line's image, segments and sections, and all its answers.
-fn run_line(line: &[u8], types_va: u64, fields_va: u64, strings_va: u64) {
+fn run_line(out: Stdout, line: &[u8], types_va: u64, fields_va: u64, strings_va: u64) {
     let mut image = [0u8; 1024];
     let mut types = [0u8; 256];
     let mut fields = [0u8; 512];
     let mut strings = [0u8; 256];
     let mut segments = [0u64; 64];
-    let bytes = count(test_lines::parse_bytes(test_lines::field(line, 1), &mut image));
-    let slots = count(test_lines::parse_bytes(test_lines::field(line, 3), &mut types));
-    let headers = count(test_lines::parse_bytes(test_lines::field(line, 5), &mut fields));
-    let names = count(test_lines::parse_bytes(test_lines::field(line, 7), &mut strings));
-    let numbers = count(test_lines::parse_list(line, 8, &mut segments));
+    let bytes = count(
+        out,
+        test_lines::parse_bytes(test_lines::field(line, 1), &mut image),
+    );
+    let slots = count(
+        out,
+        test_lines::parse_bytes(test_lines::field(line, 3), &mut types),
+    );
+    let headers = count(
+        out,
+        test_lines::parse_bytes(test_lines::field(line, 5), &mut fields),
+    );
+    let names = count(
+        out,
+        test_lines::parse_bytes(test_lines::field(line, 7), &mut strings),
+    );
+    let numbers = count(out, test_lines::parse_list(line, 8, &mut segments));
     let whole = util::part(&image, 0, bytes);
     let list = test_lines::first(&segments, numbers);
-    all_rows(whole, list, util::part(&types, 0, slots), types_va);
+    all_rows(out, whole, list, util::part(&types, 0, slots), types_va);
     all_fields(
+        out,
         whole,
         list,
         util::part(&fields, 0, headers),
@@ -155,30 +169,30 @@ fn run_line(line: &[u8], types_va: u64, fields_va: u64, strings_va: u64) {
     );
 }
 
-fn answer_line(line: &[u8]) {
+fn answer_line(out: Stdout, line: &[u8]) {
     if !test_lines::same(test_lines::field(line, 0), b"input") {
-        bad_line();
+        bad_line(out);
         return;
     }
     let mut addresses = [0u64; 3];
     if !test_lines::parse_numbers(line, 2, 2, &mut addresses) {
-        bad_line();
+        bad_line(out);
         return;
     }
-    run_line(line, addresses[0], addresses[1], addresses[2]);
+    run_line(out, line, addresses[0], addresses[1], addresses[2]);
 }
 
-fn answer_lines(input: &[u8]) {
+fn answer_lines(out: Stdout, input: &[u8]) {
     let mut at = 0;
     while at < input.len() {
-        answer_line(test_lines::line_at(input, at));
+        answer_line(out, test_lines::line_at(input, at));
         at = test_lines::after_line(input, at);
     }
 }
 
 // Nothing past the first 131,072 bytes is read.
-fn main() {
+fn main(rt: HostRuntime) {
     let mut space = [0u8; 131072];
-    let n = io::read_full(0, &mut space);
-    answer_lines(&space[..n]);
+    let n = test_lines::read_full(&mut rt.stdin(), &mut space);
+    answer_lines(rt.stdout(), &space[..n]);
 }

@@ -8,98 +8,102 @@ use crate::{
 };
 use classtrailers::{Block, BlockBody, BlockKind, KindRead};
 use field_offsets::{FieldOffset, FieldOffsets};
+use std::io::Stdout;
 use steps::{BlockAnswer, BodyAnswer, InitAnswer, NextBlock, NextRow, PointerAnswer, TextAnswer};
 use type_body::{ClassBody, ClassSizes, SingletonMetadataInit, SingletonMetadataPointer, TypeBody};
 use typedescriptor::{Row, TypeIter};
 
 // Bodies.
 
-fn class_line(class: ClassBody) {
+fn class_line(out: Stdout, class: ClassBody) {
     let sizes = class.sizes;
     match sizes {
         ClassSizes::Fixed {
             negative_words,
             positive_words,
         } => {
-            word(b"fixed");
-            number_field(negative_words as u64);
-            number_field(positive_words as u64);
+            word(out, b"fixed");
+            number_field(out, negative_words as u64);
+            number_field(out, positive_words as u64);
         }
         ClassSizes::Resilient {
             bounds_va,
             extra_class_flags,
         } => {
-            word(b"resilient");
-            number_field(bounds_va);
-            number_field(extra_class_flags as u64);
+            word(out, b"resilient");
+            number_field(out, bounds_va);
+            number_field(out, extra_class_flags as u64);
         }
     }
     three(
+        out,
         class.num_immediate_members as u64,
         class.num_fields as u64,
         class.field_offset_vector_offset as u64,
     );
 }
 
-fn superclass_line(image: &[u8], segments: &[u64], body: TypeBody) {
+fn superclass_line(out: Stdout, image: &[u8], segments: &[u64], body: TypeBody) {
     match steps::superclass_name(image, segments, body) {
-        TextAnswer::Text(text) => text_line(b"superclass", text),
-        TextAnswer::Refused(refusal) => refused(refusal),
+        TextAnswer::Text(text) => text_line(out, b"superclass", text),
+        TextAnswer::Refused(refusal) => refused(out, refusal),
     }
 }
 
-fn body_lines(image: &[u8], segments: &[u64], body: TypeBody) {
+fn body_lines(out: Stdout, image: &[u8], segments: &[u64], body: TypeBody) {
     match body {
         TypeBody::Class(class) => {
-            class_line(class);
-            superclass_line(image, segments, body);
+            class_line(out, class);
+            superclass_line(out, image, segments, body);
         }
         TypeBody::Struct(fields) => {
-            word(b"struct");
+            word(out, b"struct");
             two(
+                out,
                 fields.num_fields as u64,
                 fields.field_offset_vector_offset as u64,
             );
         }
         TypeBody::Enum(cases) => {
-            word(b"enum");
+            word(out, b"enum");
             three(
+                out,
                 cases.num_payload_cases as u64,
                 cases.payload_size_offset as u64,
                 cases.num_empty_cases as u64,
             );
         }
-        TypeBody::Nothing => word(b"bodiless\n"),
+        TypeBody::Nothing => word(out, b"bodiless\n"),
     }
 }
 
 // Blocks.
 
 // The rest of a block's line: its kind and its numbers. A vtable has one more than the other tables.
-fn block_end(block: Block) {
+fn block_end(out: Stdout, block: Block) {
     let its_kind = block.kind;
     let kind = classtrailers::number_of(its_kind) as u64;
     let body = block.body;
     match body {
-        BlockBody::At(address) => two(kind, address),
+        BlockBody::At(address) => two(out, kind, address),
         BlockBody::Table {
             offset,
             count,
             entries_va,
         } => {
             if kind == 4 {
-                number_field(kind);
-                three(offset as u64, count as u64, entries_va);
+                number_field(out, kind);
+                three(out, offset as u64, count as u64, entries_va);
             } else {
-                three(kind, count as u64, entries_va);
+                three(out, kind, count as u64, entries_va);
             }
         }
-        BlockBody::Set { bits, protocols } => three(kind, bits as u64, protocols as u64),
+        BlockBody::Set { bits, protocols } => three(out, kind, bits as u64, protocols as u64),
     }
 }
 
-fn init_line(image: &[u8], segments: &[u64], address: u64) {
-    word(b"init");
+fn init_line(out: Stdout, image: &[u8], segments: &[u64], address: u64) {
+    word(out, b"init");
     match steps::singleton_init(image, segments, address) {
         InitAnswer::Init(init) => match init {
             SingletonMetadataInit::At {
@@ -107,36 +111,37 @@ fn init_line(image: &[u8], segments: &[u64], address: u64) {
                 incomplete_metadata_va,
                 completion_function_va,
             } => three(
+                out,
                 initialization_cache_va,
                 incomplete_metadata_va,
                 completion_function_va,
             ),
-            SingletonMetadataInit::Nothing => nothing(),
+            SingletonMetadataInit::Nothing => nothing(out),
         },
-        InitAnswer::Refused(refusal) => refused(refusal),
+        InitAnswer::Refused(refusal) => refused(out, refusal),
     }
 }
 
-fn pointer_line(image: &[u8], segments: &[u64], address: u64) {
-    word(b"pointer");
+fn pointer_line(out: Stdout, image: &[u8], segments: &[u64], address: u64) {
+    word(out, b"pointer");
     match steps::singleton_pointer(image, segments, address) {
         PointerAnswer::Pointer(pointer) => match pointer {
-            SingletonMetadataPointer::At(metadata_va) => one(metadata_va),
-            SingletonMetadataPointer::Nothing => nothing(),
+            SingletonMetadataPointer::At(metadata_va) => one(out, metadata_va),
+            SingletonMetadataPointer::Nothing => nothing(out),
         },
-        PointerAnswer::Refused(refusal) => refused(refusal),
+        PointerAnswer::Refused(refusal) => refused(out, refusal),
     }
 }
 
 // What lies at a block: its record or its entries.
-fn detail_lines(image: &[u8], segments: &[u64], block: Block) {
+fn detail_lines(out: Stdout, image: &[u8], segments: &[u64], block: Block) {
     let its_kind = block.kind;
     let kind = classtrailers::number_of(its_kind);
     let body = block.body;
     match body {
         BlockBody::At(address) => match kind {
-            3 => init_line(image, segments, address),
-            9 => pointer_line(image, segments, address),
+            3 => init_line(out, image, segments, address),
+            9 => pointer_line(out, image, segments, address),
             _ => {}
         },
         BlockBody::Table {
@@ -144,7 +149,7 @@ fn detail_lines(image: &[u8], segments: &[u64], block: Block) {
             count,
             entries_va,
         } => {
-            entries(image, segments, entry_kind(kind), entries_va, count);
+            entries(out, image, segments, entry_kind(kind), entries_va, count);
         }
         BlockBody::Set {
             bits: _,
@@ -163,21 +168,21 @@ fn entry_kind(kind: u32) -> Kind {
     }
 }
 
-fn block_line(image: &[u8], segments: &[u64], block: Block) {
-    word(b"block");
-    block_end(block);
-    detail_lines(image, segments, block);
+fn block_line(out: Stdout, image: &[u8], segments: &[u64], block: Block) {
+    word(out, b"block");
+    block_end(out, block);
+    detail_lines(out, image, segments, block);
 }
 
 // There are at most 11 blocks, and then the end.
-fn block_lines(image: &[u8], segments: &[u64], row: Row, body: TypeBody) {
+fn block_lines(out: Stdout, image: &[u8], segments: &[u64], row: Row, body: TypeBody) {
     let mut walk = steps::block_walk(row.address, row.flags, body);
     let mut given: u32 = 0;
     while given < 12 {
         let step = steps::next_block(image, segments, walk);
         match step {
             NextBlock::Block { block, next } => {
-                block_line(image, segments, block);
+                block_line(out, image, segments, block);
                 walk = next;
                 given += 1;
             }
@@ -185,99 +190,111 @@ fn block_lines(image: &[u8], segments: &[u64], row: Row, body: TypeBody) {
                 return;
             }
             NextBlock::Refused(refusal) => {
-                refused(refusal);
+                refused(out, refusal);
                 return;
             }
         }
     }
-    bad_line();
+    bad_line(out);
 }
 
-fn kind_line(image: &[u8], segments: &[u64], row: Row, body: TypeBody, kind: BlockKind) {
+fn kind_line(
+    out: Stdout,
+    image: &[u8],
+    segments: &[u64],
+    row: Row,
+    body: TypeBody,
+    kind: BlockKind,
+) {
     match steps::block_of_kind(image, segments, row.address, row.flags, body, kind) {
         BlockAnswer::Block(block) => {
-            word(b"kind");
-            block_end(block);
+            word(out, b"kind");
+            block_end(out, block);
         }
         BlockAnswer::Nothing => {}
-        BlockAnswer::Refused(refusal) => refused(refusal),
+        BlockAnswer::Refused(refusal) => refused(out, refusal),
     }
 }
 
 // The block of each of the 11 kinds.
-fn kind_lines(image: &[u8], segments: &[u64], row: Row, body: TypeBody) {
+fn kind_lines(out: Stdout, image: &[u8], segments: &[u64], row: Row, body: TypeBody) {
     for number in 0..11 {
         match classtrailers::kind_numbered(number) {
-            KindRead::Kind(kind) => kind_line(image, segments, row, body, kind),
-            KindRead::Nothing => bad_line(),
+            KindRead::Kind(kind) => kind_line(out, image, segments, row, body, kind),
+            KindRead::Nothing => bad_line(out),
         }
     }
 }
 
 // Field offsets.
 
-fn offset_field(image: &[u8], offsets: FieldOffsets, number: u32) {
+fn offset_field(out: Stdout, image: &[u8], offsets: FieldOffsets, number: u32) {
     match field_offsets::field_offset(image, offsets, number) {
-        FieldOffset::At(offset) => number_field(offset as u64),
-        FieldOffset::Nothing => nothing(),
+        FieldOffset::At(offset) => number_field(out, offset as u64),
+        FieldOffset::Nothing => nothing(out),
     }
 }
 
-fn offset_fields(image: &[u8], offsets: FieldOffsets, count: u32) {
+fn offset_fields(out: Stdout, image: &[u8], offsets: FieldOffsets, count: u32) {
     let mut number: u32 = 0;
     while number < SHOWN {
         if count <= number {
             return;
         }
-        offset_field(image, offsets, number);
+        offset_field(out, image, offsets, number);
         number += 1;
     }
 }
 
-fn offsets_line(image: &[u8], segments: &[u64], row: Row) {
-    word(b"offsets");
+fn offsets_line(out: Stdout, image: &[u8], segments: &[u64], row: Row) {
+    word(out, b"offsets");
     let offsets = field_offsets::static_field_offsets(image, segments, row.address, row.flags);
     match offsets {
         FieldOffsets::At { place: _, count } => {
-            number_field(count as u64);
-            offset_fields(image, offsets, count);
-            newline();
+            number_field(out, count as u64);
+            offset_fields(out, image, offsets, count);
+            newline(out);
         }
-        FieldOffsets::Nothing => nothing(),
+        FieldOffsets::Nothing => nothing(out),
     }
 }
 
 // Rows.
 
-fn row_line(slot: usize, row: Row) {
-    word(b"row");
-    number_field(slot as u64);
-    number_field(row.address);
-    number_field(row.flags as u64);
-    three(row.parent, row.name_place as u64, row.name_length as u64);
+fn row_line(out: Stdout, slot: usize, row: Row) {
+    word(out, b"row");
+    number_field(out, slot as u64);
+    number_field(out, row.address);
+    number_field(out, row.flags as u64);
+    three(
+        out,
+        row.parent,
+        row.name_place as u64,
+        row.name_length as u64,
+    );
 }
 
-fn row_lines(image: &[u8], segments: &[u64], slot: usize, row: Row) {
-    row_line(slot, row);
+fn row_lines(out: Stdout, image: &[u8], segments: &[u64], slot: usize, row: Row) {
+    row_line(out, slot, row);
     match steps::row_body(image, segments, row.address, row.flags) {
         BodyAnswer::Body(body) => {
-            body_lines(image, segments, body);
-            block_lines(image, segments, row, body);
-            kind_lines(image, segments, row, body);
+            body_lines(out, image, segments, body);
+            block_lines(out, image, segments, row, body);
+            kind_lines(out, image, segments, row, body);
         }
-        BodyAnswer::Refused(refusal) => refused(refusal),
+        BodyAnswer::Refused(refusal) => refused(out, refusal),
     }
-    offsets_line(image, segments, row);
-    at_row(image, segments, row.address);
+    offsets_line(out, image, segments, row);
+    at_row(out, image, segments, row.address);
 }
 
-fn rows_line(rows: u64) {
-    word(b"rows");
-    one(rows);
+fn rows_line(out: Stdout, rows: u64) {
+    word(out, b"rows");
+    one(out, rows);
 }
 
 // Writes the first 4,096 rows of a types section, and returns how many there are.
-pub fn all_rows(image: &[u8], segments: &[u64], types: &[u8], vmaddr: u64) -> u64
+pub fn all_rows(out: Stdout, image: &[u8], segments: &[u64], types: &[u8], vmaddr: u64) -> u64
     ensures { result ≡ rows_shown image.now segments.now types.now vmaddr }
 {
     let mut walk = TypeIter::new();
@@ -286,20 +303,20 @@ pub fn all_rows(image: &[u8], segments: &[u64], types: &[u8], vmaddr: u64) -> u6
         let step = steps::next_row(image, segments, types, vmaddr, walk);
         match step {
             NextRow::Row { slot, row, next } => {
-                row_lines(image, segments, slot, row);
+                row_lines(out, image, segments, slot, row);
                 walk = next;
                 rows += 1;
             }
             NextRow::End => {
-                rows_line(rows);
+                rows_line(out, rows);
                 return rows;
             }
             NextRow::Refused(refusal) => {
-                refused(refusal);
+                refused(out, refusal);
                 return 0;
             }
         }
     }
-    bad_line();
+    bad_line(out);
     rows
 }
