@@ -297,12 +297,9 @@ fn try_all(out: Stdout, image: &[u8], segments: &[u64]) {
 }
 
 fn try_list(out: Stdout, image: &[u8], numbers: &[u64]) {
-    let mut count = 0;
-    while count < numbers.len() {
+    for count in 0..=numbers.len() {
         try_all(out, image, &numbers[..count]);
-        count += 1;
     }
-    try_all(out, image, numbers);
 }
 
 fn main(rt: HostRuntime) {

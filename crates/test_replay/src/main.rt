@@ -80,10 +80,8 @@ fn name_line(out: Stdout, name: &[u8]) {
     if name.len() == 0 {
         write(out, b"-");
     }
-    let mut i = 0;
-    while i < name.len() {
-        byte_digits(out, name[i]);
-        i += 1;
+    for b in name {
+        byte_digits(out, *b);
     }
     write(out, b"\n");
 }
@@ -144,14 +142,12 @@ fn depth_line(out: Stdout, depth: u64) {
 // The contexts from a row's parent on. A walk gives at most 256, and then its end.
 fn context_lines(out: Stdout, image: &[u8], segments: &[u64], parent: u64) {
     let mut walk = ParentChain::starting_at(parent);
-    let mut depth: u64 = 0;
-    while depth < 257 {
+    for depth in 0..257 {
         let step = steps::next_context(image, segments, walk);
         match step {
             NextContext::Context { context, next } => {
                 shown(out, depth, context);
                 walk = next;
-                depth += 1;
             }
             NextContext::End => {
                 depth_line(out, depth);
@@ -190,14 +186,12 @@ fn end_line(out: Stdout, rows: u64) {
 // The rows of a types section of fewer than 4,096 slots.
 fn all_rows(out: Stdout, image: &[u8], segments: &[u64], types: &[u8], vmaddr: u64) {
     let mut walk = TypeIter::new();
-    let mut rows: u64 = 0;
-    while rows < 4096 {
+    for rows in 0..4096 {
         let step = steps::next_row(image, segments, types, vmaddr, walk);
         match step {
             NextRow::Row { slot, row, next } => {
                 row_lines(out, image, segments, slot, row);
                 walk = next;
-                rows += 1;
             }
             NextRow::End => {
                 end_line(out, rows);
@@ -279,13 +273,11 @@ fn all_addresses(
     section: u64,
     addresses: &[u64],
 ) {
-    let mut i = 0;
-    while i < addresses.len() {
-        let address = addresses[i];
+    for address in addresses {
+        let address = *address;
         offset_line(out, segments, address);
         field_line(out, image, segments, strings, section, address);
         text_line(out, image, offset_by(image, address));
-        i += 1;
     }
 }
 

@@ -62,15 +62,13 @@ pub fn entries(
     ensures { result ≡ min count 12 }
 {
     let most = at_most_shown(count);
-    let mut next: u32 = 0;
-    while next < most {
+    for next in 0..most {
         let cursor = EntryIter {
             base_va,
             count,
             next,
         };
         entry_line(out, image, segments, kind, cursor);
-        next += 1;
     }
     after_shown(out, count);
     most

@@ -66,19 +66,16 @@ fn records(
 ) {
     let mut walk = descriptor.records();
     let mapping = walk.locate(segments);
-    let mut shown: u32 = 0;
-    while shown < SHOWN {
+    for _ in 0..SHOWN {
         let step = walk.next(image, segments, mapping);
         match step {
             FieldRecordStep::Record { record, next } => {
                 record_lines(out, image, segments, strings, strings_va, record);
                 walk = next;
-                shown += 1;
             }
             FieldRecordStep::Unreadable { next } => {
                 unreadable(out);
                 walk = next;
-                shown += 1;
             }
             FieldRecordStep::End => {
                 done(out);

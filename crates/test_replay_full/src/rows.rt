@@ -177,14 +177,12 @@ fn block_line(out: Stdout, image: &[u8], segments: &[u64], block: Block) {
 // There are at most 11 blocks, and then the end.
 fn block_lines(out: Stdout, image: &[u8], segments: &[u64], row: Row, body: TypeBody) {
     let mut walk = steps::block_walk(row.address, row.flags, body);
-    let mut given: u32 = 0;
-    while given < 12 {
+    for _ in 0..12 {
         let step = steps::next_block(image, segments, walk);
         match step {
             NextBlock::Block { block, next } => {
                 block_line(out, image, segments, block);
                 walk = next;
-                given += 1;
             }
             NextBlock::End => {
                 return;
@@ -236,13 +234,11 @@ fn offset_field(out: Stdout, image: &[u8], offsets: FieldOffsets, number: u32) {
 }
 
 fn offset_fields(out: Stdout, image: &[u8], offsets: FieldOffsets, count: u32) {
-    let mut number: u32 = 0;
-    while number < SHOWN {
+    for number in 0..SHOWN {
         if count <= number {
             return;
         }
         offset_field(out, image, offsets, number);
-        number += 1;
     }
 }
 

@@ -65,10 +65,8 @@ fn bytes_line(out: Stdout, part: &[u8], again: &[u8]) {
     if part.len() == 0 {
         write(out, b"-");
     }
-    let mut i = 0;
-    while i < part.len() {
-        byte_digits(out, part[i]);
-        i += 1;
+    for b in part {
+        byte_digits(out, *b);
     }
     write(out, b"\n");
 }
@@ -105,12 +103,10 @@ fn read_u64_le_at(out: Stdout, s: &[u8], off: usize) {
 
 // A sign and the magnitude.
 fn signed_line(out: Stdout, n: i32) {
-    if n >= 0 {
-        number_line(out, n as u64);
-    } else {
+    if n < 0 {
         write(out, b"-");
-        number_line(out, (-(n as i64)) as u64);
     }
+    number_line(out, n.unsigned_abs() as u64);
 }
 
 fn read_i32_le_at(out: Stdout, s: &[u8], off: usize) {
