@@ -9,7 +9,7 @@ ghost use Rattle.util.specs.Cstr.{place, part_of};
 ghost use Rattle.bundle.specs.Open.{bundle_most};
 ghost use Rattle.type_lines.specs.Lines.{line_text};
 ghost use Rattle.bundle_lines.specs.Printed.{pending_of, print_step, printed, lines_most, taken};
-ghost use Rattle.list.specs.Input.{Came};
+ghost use Rattle.list.specs.Input.{Came, CameFrom};
 
 mod reason;
 
@@ -223,7 +223,8 @@ pub enum Input {
 
 // Reads to the end, or until the space is full.
 fn read_input<R: Read>(from: &mut R, space: &mut [u8]) -> Input
-    ensures { Came space.new result }
+    ensures count { Came space.new result }
+    ensures bytes { CameFrom (R.remaining from.old) (R.remaining from.new) space.new result }
 {
     let mut n: usize = 0;
     while n < space.len() {
