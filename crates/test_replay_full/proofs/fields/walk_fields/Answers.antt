@@ -1,7 +1,5 @@
 -- `test_replay_full::fields::walk_fields` meets its contract, and ends: at most 4,096 descriptors are read.
 use Rattle.std.proofs.Common.{refl, sym, ◌∙◌, arith}
-use Rattle.util.proofs.AnswersLaws.{told}
-use Rattle.field.specs.Fields.{field_step_of}
 use Rattle.test_replay_full.proofs.ShownLaws.{end_here, end_further, end_over}
 use Rattle.test_replay_full.proofs.fields.walk_fields.Goals as goal
 

@@ -4,7 +4,7 @@ use Rattle.test_replay_full.proofs.ShownLaws.{start_showing, shown_whole, none_s
 use Rattle.test_replay_full.proofs.rows.all_rows.Goals as goal
 
 pub loop-rows-init : goal.loop-rows-init
-loop-rows-init c = (omega arith, start_showing _ _ _ _ _ c.new.ensures, λ z. absurd (omega arith))
+loop-rows-init c = (omega arith, start_showing _ _ _ _ _ c.new-walk.ensures, λ z. absurd (omega arith))
 
 pub loop-rows-preserved : goal.loop-rows-preserved
 loop-rows-preserved c = (
