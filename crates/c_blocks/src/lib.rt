@@ -1,6 +1,6 @@
 // The walk over the blocks that trail a descriptor, for programs in C or Rust, by the rules of the crate `c_rows`, in an archive of its
-// own: a reader that only one call uses is compiled into that call. A kind is its number in the order in which blocks follow each other,
-// and a block's three numbers are those of a full row.
+// own (`c_blocks_c`): a reader that only one call uses is compiled into that call. A kind is its number in the order in which blocks follow
+// each other, and a block's three numbers are those of a full row.
 #![tactic(auto)]
 
 ghost use Rattle.std.specs.Prelude.{◌≡◌};
@@ -32,8 +32,7 @@ fn start_numbers(read: TrailingRead) -> [u64; 4]
 
 // Where the walk over a descriptor's blocks starts: 1, whether it is a class, the extra class flags (0 if there are none), and the
 // address of the first block. A walk starts at row 0.
-#[unsafe(no_mangle)]
-pub extern "C" fn hodrupec_first_block(
+pub fn hodrupec_first_block(
     image: &[u8],
     segments: &[u64],
     address: u64,
@@ -52,8 +51,7 @@ pub extern "C" fn hodrupec_first_block(
 }
 
 // A step of the walk: 1, the block's kind and its three numbers, and the row and the address from which the walk goes on.
-#[unsafe(no_mangle)]
-pub extern "C" fn hodrupec_next_block(
+pub fn hodrupec_next_block(
     image: &[u8],
     segments: &[u64],
     flags: u32,

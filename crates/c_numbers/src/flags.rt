@@ -91,8 +91,7 @@ fn method_number(kind: SwiftMethodKind) -> u64
 }
 
 // 1, the kind, whether it is a type's, invertible protocols, unique, generic, the kind-specific half, and that half as a type's flags.
-#[unsafe(no_mangle)]
-pub extern "C" fn hodrupec_context_flags(word: u32, out: &mut [u64; 8]) -> u64
+pub fn hodrupec_context_flags(word: u32, out: &mut [u64; 8]) -> u64
     ensures { (result ≡ 0) × (out.new ≡ context_flag_numbers word) }
 {
     let flags = ContextDescriptorFlags(word);
@@ -112,8 +111,7 @@ pub extern "C" fn hodrupec_context_flags(word: u32, out: &mut [u64; 8]) -> u64
 }
 
 // 1, the initialization, import info, bit 3 and its two meanings, layout string.
-#[unsafe(no_mangle)]
-pub extern "C" fn hodrupec_type_flags(word: u16, out: &mut [u64; 7]) -> u64
+pub fn hodrupec_type_flags(word: u16, out: &mut [u64; 7]) -> u64
     ensures { (result ≡ 0) × (out.new ≡ type_flag_numbers word) }
 {
     let flags = TypeContextDescriptorFlags(word);
@@ -131,8 +129,7 @@ pub extern "C" fn hodrupec_type_flags(word: u16, out: &mut [u64; 7]) -> u64
 
 // For a class: 1, default override table, actor, default actor, the kind of the reference to the superclass, negative members, resilient
 // superclass, override table, vtable.
-#[unsafe(no_mangle)]
-pub extern "C" fn hodrupec_class_flags(word: u16, out: &mut [u64; 9]) -> u64
+pub fn hodrupec_class_flags(word: u16, out: &mut [u64; 9]) -> u64
     ensures { (result ≡ 0) × (out.new ≡ class_flag_numbers word) }
 {
     let flags = TypeContextDescriptorFlags(word);
@@ -152,8 +149,7 @@ pub extern "C" fn hodrupec_class_flags(word: u16, out: &mut [u64; 9]) -> u64
 
 // 1, the kind of the reference to the type, retroactive, synthesized, conditional requirements, resilient witnesses, generic witness table, of a
 // protocol, global actor isolation, conditional pack descriptors.
-#[unsafe(no_mangle)]
-pub extern "C" fn hodrupec_conformance_flags(word: u32, out: &mut [u64; 10]) -> u64
+pub fn hodrupec_conformance_flags(word: u32, out: &mut [u64; 10]) -> u64
     ensures { (result ≡ 0) × (out.new ≡ conformance_flag_numbers word) }
 {
     let flags = ConformanceFlags(word);
@@ -173,8 +169,7 @@ pub extern "C" fn hodrupec_conformance_flags(word: u32, out: &mut [u64; 10]) -> 
 }
 
 // 1 and the kind of a field descriptor.
-#[unsafe(no_mangle)]
-pub extern "C" fn hodrupec_field_kind(raw: u16, out: &mut [u64; 2]) -> u64
+pub fn hodrupec_field_kind(raw: u16, out: &mut [u64; 2]) -> u64
     ensures { (result ≡ 0) × (out.new ≡ field_kind_numbers raw) }
 {
     *out = [1, field_kind_number(FieldDescriptorKind::from_bits(raw))];
@@ -182,8 +177,7 @@ pub extern "C" fn hodrupec_field_kind(raw: u16, out: &mut [u64; 2]) -> u64
 }
 
 // 1, indirect case, var, artificial.
-#[unsafe(no_mangle)]
-pub extern "C" fn hodrupec_field_flags(word: u32, out: &mut [u64; 4]) -> u64
+pub fn hodrupec_field_flags(word: u32, out: &mut [u64; 4]) -> u64
     ensures { (result ≡ 0) × (out.new ≡ field_flag_numbers word) }
 {
     let flags = FieldRecordFlags(word);
@@ -197,8 +191,7 @@ pub extern "C" fn hodrupec_field_flags(word: u32, out: &mut [u64; 4]) -> u64
 }
 
 // 1, the kind, instance, dynamic, async, extended context, extra discriminator.
-#[unsafe(no_mangle)]
-pub extern "C" fn hodrupec_method_flags(word: u32, out: &mut [u64; 7]) -> u64
+pub fn hodrupec_method_flags(word: u32, out: &mut [u64; 7]) -> u64
     ensures { (result ≡ 0) × (out.new ≡ method_flag_numbers word) }
 {
     let flags = MethodDescriptorFlags(word);

@@ -40,8 +40,7 @@ fn bits(z: i64) -> u64
 }
 
 // 1, the number at the start of the bytes, and how many bytes it has.
-#[unsafe(no_mangle)]
-pub extern "C" fn hodrupec_uleb128(bytes: &[u8], out: &mut [u64; 3]) -> u64
+pub fn hodrupec_uleb128(bytes: &[u8], out: &mut [u64; 3]) -> u64
     ensures { (result ≡ 0) × (out.new ≡ uleb_numbers (uleb128 bytes.now)) }
 {
     match leb128::read_uleb128(bytes) {
@@ -56,8 +55,7 @@ pub extern "C" fn hodrupec_uleb128(bytes: &[u8], out: &mut [u64; 3]) -> u64
 }
 
 // The same for a signed number, as its 64 bits.
-#[unsafe(no_mangle)]
-pub extern "C" fn hodrupec_sleb128(bytes: &[u8], out: &mut [u64; 3]) -> u64
+pub fn hodrupec_sleb128(bytes: &[u8], out: &mut [u64; 3]) -> u64
     ensures { (result ≡ 0) × (out.new ≡ sleb_numbers (sleb128 bytes.now)) }
 {
     match leb128::read_sleb128(bytes) {
@@ -72,8 +70,7 @@ pub extern "C" fn hodrupec_sleb128(bytes: &[u8], out: &mut [u64; 3]) -> u64
 }
 
 // 1 and the number at an offset, the highest byte first.
-#[unsafe(no_mangle)]
-pub extern "C" fn hodrupec_u32_be(data: &[u8], off: usize, out: &mut [u64; 2]) -> u64
+pub fn hodrupec_u32_be(data: &[u8], off: usize, out: &mut [u64; 2]) -> u64
     ensures { (result ≡ 0) × (out.new ≡ value_numbers (big_at 4 «data».now off)) }
 {
     match util::read_u32_be_at(data, off) {
@@ -87,8 +84,7 @@ pub extern "C" fn hodrupec_u32_be(data: &[u8], off: usize, out: &mut [u64; 2]) -
     0
 }
 
-#[unsafe(no_mangle)]
-pub extern "C" fn hodrupec_u64_be(data: &[u8], off: usize, out: &mut [u64; 2]) -> u64
+pub fn hodrupec_u64_be(data: &[u8], off: usize, out: &mut [u64; 2]) -> u64
     ensures { (result ≡ 0) × (out.new ≡ value_numbers (big_at 8 «data».now off)) }
 {
     match util::read_u64_be_at(data, off) {
@@ -103,8 +99,7 @@ pub extern "C" fn hodrupec_u64_be(data: &[u8], off: usize, out: &mut [u64; 2]) -
 }
 
 // 1 and the length of the text at the start of a field of fixed size.
-#[unsafe(no_mangle)]
-pub extern "C" fn hodrupec_fixed_text(bytes: &[u8], out: &mut [u64; 2]) -> u64
+pub fn hodrupec_fixed_text(bytes: &[u8], out: &mut [u64; 2]) -> u64
     ensures { (result ≡ 0) × (out.new ≡ length_numbers (fixed_text bytes.now)) }
 {
     let text = util::cstr_from_fixed(bytes);
@@ -113,8 +108,7 @@ pub extern "C" fn hodrupec_fixed_text(bytes: &[u8], out: &mut [u64; 2]) -> u64
 }
 
 // 1 and the address of a file offset.
-#[unsafe(no_mangle)]
-pub extern "C" fn hodrupec_vm_address(segments: &[u64], offset: u64, out: &mut [u64; 2]) -> u64
+pub fn hodrupec_vm_address(segments: &[u64], offset: u64, out: &mut [u64; 2]) -> u64
     ensures { Tells (mapped value_numbers (guarded segments.now (answered (vm_address (segments_of segments.now) offset)))) out.old result out.new }
 {
     if let Fault::Refused(refusal) = refusal::find_fault(segments) {

@@ -50,8 +50,7 @@ pub fn field_name_numbers(name: FieldName) -> [u64; 3]
 }
 
 // 1 and the file offset of an address.
-#[unsafe(no_mangle)]
-pub extern "C" fn hodrupec_file_offset(segments: &[u64], vmaddr: u64, out: &mut [u64; 2]) -> u64
+pub fn hodrupec_file_offset(segments: &[u64], vmaddr: u64, out: &mut [u64; 2]) -> u64
     ensures { Tells (mapped value_numbers (guarded segments.now (answered (file_offset (segments_of segments.now) vmaddr)))) out.old result out.new }
 {
     if let Fault::Refused(refusal) = refusal::find_fault(segments) {
@@ -65,8 +64,7 @@ pub extern "C" fn hodrupec_file_offset(segments: &[u64], vmaddr: u64, out: &mut 
 }
 
 // 1, place and length of the text at an offset. It takes no segments, and refuses nothing.
-#[unsafe(no_mangle)]
-pub extern "C" fn hodrupec_text(data: &[u8], off: usize, out: &mut [u64; 3]) -> u64
+pub fn hodrupec_text(data: &[u8], off: usize, out: &mut [u64; 3]) -> u64
     ensures { Tells (answered (text_numbers (text_at «data».now off))) out.old result out.new }
 {
     *out = text_numbers(util::read_cstr_at(data, off));
@@ -74,8 +72,7 @@ pub extern "C" fn hodrupec_text(data: &[u8], off: usize, out: &mut [u64; 3]) -> 
 }
 
 // The numbers of the field name at an address.
-#[unsafe(no_mangle)]
-pub extern "C" fn hodrupec_field_name(
+pub fn hodrupec_field_name(
     image: &[u8],
     segments: &[u64],
     strings: &[u8],
@@ -101,8 +98,7 @@ pub extern "C" fn hodrupec_field_name(
 }
 
 // The next row from a slot on: 1, its slot, the slot to go on from, address, flags, parent, and the name's place and length.
-#[unsafe(no_mangle)]
-pub extern "C" fn hodrupec_next_row(
+pub fn hodrupec_next_row(
     image: &[u8],
     segments: &[u64],
     types: &[u8],
@@ -136,8 +132,7 @@ pub extern "C" fn hodrupec_next_row(
 
 // A step of a walk that stands at an address and has given `given` contexts: 1, address, flags, the address to go on from, how many
 // have then been given, and the name as 1, place and length.
-#[unsafe(no_mangle)]
-pub extern "C" fn hodrupec_next_context(
+pub fn hodrupec_next_context(
     image: &[u8],
     segments: &[u64],
     descriptor_va: u64,
@@ -175,8 +170,7 @@ pub extern "C" fn hodrupec_next_context(
 }
 
 // Writes the joined name of a row with this parent and this name at the buffer's start; `out` is its length.
-#[unsafe(no_mangle)]
-pub extern "C" fn hodrupec_qualified_name(
+pub fn hodrupec_qualified_name(
     image: &[u8],
     segments: &[u64],
     parent: u64,
