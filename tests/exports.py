@@ -12,7 +12,7 @@ import subprocess
 import sys
 
 ROOT = pathlib.Path(__file__).resolve().parent.parent
-EXPORT = re.compile(r'#\[no_mangle\]\s*pub extern "C" fn (\w+)')
+EXPORT = re.compile(r'#\[unsafe\(no_mangle\)\]\s*pub extern "C" fn (\w+)')
 
 
 def main():
@@ -23,7 +23,7 @@ def main():
         if names := EXPORT.findall(path.read_text(encoding="utf-8")):
             crates.add(path.relative_to(ROOT / "crates").parts[0])
             exports.update(names)
-    program, archives = ROOT / "target/exports", [ROOT / f"target/staticlib/lib{crate}.a" for crate in sorted(crates)]
+    program, archives = ROOT / "target/exports", [ROOT / f"target/staticlib/lib{crate.removesuffix('_c')}.a" for crate in sorted(crates)]
     words = ["cc", "-std=c11", "-O1", "-Wall", "-Wextra", "-Werror", "-o", program, ROOT / "tests/exports.c", *archives]
     if subprocess.run(words).returncode:
         print("tests/exports.py: tests/exports.c is not built over the archives (scripts/archives makes them)")
