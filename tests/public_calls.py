@@ -1,30 +1,40 @@
 #!/usr/bin/env python3
 """Check that something runs every function of the crates, and that every public one has a stated outcome.
 
-usage: tests/public_calls.py        (from anywhere; the crates must be proved, as `rt check` and `rt ci` leave them)
+usage: tests/public_calls.py        (from anywhere; quick where the crates are proved, as `rt check` and scripts/archives leave them)
 
-A function is run if it can be reached from a program's `main`, or from a function exported to C (`#[no_mangle]`) that the comparison
+A function is run if it can be reached from a program's `main`, or from a function exported to C (`#[unsafe(no_mangle)]`) that the comparison
 calls (its name occurs in compare/src; compare/build refuses one that is declared there and never called). Which function calls which is
-the compiler's own account, `rt mir`, whose names are whole paths: two functions of one name in different modules are two. A public
-function has an `ensures`, and no `requires`: it asks nothing of its caller. A call is a function that a crate above the readers (in
-crates.txt, from `steps` on) offers to other crates or to C; one that takes segments tests them, so every `ensures` of it cites `guarded`.
+the compiler's own account, whose names are whole paths, so that two functions of one name in different modules are two: of a library what
+its build wrote, each function with those that it names; of a program and of a static library, which no crate stands on, the functions of
+other crates that `rt check --list-calls` lists for all of it. Which functions of such a crate call one another is read from its text; a
+listed call counts as run where one of its functions does, and any of them that nothing runs is said below. A public function has an
+`ensures`, and no `requires`: it asks nothing of its caller. A call is a function that a crate above the readers (in crates.txt, from `steps`
+on) offers to other crates or to C; one that takes segments tests them, so every `ensures` of it cites `guarded`.
 Prints a line for each function that breaks this; exit status 1 if there is one.
 """
+import hashlib
+import json
 import pathlib
 import re
 import subprocess
 import sys
 
 TOP = pathlib.Path(__file__).resolve().parent.parent
+LISTED = TOP / "target" / "calls"
 
-ITEM = re.compile(r'^(?:impl(?:<[^>]*>)? (?P<type>\w+)|(?P<close>\})|(?P<export>#\[no_mangle\])|\s*(?P<pub>pub )?(?:extern "C" )?fn (?P<name>\w+))', re.M)
+ITEM = re.compile(
+    r"^(?:impl(?:<[^>]*>)? (?:[\w:]+(?:<[^>]*>)? for )?(?P<type>\w+)|(?P<close>\})|(?P<export>#\[unsafe\(no_mangle\)\])"
+    r'|\s*(?P<pub>pub )?(?:pub\(\w+\) )?(?:const )?(?:extern "\w*" )?fn (?P<name>\w+))',
+    re.M,
+)
 
 
 class Function:
-    def __init__(self, path, file, line, public, exported, signature, clauses):
-        self.path, self.file, self.line = path, file, line
+    def __init__(self, path, file, line, public, exported, signature, clauses, body):
+        self.path, self.file, self.line, self.body = path, file, line, body
         self.public, self.exported, self.clauses = public, exported, [word for word, _ in clauses]
-        self.takes_segments = re.search(r"\bsegments: &\[u64\]", signature) is not None
+        self.takes_segments = re.search(r"\bsegments: &(?:'\w+ )?\[u64\]", signature) is not None
         self.guarded = all("guarded" in said for word, said in clauses if word == "ensures")
 
     def offered(self):
@@ -32,32 +42,45 @@ class Function:
         lib = self.file.parent / "lib.rt"
         if self.exported or self.file == lib:
             return self.public
-        return self.public and lib.exists() and any(re.search(rf"^pub use .*::{name};", lib.read_text(), re.M) for name in self.path.split("::")[-2:])
+        return self.public and lib.exists() and bool(passed_on(lib) & set(self.path.split("::")[-2:]))
 
     def __str__(self):
         return f"{self.file.relative_to(TOP)}:{self.line}: {self.path}"
 
 
+def passed_on(lib):
+    """The names that a lib.rt offers of its modules, by `pub use`."""
+    found = re.findall(r"^pub use [\w:]+?::(?:(\w+)|\{([^}]*)\});", lib.read_text(encoding="utf-8"), re.M)
+    return {name.strip() for one, several in found for name in (one, *several.split(",")) if name.strip()}
+
+
+def end_of_block(text, opening):
+    """The place after the brace that closes the one at `opening`."""
+    depth, at = 1, opening + 1
+    while depth:
+        depth += {"{": 1, "}": -1}.get(text[at], 0)
+        at += 1
+    return at
+
+
 def clauses_of(text, at):
-    """What stands between a function's name and its body: its signature, and each block after `ensures` or `requires`, with that word."""
+    """What follows a function's name: its signature; each block after `ensures` or `requires`, with that word; and its body."""
     signature, clauses = text[at : text.index("{", at)], []
     while True:
         opening = text.index("{", at)
-        word = re.search(r"(\w*)\s*$", text[at:opening])[1]
-        if word not in ("ensures", "requires"):
-            return signature, clauses
-        depth, at = 1, opening + 1
-        while depth:
-            depth += {"{": 1, "}": -1}.get(text[at], 0)
-            at += 1
-        clauses.append((word, text[opening:at]))
+        word = re.search(r"\b(ensures|requires)\*?(?:\s+\w+)?\s*$", text[at:opening])
+        at = end_of_block(text, opening)
+        if not word:
+            return signature, clauses, text[opening:at]
+        clauses.append((word[1], text[opening:at]))
 
 
 def functions_of(crate):
     """The functions of a crate, from its source in the formatter's layout."""
     source = TOP / "crates" / crate / "src"
     for file in sorted(source.rglob("*.rt")):
-        text = re.sub(r"//[^\n]*", "", file.read_text(encoding="utf-8"))
+        # A brace in a literal is no block's.
+        text = re.sub(r'"(?:[^"\\]|\\.)*"|\'(?:[^\'\\]|\\.)\'', '""', re.sub(r"//[^\n]*", "", file.read_text(encoding="utf-8")))
         inner = file.relative_to(source).with_suffix("").parts
         module = "::".join((crate, *(() if inner in (("lib",), ("main",)) else inner)))
         inside, exported = module, False
@@ -75,30 +98,111 @@ def functions_of(crate):
                 exported = False
 
 
-def calls_of(crate):
-    """For each function of a crate, and each that these reach, the functions that it calls."""
-    mir = subprocess.run(["rt", "mir", crate], cwd=TOP, capture_output=True, text=True)
-    if mir.returncode != 0:
-        sys.exit(f"public_calls.py: `rt mir {crate}` failed, which needs the crates proved: {mir.stderr.strip()[-300:]}")
-    pieces = re.split(r'\(fn-def "([^"]+)"', mir.stdout)
-    return {name: set(re.findall(r'\(fnRef "([^"]+)"', body)) for name, body in zip(pieces[1::2], pieces[2::2])}
+def uses_of(crates):
+    """For each crate, those of this repository that it stands on, itself among them."""
+    uses = {}
+    for line in (TOP / "crates.txt").read_text(encoding="utf-8").splitlines():
+        if found := re.match(r"(\w+)[^:#]*:([^#]*)", line):
+            uses[found[1]] = set(found[2].split()) & set(crates)
+    found = {}
+    for crate in crates:
+        found[crate], left = {crate}, [crate]
+        while left:
+            new = uses[left.pop()] - found[crate]
+            found[crate] |= new
+            left.extend(new)
+    return found
+
+
+def stop(what, said):
+    sys.exit(f"public_calls.py: {what}: {said.strip()[-600:]}")
+
+
+def listed(crate, below):
+    """The functions of a program or static library, and those of other crates that it calls, as the check of it lists them."""
+    sum_of_all = hashlib.sha256(subprocess.run(["rt", "version"], stdout=subprocess.PIPE).stdout)
+    for name in sorted(below):
+        for file in sorted(path for part in ("src", "specs", "proofs") for path in (TOP / "crates" / name / part).rglob("*") if path.is_file()):
+            sum_of_all.update(str(file.relative_to(TOP)).encode() + hashlib.sha256(file.read_bytes()).digest())
+    kept, stamp = LISTED / crate, sum_of_all.hexdigest()
+    if not kept.exists() or not kept.read_text().startswith(stamp):
+        ran = subprocess.run(["rt", "check", "--list-calls"], cwd=TOP / "crates" / crate, capture_output=True, text=True)
+        if ran.returncode:
+            stop(f"`rt check --list-calls` failed in crates/{crate}", ran.stdout + ran.stderr)
+        LISTED.mkdir(parents=True, exist_ok=True)
+        kept.write_text(f"{stamp}\n{ran.stdout}")
+    said = kept.read_text()
+    own = set(re.findall(r"^fn ([\w:]+): proved", said, re.M))
+    others = set(re.findall(r"^  ([\w:]+)$", "".join(re.findall(r"^calls \w+: \d+ functions?\n((?:  .*\n)*)", said, re.M)), re.M))
+    return own, others
+
+
+def named_in(value):
+    """The functions that a part of a library's code names, called or not."""
+    if isinstance(value, dict):
+        if "Fn" in value:
+            yield value["Fn"][0]
+        for inner in value.values():
+            yield from named_in(inner)
+    elif isinstance(value, list):
+        for inner in value:
+            yield from named_in(inner)
+
+
+def calls_in_text(function, own):
+    """The functions of a crate that a function's body calls, by its text."""
+    module = function.path.split("::")[-2]
+    for dot, qualifier, name in re.findall(r"(\.)?(?:\b(\w+)::)?\b(\w+)\s*(?:::<[^>]*>)?\(", function.body):
+        named = [other.path for other in own if other.path.split("::")[-1] == name]
+        inside = module if qualifier in ("Self", "self") else qualifier
+        if dot:
+            yield from (path for path in named if path.split("::")[-2][0].isupper())
+        elif inside and qualifier not in ("crate", "super"):
+            yield from (path for path in named if path.split("::")[-2] == inside)
+        else:
+            free = [path for path in named if not path.split("::")[-2][0].isupper()]
+            yield from [path for path in free if path.split("::")[-2] == module] or free
+
+
+def calls_of(crate, own, below):
+    """For each function of a crate, the functions that it calls; it must be one that the compiler knows, and the other way round."""
+    library = TOP / "crates" / crate / "out" / "rlib" / f"{crate}.rlib" / "toolchain" / "mir.json"
+    if is_top(crate):
+        compiled, others = listed(crate, below)
+        calls = {function.path: {*calls_in_text(function, own), *others} for function in own}
+    elif not own:
+        return {}
+    elif not library.exists():
+        stop(f"crates/{crate} is not built", "`rt check` of a crate that stands on it builds it")
+    else:
+        calls = {path: set(named_in(code)) for path, code in json.loads(library.read_text(encoding="utf-8"))}
+        compiled = set(calls)
+    read = {function.path for function in own}
+    if read != compiled:
+        stop(f"its reading of crates/{crate}/src is not the compiler's", str(sorted(read ^ compiled)))
+    return calls
+
+
+def is_top(crate):
+    """Whether it is a program or a static library."""
+    folder = TOP / "crates" / crate / "src"
+    return (folder / "main.rt").exists() or any("#[unsafe(no_mangle)]" in file.read_text(encoding="utf-8") for file in folder.rglob("*.rt"))
 
 
 def main():
-    lines = (TOP / "crates.txt").read_text().splitlines()
-    crates = [line.split(":")[0].strip() for line in lines if line.strip() and not line.startswith("#")]
-    functions = [function for crate in crates for function in functions_of(crate)]
-    driver = "".join(re.sub(r"//[^\n]*", "", file.read_text()) for file in (TOP / "compare" / "src").glob("*.rs"))
+    lines = (TOP / "crates.txt").read_text(encoding="utf-8").splitlines()
+    crates = [line.split(":")[0].split()[0] for line in lines if line.strip() and not line.startswith("#")]
+    own = {crate: list(functions_of(crate)) for crate in crates}
+    functions = [function for crate in crates for function in own[crate]]
+    driver = "".join(re.sub(r"//[^\n]*", "", file.read_text(encoding="utf-8")) for file in (TOP / "compare" / "src").glob("*.rs"))
     compared = set(re.findall(r"\bhodrupec_\w+", driver))
 
     roots = {f"{crate}::main" for crate in crates} & {function.path for function in functions}
     roots |= {function.path for function in functions if function.exported and function.path.split("::")[-1] in compared}
-    calls = {}
-    for crate in sorted({root.split("::")[0] for root in roots}):
-        calls.update(calls_of(crate))
-        read, compiled = ({path for path in paths if path.startswith(f"{crate}::")} for paths in ((f.path for f in functions), calls))
-        if read != compiled:
-            sys.exit(f"public_calls.py: its reading of crates/{crate}/src is not the compiler's: {sorted(read ^ compiled)}")
+    below, calls = uses_of(crates), {}
+    # The check of a program or static library builds what it stands on, so these come first.
+    for crate in sorted(crates, key=lambda crate: not is_top(crate)):
+        calls.update(calls_of(crate, own[crate], below[crate]))
     run, left = set(), list(roots)
     while left:
         path = left.pop()
