@@ -44,8 +44,7 @@ Try = collections.namedtuple("Try", "kind places why seconds")
 
 # Of an error's text: a name that the edit took away, and what only rests on a thing that was refused.
 FOLLOWS = re.compile(
-    r"(?:record|module) `[^`]*` has no (?:field )?`"
-    r"|`[^`]*`: module `[^`]*` has no `"
+    r"(?:`[^`]*`: )?(?:record|module) `[^`]*`(?: \([^)]*\))? has no (?:field )?`"
     r"|`[^`]*` (?:is not in scope|is no name)"
     r"|\d+ declarations? that depends? on "
 )
@@ -88,8 +87,20 @@ def function_at(source, number):
     return names[-1] if names else ""
 
 
+def errors(said):
+    """What a check said of errors and of what is not proved, a line each: the prover's go on in lines that are set in."""
+    found, is_open = [], False
+    for line in said.split("\n"):
+        if line.startswith("  ") and is_open:
+            found[-1] += " " + line.strip()
+        else:
+            is_open = bool(re.match(r"\S+:\d+:\d+: error|note: \S+:\d+:\d+: it is not proved", line))
+            found += [line] * is_open
+    return "\n".join(line[:500] for line in found)
+
+
 def places(said, text_of):
-    """The facts that a check refused. `text_of` gives the text of a file as it was checked."""
+    """The facts at which a check refused something, of its errors. `text_of` gives the text of a file as it was checked."""
     found = []
     for line in said.split("\n"):
         place = None
@@ -201,7 +212,7 @@ class Tries:
             ran = rt.checked(crate, texts, ["--jobs", "1"], over)
         seconds = time.monotonic() - began
         lines = ran.stdout.rstrip("\n").split("\n")
-        said = "\n".join(line[:400] for line in lines if ": error" in line or line.startswith("note: "))
+        said = errors(ran.stdout)
         bad = next((line for line in lines if rt.unread(line, texts)), None)
         if bad:
             return Try(BAD, [], f"it cannot be read: {bad[:300]}", seconds), said
