@@ -13,14 +13,17 @@ listed call counts as run where one of its functions does, and any of them that 
 on) offers to other crates or to C; one that takes segments tests them, so every `ensures` of it cites `guarded`.
 Prints a line for each function that breaks this; exit status 1 if there is one.
 """
-import hashlib
 import json
 import pathlib
 import re
-import subprocess
 import sys
 
+sys.dont_write_bytecode = True
 TOP = pathlib.Path(__file__).resolve().parent.parent
+sys.path.insert(0, str(TOP / "scripts"))
+
+from kit import Work, sum_of  # noqa: E402
+
 LISTED = TOP / "target" / "calls"
 
 ITEM = re.compile(
@@ -98,40 +101,20 @@ def functions_of(crate):
                 exported = False
 
 
-def uses_of(crates):
-    """For each crate, those of this repository that it stands on, itself among them."""
-    uses = {}
-    for line in (TOP / "crates.txt").read_text(encoding="utf-8").splitlines():
-        if found := re.match(r"(\w+)[^:#]*:([^#]*)", line):
-            uses[found[1]] = set(found[2].split()) & set(crates)
-    found = {}
-    for crate in crates:
-        found[crate], left = {crate}, [crate]
-        while left:
-            new = uses[left.pop()] - found[crate]
-            found[crate] |= new
-            left.extend(new)
-    return found
-
-
 def stop(what, said):
     sys.exit(f"public_calls.py: {what}: {said.strip()[-600:]}")
 
 
-def listed(crate, below):
+def listed(crate, work):
     """The functions of a program or static library, and those of other crates that it calls, as the check of it lists them."""
-    sum_of_all = hashlib.sha256(subprocess.run(["rt", "version"], stdout=subprocess.PIPE).stdout)
-    for name in sorted(below):
-        for file in sorted(path for part in ("src", "specs", "proofs") for path in (TOP / "crates" / name / part).rglob("*") if path.is_file()):
-            sum_of_all.update(str(file.relative_to(TOP)).encode() + hashlib.sha256(file.read_bytes()).digest())
-    kept, stamp = LISTED / crate, sum_of_all.hexdigest()
-    if not kept.exists() or not kept.read_text().startswith(stamp):
-        ran = subprocess.run(["rt", "check", "--list-calls"], cwd=TOP / "crates" / crate, capture_output=True, text=True)
-        if ran.returncode:
-            stop(f"`rt check --list-calls` failed in crates/{crate}", ran.stdout + ran.stderr)
+    kept, stamp = LISTED / crate, sum_of([crate, *(below.name for below in work.crates[crate].below())])
+    if not kept.exists() or not kept.read_text(encoding="utf-8").startswith(stamp):
+        status, said = work.run(crate, "check", "--list-calls")
+        if status:
+            stop(f"`rt check --list-calls` failed in crates/{crate}", said)
         LISTED.mkdir(parents=True, exist_ok=True)
-        kept.write_text(f"{stamp}\n{ran.stdout}")
-    said = kept.read_text()
+        kept.write_text(f"{stamp}\n{said}", encoding="utf-8")
+    said = kept.read_text(encoding="utf-8")
     own = set(re.findall(r"^fn ([\w:]+): proved", said, re.M))
     others = set(re.findall(r"^  ([\w:]+)$", "".join(re.findall(r"^calls \w+: \d+ functions?\n((?:  .*\n)*)", said, re.M)), re.M))
     return own, others
@@ -164,11 +147,11 @@ def calls_in_text(function, own):
             yield from [path for path in free if path.split("::")[-2] == module] or free
 
 
-def calls_of(crate, own, below):
+def calls_of(crate, own, work):
     """For each function of a crate, the functions that it calls; it must be one that the compiler knows, and the other way round."""
     library = TOP / "crates" / crate / "out" / "rlib" / f"{crate}.rlib" / "toolchain" / "mir.json"
     if is_top(crate):
-        compiled, others = listed(crate, below)
+        compiled, others = listed(crate, work)
         calls = {function.path: {*calls_in_text(function, own), *others} for function in own}
     elif not own:
         return {}
@@ -199,10 +182,10 @@ def main():
 
     roots = {f"{crate}::main" for crate in crates} & {function.path for function in functions}
     roots |= {function.path for function in functions if function.exported and function.path.split("::")[-1] in compared}
-    below, calls = uses_of(crates), {}
+    work, calls = Work(), {}
     # The check of a program or static library builds what it stands on, so these come first.
     for crate in sorted(crates, key=lambda crate: not is_top(crate)):
-        calls.update(calls_of(crate, own[crate], below[crate]))
+        calls.update(calls_of(crate, own[crate], work))
     run, left = set(), list(roots)
     while left:
         path = left.pop()
