@@ -167,11 +167,14 @@ class Tries:
     def places(self, crate, said, texts):
         return places(said, lambda file: texts.get(file) or self.rt.rtlib.text_of(f"{self.crates[crate].folder}/{file}") or "")
 
-    def seed(self, name):
-        """Checks the unchanged crate, which must be proved, and leaves what a try starts from, or None."""
+    def seed(self, name, number):
+        """Checks the unchanged crate, which must be proved, and leaves what a number of tries start from, or None. A single one for a crate of
+        which no work is kept starts from nothing: that is ""."""
         crate = self.crates[name]
         start = f"{crate.folder}/out/incremental"
         start = start if os.path.isdir(start) else None
+        if number == 1 and not start and all(map(self.is_there, crate.below())):
+            return ""
         # The libraries that `rt ci` left serve as they are, and those of `rt check` if they are of today's text; else they are built.
         room = all(map(self.is_there, crate.below())) and self.rt.seeded(crate, ["--jobs", "1"], start)
         if not room:
@@ -183,22 +186,18 @@ class Tries:
                         print(f"{said.read()}edits: {below.name}, below {name}, is not proved", flush=True)
                         return None
             room = self.rt.seeded(crate, ["--jobs", "1"], start)
-        return room
+        return room or None
 
     def is_there(self, below):
-        """Whether a library was built from the text that it has now."""
+        """Whether a library was built of the text that it has now: `rt check` says so in a stamp, and `rt ci` leaves what it built with none."""
         if below.is_built():
             return True
-        made = f"{below.rlib}/lang"
-        if os.path.isfile(f"{below.folder}/out/rlib/stamp") or not os.path.isdir(made):
+        made = f"{below.rlib}/format"
+        if os.path.isfile(f"{below.folder}/out/rlib/stamp") or not os.path.isfile(made):
             return False
-        for part, inside in (("src", f"{made}/src"), ("specs", f"{made}/antt/specs"), ("proofs", f"{made}/antt/proofs")):
-            for at, _, names in os.walk(inside):
-                for file in names:
-                    one, other = f"{at}/{file}", f"{below.folder}/{part}/{os.path.relpath(at, inside)}/{file}"
-                    if self.rt.rtlib.text_of(one) != self.rt.rtlib.text_of(other):
-                        return False
-        return True
+        # (the folder is as old as the build, a file in it can be older)
+        built = os.stat(below.rlib).st_mtime
+        return all(os.stat(file).st_mtime <= built for it in [below, *below.below()] for file in self.rt.rtlib.files_of(it.folder))
 
     def once(self, name, text, over):
         """What the try of an edit comes to."""
@@ -224,8 +223,10 @@ class Tries:
 
     def over_seed(self, name, text):
         room = self.seeds[name]
-        if not room:
+        if room is None:
             return Try(UNSURE, [], "the crate is not proved without it", 0), ""
+        if not room:
+            return self.once(name, text, None)
         with self.alone:
             self.number += 1
             over = f"{room}/{self.number}"
@@ -256,8 +257,8 @@ class Tries:
             return label, tried
 
         def begin(crate):
-            if crate not in self.seeds:
-                self.seeds[crate] = self.seed(crate)
+            if not self.seeds.get(crate):
+                self.seeds[crate] = self.seed(crate, len(left[crate]))
             return [pool.submit(one, crate, label, text) for label, text in left[crate]]
 
         # (libraries that have to be built are built from the lowest up)
