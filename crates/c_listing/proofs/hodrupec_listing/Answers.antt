@@ -9,4 +9,4 @@ pub returns-in-Refused : goal.returns-in-Refused
 returns-in-Refused c = (record { tells = tells_refused _ _ listing_numbers _ _ (told fault_of c.find_fault.ensures c.in-Refused.is) c.number.ensures; buffer_after = keeps_refused _ _ listing_bytes _ (told fault_of c.find_fault.ensures c.in-Refused.is) })
 
 pub returns : goal.returns
-returns c = (record { tells = tells_accepted _ _ listing_numbers _ _ c.put_rows.ensures.0 (told fault_of c.find_fault.ensures c.in_default.is); buffer_after = writes_accepted _ _ listing_bytes _ _ c.put_rows.ensures.1 (told fault_of c.find_fault.ensures c.in_default.is) })
+returns c = (record { tells = tells_accepted _ _ listing_numbers _ _ c.put_rows.ensures.value (told fault_of c.find_fault.ensures c.in_default.is); buffer_after = writes_accepted _ _ listing_bytes _ _ c.put_rows.ensures.buffer_after (told fault_of c.find_fault.ensures c.in_default.is) })

@@ -3,4 +3,4 @@ use Rattle.c_listing.proofs.ListingLaws.{head_put}
 use Rattle.c_listing.proofs.put_head.Goals as goal
 
 pub returns : goal.returns
-returns c = head_put _ _ _ _ _ _ _ _ _ _ _ _ c.pair-first.ensures c.pair-second.ensures c.put-middle.ensures.value c.put-middle.ensures.buffer_after c.put.ensures.0 c.put.ensures.1 c.requires
+returns c = head_put _ _ _ _ _ _ _ _ _ _ _ _ c.pair-first.ensures c.pair-second.ensures c.put-middle.ensures.value c.put-middle.ensures.buffer_after c.put.ensures.value c.put.ensures.buffer_after c.requires

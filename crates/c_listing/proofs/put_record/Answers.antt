@@ -34,7 +34,7 @@ returns-then-number-ne-DEEP_CONTEXTS c =
     let f = told length_of c.joined.ensures.result_value c.in-Refused.is in
     let l = (refused_bytes _ _ a.slot _ _ _ f).1 (λ z. c.if-number-ne-DEEP_CONTEXTS.true (c.number.ensures ∙ z)) in
     let p = part_long (a.at + 32) a.buffer.now in
-    (past_end _ _ _ (omega (arith, l, p)), kept_part (a.at + 32) (length a.buffer.now - (a.at + 32)) a.buffer.now _ _ _ _ _ _ c.joined.ensures.name_after f ∙ past_into _ _ _ (omega (arith, l, p)))
+    record { value = past_end _ _ _ (omega (arith, l, p)); buffer_after = kept_part (a.at + 32) (length a.buffer.now - (a.at + 32)) a.buffer.now _ _ _ _ _ _ c.joined.ensures.name_after f ∙ past_into _ _ _ (omega (arith, l, p)) }
 
 pub returns-in-Length : goal.returns-in-Length
 returns-in-Length c =
@@ -42,11 +42,12 @@ returns-in-Length c =
     let f = told length_of c.joined.ensures.result_value c.in-Length.is in
     let k = name_length _ _ _ _ _ f in
     let w = record_put a.buffer.now _ _ _ _ _ a.at _ _ _ c.joined.ensures.name_after k.0 k.1.0 (head_long _ _ _ _) c.put_head.ensures (omega (arith, k.1.1, part_long (a.at + 32) a.buffer.now)) (written_bytes _ _ a.slot _ _ _ f) in
-    w.1
+    record { value = w.1.0; buffer_after = w.1.1 }
 
 pub returns-else-number-ne-DEEP_CONTEXTS : goal.returns-else-number-ne-DEEP_CONTEXTS
 returns-else-number-ne-DEEP_CONTEXTS c =
     let a = c.args in
     let f = told length_of c.joined.ensures.result_value c.in-Refused.is in
     let k = kept_part (a.at + 32) (length a.buffer.now - (a.at + 32)) a.buffer.now _ _ _ _ _ _ c.joined.ensures.name_after f in
-    head_alone _ _ _ _ _ _ _ k ((refused_bytes _ _ a.slot _ _ _ f).0 (sym c.number.ensures ∙ c.if-number-ne-DEEP_CONTEXTS.false)) (head_long _ _ _ _) c.put_head-in-Refused.ensures (omega arith)
+    let all = head_alone _ _ _ _ _ _ _ k ((refused_bytes _ _ a.slot _ _ _ f).0 (sym c.number.ensures ∙ c.if-number-ne-DEEP_CONTEXTS.false)) (head_long _ _ _ _) c.put_head-in-Refused.ensures (omega arith) in
+    record { value = all.0; buffer_after = all.1 }

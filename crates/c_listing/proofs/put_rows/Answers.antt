@@ -16,12 +16,11 @@ pub returns-then-end-at : goal.returns-then-end-at
 returns-then-end-at c =
     let a = c.args in
     let l = c.loop-slot in
-    let found = c.found-1.given in
-    let long = row_long a.image.now a.segments.now l.slot (row_of a.image.now found.0.0) in
+    let long = row_long a.image.now a.segments.now l.slot (row_of a.image.now c.in-Row.row) in
     let put = c.put_record-end.ensures in
-    let kept = not_put _ _ _ _ _ put.0 put.1 (omega (arith, long)) c.if-end-at.true in
-    let told = listing_told _ _ _ _ _ _ _ _ _ _ (full _ _ _ _ _ _ _ _ _ _ _ l.invariant c.loop-slot-test.true _ _ c.slot_row_moving-step.ensures _ found.1 kept.0) in
-    (told.0, kept.1 ∙ told.1)
+    let kept = not_put _ _ _ _ _ put.value put.buffer_after (omega (arith, long)) c.if-end-at.true in
+    let told = listing_told _ _ _ _ _ _ _ _ _ _ (full _ _ _ _ _ _ _ _ _ _ _ l.invariant c.loop-slot-test.true _ _ c.slot_row_moving-step.ensures _ c.in-Row.is kept.0) in
+    record { value = told.0; buffer_after = kept.1 ∙ told.1 }
 
 pub overflow_add-slot : goal.overflow_add-slot
 overflow_add-slot c =
@@ -31,14 +30,15 @@ pub loop-slot-preserved-in-Row : goal.loop-slot-preserved-in-Row
 loop-slot-preserved-in-Row c =
     let a = c.args in
     let l = c.loop-slot in
-    let found = c.found-1.given in
-    let long = row_long a.image.now a.segments.now l.slot (row_of a.image.now found.0.0) in
+    let long = row_long a.image.now a.segments.now l.slot (row_of a.image.now c.in-Row.row) in
     let put = c.put_record-end.ensures in
-    let was = was_put _ _ _ _ _ put.0 put.1 (omega (arith, long)) c.if-end-at.false in
-    goes_on_lem _ _ _ _ _ _ _ _ _ _ _ l.invariant c.loop-slot-test.true _ _ c.slot_row_moving-step.ensures _ found.1 _ _ _ refl was.1.ends (omega (arith, was.0, was.1.ends)) was.1.holds
+    let was = was_put _ _ _ _ _ put.value put.buffer_after (omega (arith, long)) c.if-end-at.false in
+    goes_on_lem _ _ _ _ _ _ _ _ _ _ _ l.invariant c.loop-slot-test.true _ _ c.slot_row_moving-step.ensures _ c.in-Row.is _ _ _ refl was.1.ends (omega (arith, was.0, was.1.ends)) was.1.holds
 
 pub loop-slot-preserved : goal.loop-slot-preserved
 loop-slot-preserved c = passes _ _ _ _ _ _ _ _ _ _ _ c.loop-slot.invariant c.loop-slot-test.true _ _ c.slot_row_moving-step.ensures c.in-Nothing.is
 
 pub returns : goal.returns
-returns c = listing_told _ _ _ _ _ _ _ _ _ _ (ended _ _ _ _ _ _ _ _ _ _ _ c.loop-slot.invariant (omega (arith, c.loop-slot-test.false)))
+returns c =
+    let told = listing_told _ _ _ _ _ _ _ _ _ _ (ended _ _ _ _ _ _ _ _ _ _ _ c.loop-slot.invariant (omega (arith, c.loop-slot-test.false))) in
+    record { value = told.0; buffer_after = told.1 }
