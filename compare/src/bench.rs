@@ -879,7 +879,7 @@ fn rows_and_names() {
     );
     println!("contexts   | depth |      Rust |    proved | ratio");
     for (kind, around) in [("named", NAMED), ("anonymous", ANONYMOUS)] {
-        for depth in [1, 3, 8, 9, 16, 32, 33, 64, 256] {
+        for depth in [4, 8, 12, 16, 20, 24, 32, 64, 256] {
             let input = nested(17, around, 8, depth, 2);
             line(&format!("{kind:10} | {depth:5}"), whole(&input));
         }

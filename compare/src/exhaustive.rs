@@ -154,7 +154,7 @@ fn chains(checker: &mut Checker) {
             }
         }
     }
-    // Names that are all different, in chains around the lengths at which a longer list of names is taken.
+    // Names that are all different, in chains around 8 names, so many the proved side keeps before it reads on, around 32 and around the limit.
     for depth in (0..=40).chain([63, 64, 65]).chain(LIMIT - 2..=LIMIT + 1) {
         for kinds in [&[0][..], &[0, 2], &[16, 17, 2], &[2, 2, 0]] {
             must(checker, &chain_of_names(depth, kinds));

@@ -102,7 +102,7 @@ const DAMAGED: [&[u8]; 24] = [
 const WRAPPING: usize = 8;
 
 const TYPE_KINDS: [u8; 3] = [16, 17, 18];
-/// Numbers of contexts around 8 and 32, of whose names the proved side keeps a list before it takes a longer one.
+/// Numbers of contexts around 8, so many names the proved side keeps before it reads on, and around 32.
 const LIST_FULL: [usize; 8] = [7, 8, 9, 10, 31, 32, 33, 34];
 const CONTEXT_KINDS: [u8; 12] = [0, 0, 0, 1, 2, 3, 4, 16, 17, 18, 5, 31];
 
@@ -154,7 +154,7 @@ fn kind_flags(rng: &mut Rng, kind: u8) -> [u8; 4] {
 
 impl Generator {
     /// The input with a number: half as planted, the others with bytes changed, cut, or both. A few are chains around the limit, and
-    /// around the lengths at which the proved side takes a longer list of names.
+    /// around 8 and 32 names.
     pub fn make(&mut self, seed: u64, number: u64, input: &mut Input) {
         let mut rng = Rng::new(seed, number);
         let rng = &mut rng;
