@@ -115,9 +115,15 @@ def listed(crate, work):
         LISTED.mkdir(parents=True, exist_ok=True)
         kept.write_text(f"{stamp}\n{said}", encoding="utf-8")
     said = kept.read_text(encoding="utf-8")
-    own = set(re.findall(r"^fn ([\w:]+): proved", said, re.M))
+    own = {owner(path) for path in re.findall(r"^fn ([\w:]+): proved", said, re.M)}
     others = set(re.findall(r"^  ([\w:]+)$", "".join(re.findall(r"^calls \w+: \d+ functions?\n((?:  .*\n)*)", said, re.M)), re.M))
     return own, others
+
+
+def owner(path):
+    """The function that a closure stands in, or the function itself."""
+    before, closure, after = path.partition("::fn::")
+    return f"{before}::{after.split('::')[0]}" if closure else path
 
 
 def named_in(value):
@@ -158,7 +164,9 @@ def calls_of(crate, own, work):
     elif not library.exists():
         stop(f"crates/{crate} is not built", "`rt check` of a crate that stands on it builds it")
     else:
-        calls = {path: set(named_in(code)) for path, code in json.loads(library.read_text(encoding="utf-8"))}
+        calls = {}
+        for path, code in json.loads(library.read_text(encoding="utf-8")):
+            calls.setdefault(owner(path), set()).update(map(owner, named_in(code)))
         compiled = set(calls)
     read = {function.path for function in own}
     if read != compiled:
