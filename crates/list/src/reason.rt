@@ -12,7 +12,7 @@ fn message(text: &[u8]) -> &[u8] {
     }
 }
 
-pub fn say_reason(err: Stderr, error: Error) {
+pub(super) fn say_reason(err: Stderr, error: Error) {
     let mut said = Cursor::new([0u8; REASON_BYTES]);
     let _ = write!(said, "{error}");
     let length = said.position() as usize;
