@@ -82,8 +82,11 @@ def edits(wanted=()):
 # ---- what the prover said of one
 
 def function_at(source, number):
-    """The function of a file of Rattle that has a line: the last that starts at it or before it."""
-    names = [m[1] for line in source.split("\n")[:number] for m in [re.search(r"\bfn (\w+)", line)] if m]
+    """The function of a file of Rattle that has a line, which may be one of its attributes: the last that starts at it or before it."""
+    lines = source.split("\n")
+    while lines[number - 1 : number] and lines[number - 1].lstrip().startswith("#["):
+        number += 1
+    names = [m[1] for line in lines[:number] for m in [re.search(r"\bfn (\w+)", line)] if m]
     return names[-1] if names else ""
 
 
