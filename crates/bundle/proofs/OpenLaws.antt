@@ -1,9 +1,8 @@
 -- What the tests of the code, one after the other, say about the definitions of `Open`. Assumes nothing.
-use Rattle.std.specs.Prelude.{ℕ, zero, suc, ◌+◌, ◌-◌, ◌%◌, ◌≤◌, ◌<◌, ◌≡◌, refl, List, Bool, true, false, ◌||◌, length, leb, ltb, eqb}
+use Rattle.std.specs.Prelude.{ℕ, zero, suc, ◌+◌, ◌-◌, ◌%◌, ◌≤◌, ◌<◌, ◌≡◌, refl, List, Bool, true, false, ◌||◌, length, leb, ltb, eqb, Some}
 use Rattle.std.proofs.Common.{arith, ◌∙◌}
 use Rattle.std.proofs.Math.Path.{sym, ap}
 use Rattle.std.proofs.Math.Bool.{and-false, and-eq-true_iff}
-use Rattle.std.proofs.Math.Option.{some}
 use borrow.Author.Tests.{le-leb, lt-leb, lt-ltb, le-ltb, eq-eqb, ne_eqb, leb-true}
 use Rattle.refusal.specs.Refusal.{answered, refused}
 use Rattle.util.specs.LittleEndian.{little_at}
@@ -48,7 +47,7 @@ module _ (kind : ℕ) (s : List ℕ) (at : ℕ) where
   take_past h = take_none (rw (lt-leb (at + 6 + size_at s at) (length s) (omega arith)))
 
   -- the header's two numbers as they were read
-  module _ (n k : ℕ) (size : some n ≡ little_at 4 s at) (found : some k ≡ little_at 2 s (at + 4)) where
+  module _ (n k : ℕ) (size : Some n ≡ little_at 4 s at) (found : Some k ≡ little_at 2 s (at + 4)) where
     size_is : n ≡ size_at s at
     size_is = little_value 4 s at n size
 
@@ -88,7 +87,7 @@ taken_within kind s at e = go (is_at kind s at) refl e
     go false w e = rw (e ∙ sym (take_none kind s at w)) (omega arith)
 
 module _ (s : List ℕ) (p : Part) where
-  pub section_there : (a : ℕ) → some a ≡ little_at 8 s p.start → 8 ≤ p.length → record { address = a; part = part (p.start + 8) (p.length - 8) } ≡ section_in s p
+  pub section_there : (a : ℕ) → Some a ≡ little_at 8 s p.start → 8 ≤ p.length → record { address = a; part = part (p.start + 8) (p.length - 8) } ≡ section_in s p
   unfolding section_in
   section_there a e h = rw (le-leb 8 p.length h, little_value 8 s p.start a e)
 

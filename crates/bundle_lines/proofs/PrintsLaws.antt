@@ -2,9 +2,8 @@
 -- 16,385 on.
 use Prim.Native.Nat.{ℕ, zero, suc, ◌+◌, ◌-◌, ◌%◌, ◌^◌, ◌≤◌, ◌<◌}
 use Rattle.std.proofs.Common.{add-zero, zero-add, mod-eq_of_lt, arith, sym, ◌∙◌, length-append, length-drop, length-take-le, take_at}
-use Rattle.std.specs.Prelude.{◌≡◌, List, [], ◌∷◌, ◌++◌, map, true, false, length, take, drop}
+use Rattle.std.specs.Prelude.{◌≡◌, List, [], ◌∷◌, ◌++◌, map, true, false, length, take, drop, Option, Some, None}
 use Rattle.std.proofs.Math.Path.{refl, ap}
-use Rattle.std.proofs.Math.Option.{Option, some, none}
 use Rattle.refusal.specs.Refusal.{Guarded, answered, refused}
 use Rattle.refusal.specs.Guarded.{any_wrapping, fault}
 use Rattle.segment.specs.Segments.{segments_of}
@@ -26,12 +25,12 @@ use Rattle.bundle_lines.specs.Printed.{printed, lines_most, Pending, rows, refus
 -- ---- one step, and those after it
 
 module _ (s segments : List ℕ) where
-  pub taken_none : (n : ℕ) (p : Pending) → print_step s segments p ≡ none → taken n s segments p ≡ record { lines = []; left = p }
+  pub taken_none : (n : ℕ) (p : Pending) → print_step s segments p ≡ None → taken n s segments p ≡ record { lines = []; left = p }
   unfolding taken
   taken_none zero p e = refl
   taken_none (suc n) p e = rw (taken, e)
 
-  pub taken_some : (n : ℕ) (p : Pending) (t : Line Pending) → print_step s segments p ≡ some t
+  pub taken_some : (n : ℕ) (p : Pending) (t : Line Pending) → print_step s segments p ≡ Some t
       → taken (suc n) s segments p ≡ record { lines = t.text ∷ (taken n s segments t.next).lines; left = (taken n s segments t.next).left }
   unfolding taken
   taken_some n p t e = rw (taken, e)
@@ -44,14 +43,14 @@ module _ (s segments : List ℕ) where
   pub going_start : (p : Pending) → Going p 0 p
   going_start p = record { few = omega arith; rest = omega arith }
 
-  pub lines_going_on : (p q : Pending) (n : ℕ) (t : Line Pending) → Going p n q → print_step s segments q ≡ some t → n < lines_most → Going p (n + 1) t.next
+  pub lines_going_on : (p q : Pending) (n : ℕ) (t : Line Pending) → Going p n q → print_step s segments q ≡ Some t → n < lines_most → Going p (n + 1) t.next
   lines_going_on p q n t g e h =
       let more : lines_most - n ≡ suc (lines_most - (n + 1)) = omega arith in
       let one : length (taken (lines_most - n) s segments q).lines ≡ suc (length (taken (lines_most - (n + 1)) s segments t.next).lines) =
       ap (λ (k : ℕ). length (taken k s segments q).lines) more ∙ ap (λ (u : Taken). length u.lines) (taken_some (lines_most - (n + 1)) q t e) in
       record { few = omega arith; rest = omega (arith, g.rest, one) }
 
-  pub going_end : (p q : Pending) (n : ℕ) → Going p n q → print_step s segments q ≡ none → n ≡ length (taken lines_most s segments p).lines
+  pub going_end : (p q : Pending) (n : ℕ) → Going p n q → print_step s segments q ≡ None → n ≡ length (taken lines_most s segments p).lines
   going_end p q n g e = omega (arith, g.rest, ap (λ (u : Taken). length u.lines) (taken_none (lines_most - n) q e))
 
   no_lines : (k : ℕ) (p : Pending) → k ≡ 0 → length (taken k s segments p).lines ≡ 0
@@ -81,11 +80,11 @@ module _ (s segments : List ℕ) (l : Layout) where
   abbrev over : ℕ → Pending
   over g = rows l (record { slot = 0; given = g; ended = true })
 
-  over_none : (g : ℕ) → print_step s segments (over g) ≡ none
+  over_none : (g : ℕ) → print_step s segments (over g) ≡ None
   unfolding print_step line_step
   over_none g = refl
 
-  step_is : (i g : ℕ) (x : Option Found) → next_row image segments types start i ≡ x → print_step s segments (at i g) ≡ some (with_layout l (line_at image segments g x))
+  step_is : (i g : ℕ) (x : Option Found) → next_row image segments types start i ≡ x → print_step s segments (at i g) ≡ Some (with_layout l (line_at image segments g x))
   unfolding print_step line_step
   step_is i g x e = rw e
 
@@ -104,16 +103,16 @@ module _ (s segments : List ℕ) (l : Layout) where
       by : (x : Option Found) → next_row image segments types start i ≡ x
           → ((k j : ℕ) → slots types - j ≤ k → k < n → suc g + k < 2 ^ 64 → taken n s segments (at j (suc g)) ≡ spelled (suc g) (below j))
           → taken (suc n) s segments (at i g) ≡ spelled g (below i)
-      by none f ih =
-          taken_some s segments n (at i g) _ (step_is i g none f)
+      by None f ih =
+          taken_some s segments n (at i g) _ (step_is i g None f)
           ∙ ap (λ (t : Taken). record { lines = end_line g ∷ t.lines; left = t.left }) (taken_none s segments n (over g) (over_none g))
           ∙ rw (none_left image segments types start i (sym f), add-zero)
-      by (some f) q ih =
+      by (Some f) q ih =
           let w = row_left image segments types start i f (sym q) in
           let fs : List Found = below f.next in
           let count : (g + 1) % 2 ^ 64 ≡ suc g = mod-eq_of_lt (omega (arith, w.1, w.2)) ∙ omega arith in
           let more : suc g + length fs ≡ g + suc (length fs) = omega arith in
-          taken_some s segments n (at i g) _ (step_is i g (some f) q)
+          taken_some s segments n (at i g) _ (step_is i g (Some f) q)
           ∙ ap (λ (k : ℕ). record { lines = row_line image segments f.row ∷ (taken n s segments (at f.next k)).lines; left = (taken n s segments (at f.next k)).left }) count
           ∙ ap (λ (t : Taken). record { lines = row_line image segments f.row ∷ t.lines; left = t.left }) (ih (slots types - f.next) f.next (omega arith) (omega (arith, w.1, w.2)) (omega (arith, w.1, w.2)))
           ∙ ap (λ (k : ℕ). record { lines = row_line image segments f.row ∷ (map (λ (x : Found). row_line image segments x.row) fs ++ (end_line k ∷ [])); left = over k }) more
@@ -126,7 +125,7 @@ part_length s o n h = ap length (part_in s o n h) ∙ length-take-le n (drop o s
 
 -- the lines are those of the definition, and the next step gives none
 abbrev Prints : List ℕ → ℕ → Pending → List (List ℕ) → Type 0
-Prints s n p ls = ((taken n s (numbers_for s p) p).lines ≡ ls) × (print_step s (numbers_for s p) (taken n s (numbers_for s p) p).left ≡ none)
+Prints s n p ls = ((taken n s (numbers_for s p) p).lines ≡ ls) × (print_step s (numbers_for s p) (taken n s (numbers_for s p) p).left ≡ None)
 
 refused_prints : (s : List ℕ) (r n : ℕ) → 0 < n → Prints s n (refusal r) (refused_line r ∷ [])
 unfolding print_step
@@ -165,11 +164,11 @@ prints s n h = go (accept_bundle s) refl
 
 module _ (s : List ℕ) (p : Pending) where
   -- the segments' numbers are accepted
-  pub numbers_accepted : p ≡ start_of (accept_bundle s) → none ≡ fault (numbers_for s p)
+  pub numbers_accepted : p ≡ start_of (accept_bundle s) → None ≡ fault (numbers_for s p)
   unfolding fault any_wrapping segments_of
   numbers_accepted e = rw e (go (accept_bundle s) refl)
     where
-      go : (a : Guarded Layout) → accept_bundle s ≡ a → none ≡ fault (numbers_for s (start_of a))
+      go : (a : Guarded Layout) → accept_bundle s ≡ a → None ≡ fault (numbers_for s (start_of a))
       go (answered l) e = let a = accepted_is s l e in a.accepted ∙ ap fault (sym (numbers_all s l (opened_fit s l a.opens)))
       go (refused n) e = refl
 

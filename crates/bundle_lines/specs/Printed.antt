@@ -1,6 +1,5 @@
 -- What the listing program prints for a bundle: docs/SPECIFICATION.md, "The printed listing".
-use Rattle.std.specs.Prelude.{ℕ, zero, suc, List, [], ◌∷◌, false, take}
-use Rattle.std.proofs.Math.Option.{Option, some, none, map}
+use Rattle.std.specs.Prelude.{ℕ, zero, suc, List, [], ◌∷◌, false, take, Option, Some, None, option_map}
 use Rattle.refusal.specs.Refusal.{Guarded, answered, refused, refusal_number}
 use Rattle.bundle_parts.specs.Accepted.{accept_bundle}
 use Rattle.bundle_parts.specs.Parts.{bytes_of, segment_numbers, listed_numbers}
@@ -45,14 +44,14 @@ with_layout l x = record { text = x.text; size = x.size; next = rows l x.next }
 
 unfoldable pub print_step : List ℕ → List ℕ → Pending → Option (Line Pending)
 print_step s segments (rows l c) =
-    map (with_layout l) (line_step (bytes_of s l.image) segments (bytes_of s l.types.part) l.types.address c)
-print_step s segments (refusal n) = some (line (refused_line n) finished)
-print_step s segments finished = none
+    option_map (with_layout l) (line_step (bytes_of s l.image) segments (bytes_of s l.types.part) l.types.address c)
+print_step s segments (refusal n) = Some (line (refused_line n) finished)
+print_step s segments finished = None
 
 -- what a step's answer says, with the line's buffer after it
 abbrev pub print_answer : List ℕ → PrintStep → Guarded (Option (Line Pending))
-print_answer buffer (PrintStep.Line n p) = answered (some (record { text = take n buffer; size = n; next = pending_of p }))
-print_answer buffer PrintStep.Done = answered none
+print_answer buffer (PrintStep.Line n p) = answered (Some (record { text = take n buffer; size = n; next = pending_of p }))
+print_answer buffer PrintStep.Done = answered None
 print_answer buffer (PrintStep.Refused x) = refused (refusal_number x)
 
 -- the numbers of the segments for what is left to print
@@ -70,6 +69,6 @@ unfoldable pub taken : ℕ → List ℕ → List ℕ → Pending → Taken
 taken zero s segments p = record { lines = []; left = p }
 taken (suc n) s segments p =
     elim (print_step s segments p) [
-      | none ↦ record { lines = []; left = p }
-      | some t ↦ record { lines = t.text ∷ (taken n s segments t.next).lines; left = (taken n s segments t.next).left }
+      | None ↦ record { lines = []; left = p }
+      | Some t ↦ record { lines = t.text ∷ (taken n s segments t.next).lines; left = (taken n s segments t.next).left }
     ]

@@ -1,9 +1,8 @@
 -- What the reads of the code, one after the other, say about the segments; and that the segment with a number is the one with that number
 -- in the list of all. Assumes nothing.
-use Rattle.std.specs.Prelude.{ℕ, zero, suc, ◌+◌, ◌*◌, ◌/◌, ◌%◌, ◌≤◌, ◌<◌, min, ◌≡◌, refl, List, [], ◌∷◌, ◌++◌, length, take, drop, get_or, set}
+use Rattle.std.specs.Prelude.{ℕ, zero, suc, ◌+◌, ◌*◌, ◌/◌, ◌%◌, ◌≤◌, ◌<◌, min, ◌≡◌, refl, List, [], ◌∷◌, ◌++◌, length, take, drop, get_or, set, Some, None}
 use Rattle.std.proofs.Math.Decide.{dec_le}
 use Rattle.std.proofs.Common.{add-one, arith, sym, ◌∙◌, ap, append_assoc, length-set, length-append, length-drop, take_at, drop-drop, drop-cons, length-take-le, le-leb}
-use Rattle.std.proofs.Math.Option.{some, none}
 use Rattle.std.proofs.Math.ListN.{get_elem?}
 use Rattle.std.proofs.lemmas.List.{set_at}
 use Rattle.std.proofs.lemmas.Bool.{lt-leb}
@@ -18,11 +17,11 @@ use Rattle.bundle.specs.declared.open.Layout.{Layout}
 -- a segment that a body has, and one that it does not
 module _ (body : List ℕ) (k : ℕ) where
   pub segment_there : (a b c d : ℕ) → a ≡ u64_in body (32 * k) → b ≡ u64_in body (32 * k + 8) → c ≡ u64_in body (32 * k + 16) → d ≡ u64_in body (32 * k + 24) → 32 * k + 32 ≤ length body
-      → some (record { vmaddr = a; vmsize = b; fileoff = c; filesize = d }) ≡ segment_in body k
+      → Some (record { vmaddr = a; vmsize = b; fileoff = c; filesize = d }) ≡ segment_in body k
   unfolding segment_in
   segment_there a b c d ea eb ec ed h = rw (le-leb (32 * k + 32) (length body) h, ea, eb, ec, ed)
 
-  pub segment_past : length body < 32 * k + 32 → none ≡ segment_in body k
+  pub segment_past : length body < 32 * k + 32 → None ≡ segment_in body k
   unfolding segment_in
   segment_past h = rw (lt-leb (32 * k + 32) (length body) h)
 
@@ -34,11 +33,11 @@ module _ (body : List ℕ) (k : ℕ) where
     pub fileoff : g.fileoff ≡ u64_in body (32 * k + 16)
     pub filesize : g.filesize ≡ u64_in body (32 * k + 24)
 
-  pub segment_read : (g : Segment) → some g ≡ segment_in body k → Read g
+  pub segment_read : (g : Segment) → Some g ≡ segment_in body k → Read g
   segment_read g e =
       elim (dec_le (32 * k + 32) (length body)) [
         | yes h ↦
-            let same : some g ≡ some _ = e ∙ sym (segment_there _ _ _ _ refl refl refl refl h) in
+            let same : Some g ≡ Some _ = e ∙ sym (segment_there _ _ _ _ refl refl refl refl h) in
             let is : g ≡ record { vmaddr = u64_in body (32 * k); vmsize = u64_in body (32 * k + 8); fileoff = u64_in body (32 * k + 16); filesize = u64_in body (32 * k + 24) } = cc in
             record { within = h; vmaddr = ap (λ (x : Segment). x.vmaddr) is; vmsize = ap (λ (x : Segment). x.vmsize) is; fileoff = ap (λ (x : Segment). x.fileoff) is; filesize = ap (λ (x : Segment). x.filesize) is }
         | no h ↦
@@ -47,7 +46,7 @@ module _ (body : List ℕ) (k : ℕ) where
             absurd (omega arith)
       ]
 
-  pub segment_beyond : none ≡ segment_in body k → length body < 32 * k + 32
+  pub segment_beyond : None ≡ segment_in body k → length body < 32 * k + 32
   segment_beyond e =
       elim (dec_le (32 * k + 32) (length body)) [
         | yes h ↦
@@ -97,7 +96,7 @@ put_number body list list' i j o n holds inside next at e =
     ∙ sym (append_assoc (numbers i body) (u64_in body (8 * i) ∷ []) (drop (suc i) list))
     ∙ ap (λ (l : List ℕ). l ++ drop (suc i) list) (sym (numbers_snoc i body)))
 
-pub started_more : (body list list' : List ℕ) (k : ℕ) (g : Segment) → Started body list list' k → some g ≡ segment_in body k → k < segment_numbers_most / 4
+pub started_more : (body list list' : List ℕ) (k : ℕ) (g : Segment) → Started body list list' k → Some g ≡ segment_in body k → k < segment_numbers_most / 4
     → Started body list (set (set (set (set list' (4 * k) g.vmaddr) (4 * k + 1) g.vmsize) (4 * k + 2) g.fileoff) (4 * k + 3) g.filesize) (k + 1)
 started_more body list list' k g f e h =
     let r : Read body k g = segment_read body k g e in
@@ -122,7 +121,7 @@ module _ (s : List ℕ) (l : Layout) (list list' : List ℕ) (k : ℕ) (f : Star
       let size : 4 * k ≡ length (listed_numbers s l) = sym (numbers_length (4 * k) (segment_bytes s l)) ∙ ap length same in
       (size, f.holds ∙ ap (λ (ns : List ℕ). ns ++ drop (4 * k) list) same ∙ ap (λ (n : ℕ). listed_numbers s l ++ drop n list) size)
 
-  pub filled_all : none ≡ segment_in (segment_bytes s l) k → (4 * k ≡ length (listed_numbers s l)) × (list' ≡ at_start (listed_numbers s l) list)
+  pub filled_all : None ≡ segment_in (segment_bytes s l) k → (4 * k ≡ length (listed_numbers s l)) × (list' ≡ at_start (listed_numbers s l) list)
   filled_all e = filled (omega (arith, segment_beyond (segment_bytes s l) k e, f.bound, f.within))
 
   pub filled_full : segment_numbers_most / 4 ≤ k → (4 * k ≡ length (listed_numbers s l)) × (list' ≡ at_start (listed_numbers s l) list)

@@ -1,6 +1,5 @@
 -- What lies at a layout's places (docs/SPECIFICATION.md, "Bundles"): util's parts, and the segments as numbers.
-use Rattle.std.specs.Prelude.{ℕ, zero, suc, ◌+◌, ◌*◌, ◌/◌, min, List, [], ◌∷◌, cond, length, take, drop, leb}
-use Rattle.std.proofs.Math.Option.{Option, some, none}
+use Rattle.std.specs.Prelude.{ℕ, zero, suc, ◌+◌, ◌*◌, ◌/◌, min, List, [], ◌∷◌, cond, length, take, drop, leb, Option, Some, None}
 use Rattle.util.specs.Cstr.{part_of, place}
 use Rattle.util.specs.LittleEndian.{little_endian}
 use Rattle.segment.specs.Segments.{Segment}
@@ -23,13 +22,13 @@ u64_in s at = little_endian (take 8 (drop at s))
 unfoldable pub segment_in : List ℕ → ℕ → Option Segment
 segment_in body k =
     cond (leb (32 * k + 32) (length body))
-    (some (record { vmaddr = u64_in body (32 * k); vmsize = u64_in body (32 * k + 8); fileoff = u64_in body (32 * k + 16); filesize = u64_in body (32 * k + 24) }))
-    none
+    (Some (record { vmaddr = u64_in body (32 * k); vmsize = u64_in body (32 * k + 8); fileoff = u64_in body (32 * k + 16); filesize = u64_in body (32 * k + 24) }))
+    None
 
 -- the same from the code's answer
 abbrev pub segment_of : SegmentRead → Option Segment
-segment_of (SegmentRead.Segment g) = some (record { vmaddr = g.vmaddr; vmsize = g.vmsize; fileoff = g.fileoff; filesize = g.filesize })
-segment_of SegmentRead.Nothing = none
+segment_of (SegmentRead.Segment g) = Some (record { vmaddr = g.vmaddr; vmsize = g.vmsize; fileoff = g.fileoff; filesize = g.filesize })
+segment_of SegmentRead.Nothing = None
 
 -- the first numbers of a body, eight bytes each
 unfoldable pub numbers : ℕ → List ℕ → List ℕ

@@ -3,10 +3,9 @@
 use Prim.Native.Nat.{ℕ, zero, suc, ◌+◌, ◌-◌, ◌≤◌, ◌<◌}
 use Rattle.std.proofs.Math.Decide.{dec_le}
 use Rattle.std.proofs.Common.{arith, sym, ◌∙◌, subst}
-use Rattle.std.specs.Prelude.{◌≡◌, List, [], ◌∷◌, Bool, true, false, cond, ◌&&◌, ◌||◌, leb, ltb}
+use Rattle.std.specs.Prelude.{◌≡◌, List, [], ◌∷◌, Bool, true, false, cond, ◌&&◌, ◌||◌, leb, ltb, Some}
 use Rattle.std.proofs.Math.Path.{refl, ap}
 use Rattle.std.proofs.Math.Bool.{or-true, and-false, and-eq-true_iff, and_comm}
-use Rattle.std.proofs.Math.Option.{some}
 use Rattle.std.proofs.Math.ListN.{length}
 use Rattle.std.proofs.Math.Dec.{eqb}
 use borrow.Author.Tests.{le-leb, lt-leb, lt-ltb, le-ltb, eq-eqb, ne_eqb, leb-true, ltb-true, eqb-true}
@@ -68,7 +67,7 @@ module _ (s : List ℕ) (last at : ℕ) where
   check_past h = check_short (omega arith)
 
   -- the header's two numbers as they were read
-  module _ (n k : ℕ) (size : some n ≡ little_at 4 s at) (found : some k ≡ little_at 2 s (at + 4)) where
+  module _ (n k : ℕ) (size : Some n ≡ little_at 4 s at) (found : Some k ≡ little_at 2 s (at + 4)) where
     size_is : n ≡ size_at s at
     size_is = little_value 4 s at n size
 

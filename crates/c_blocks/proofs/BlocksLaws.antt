@@ -1,7 +1,6 @@
 -- What an answer says about what is made from it: the start of a descriptor's blocks, and the block of a kind.
-use Rattle.std.specs.Prelude.{ℕ, ◌≡◌, List, [], ◌∷◌, ◌++◌}
+use Rattle.std.specs.Prelude.{ℕ, ◌≡◌, List, [], ◌∷◌, ◌++◌, Option, Some, None}
 use Rattle.std.proofs.Common.{◌∙◌, ap}
-use Rattle.std.proofs.Math.Option.{Option, some, none}
 use Rattle.refusal.specs.Refusal.{Guarded, answered, refused, mapped}
 use Rattle.runtime.specs.Reads.{and_then, run}
 use Rattle.classtrailers.specs.Blocks.{row_number, kind_numbered}
@@ -37,7 +36,7 @@ module _ (b : Block) (k : ℕ) (l : List ℕ) (ek : k ≡ row_number b.kind) (el
   pub step_known : (rest : List ℕ) → 1 ∷ (k ∷ (l ++ rest)) ≡ 1 ∷ (block_numbers b ++ rest)
   step_known rest = rw (ek, el)
 
-  pub block_known : 1 ∷ (k ∷ l) ≡ kind_block_numbers (some b)
+  pub block_known : 1 ∷ (k ∷ l) ≡ kind_block_numbers (Some b)
   block_known = rw (ek, el)
 
 -- ---- the block of a kind
@@ -48,12 +47,12 @@ module _ (image segments : List ℕ) (address flags number : ℕ) where
   block_with b = block_numbered image segments (trailers address flags b) number
 
   module _ (b : Option Body) (e : answered b ≡ guarded segments (answered (run image segments (body address flags)))) where
-    pub no_kind_no_block : none ≡ kind_numbered number → answered none ≡ guarded segments (answered (block_numbered image segments (start_at image segments address flags) number))
+    pub no_kind_no_block : None ≡ kind_numbered number → answered None ≡ guarded segments (answered (block_numbered image segments (start_at image segments address flags) number))
     no_kind_no_block f =
         ap (λ (k : Option BlockKind). answered (and_then k (λ k. kind_from image segments k (trailers address flags b)))) f
         ∙ answered_then segments block_with _ b e
 
-    pub kind_block : (k : BlockKind) (x : Guarded (Option Block)) → some k ≡ kind_numbered number → x ≡ guarded segments (answered (kind_from image segments k (trailers address flags b)))
+    pub kind_block : (k : BlockKind) (x : Guarded (Option Block)) → Some k ≡ kind_numbered number → x ≡ guarded segments (answered (kind_from image segments k (trailers address flags b)))
         → x ≡ guarded segments (answered (block_numbered image segments (start_at image segments address flags) number))
     kind_block k x f g =
         g

@@ -1,7 +1,6 @@
 -- docs/SPECIFICATION.md, "Calls for C". Blocks as numbers: the number of the kind in the table's order, and what is recorded in
 -- three numbers, filled up with zeros.
-use Rattle.std.specs.Prelude.{ℕ, List, [], ◌∷◌, ◌++◌, not, eqb}
-use Rattle.std.proofs.Math.Option.{Option, some, none}
+use Rattle.std.specs.Prelude.{ℕ, List, [], ◌∷◌, ◌++◌, not, eqb, Option, Some, None}
 use Rattle.runtime.specs.Reads.{and_then, run}
 use Rattle.classtrailers.specs.Blocks.{row_number, kind_numbered, Walk, Step}
 use Rattle.classtrailers.specs.declared.block.Block.{Block}
@@ -17,8 +16,8 @@ start_at image segments address flags = trailers address flags (run image segmen
 
 -- whether it is a class, the extra class flags, and where the blocks start
 abbrev pub start_numbers : Option Start → List ℕ
-start_numbers none = 0 ∷ (0 ∷ (0 ∷ (0 ∷ [])))
-start_numbers (some s) = 1 ∷ (flag_number s.trailing.is_class ∷ (s.trailing.extra ∷ (s.start ∷ [])))
+start_numbers None = 0 ∷ (0 ∷ (0 ∷ (0 ∷ [])))
+start_numbers (Some s) = 1 ∷ (flag_number s.trailing.is_class ∷ (s.trailing.extra ∷ (s.start ∷ [])))
 
 -- a walk from its numbers; any number but 0 means a class
 abbrev pub walk_at : ℕ → ℕ → ℕ → ℕ → ℕ → Walk
@@ -30,12 +29,12 @@ block_numbers b = row_number b.kind ∷ recorded_numbers b
 
 -- a step: the block, and the walk's row and address from there on
 abbrev pub block_step_numbers : Option Step → List ℕ
-block_step_numbers none = 0 ∷ (0 ∷ (0 ∷ (0 ∷ (0 ∷ (0 ∷ (0 ∷ []))))))
-block_step_numbers (some s) = 1 ∷ (block_numbers s.block ++ (s.next.row ∷ (s.next.address ∷ [])))
+block_step_numbers None = 0 ∷ (0 ∷ (0 ∷ (0 ∷ (0 ∷ (0 ∷ (0 ∷ []))))))
+block_step_numbers (Some s) = 1 ∷ (block_numbers s.block ++ (s.next.row ∷ (s.next.address ∷ [])))
 
 abbrev pub kind_block_numbers : Option Block → List ℕ
-kind_block_numbers none = 0 ∷ (0 ∷ (0 ∷ (0 ∷ (0 ∷ []))))
-kind_block_numbers (some b) = 1 ∷ block_numbers b
+kind_block_numbers None = 0 ∷ (0 ∷ (0 ∷ (0 ∷ (0 ∷ []))))
+kind_block_numbers (Some b) = 1 ∷ block_numbers b
 
 -- the block of the kind with a number, for the descriptor at an address; there is none for a number that no kind has
 abbrev pub block_numbered : List ℕ → List ℕ → Option Start → ℕ → Option Block

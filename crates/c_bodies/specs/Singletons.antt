@@ -1,9 +1,8 @@
 -- docs/SPECIFICATION.md, "Calls for C". A singleton initialization as four numbers: 1 and its three
 -- addresses; all are 0 if there is none.
-use Rattle.std.specs.Prelude.{ℕ, List, [], ◌∷◌}
-use Rattle.std.proofs.Math.Option.{Option, some, none}
+use Rattle.std.specs.Prelude.{ℕ, List, [], ◌∷◌, Option, Some, None}
 use Rattle.type_body.specs.Singleton.{Initialization}
 
 abbrev pub init_numbers : Option Initialization → List ℕ
-init_numbers none = 0 ∷ (0 ∷ (0 ∷ (0 ∷ [])))
-init_numbers (some i) = 1 ∷ (i.cache ∷ (i.incomplete ∷ (i.completion ∷ [])))
+init_numbers None = 0 ∷ (0 ∷ (0 ∷ (0 ∷ [])))
+init_numbers (Some i) = 1 ∷ (i.cache ∷ (i.incomplete ∷ (i.completion ∷ [])))

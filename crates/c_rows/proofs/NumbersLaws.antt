@@ -1,7 +1,6 @@
 -- What an answer says about its status and its numbers.
-use Rattle.std.specs.Prelude.{ℕ, ◌≡◌, refl, List, [], ◌∷◌, get_or}
+use Rattle.std.specs.Prelude.{ℕ, ◌≡◌, refl, List, [], ◌∷◌, get_or, Some, None}
 use Rattle.std.proofs.Common.{◌∙◌, ap}
-use Rattle.std.proofs.Math.Option.{some, none}
 use Rattle.refusal.specs.Refusal.{Guarded, answered, refused, mapped, answer_of}
 use Rattle.util.specs.Buffer.{at_start, overwritten}
 use Rattle.util.specs.Cstr.{text_of}
@@ -25,17 +24,17 @@ module _ {A : Type 0} (numbers : A → List ℕ) (g : Guarded A) (out : List ℕ
 -- a call that tests the segments itself, and such a call that writes a text into a buffer
 module _ {A : Type 0} (segments : List ℕ) (a : A) where
   module _ (numbers : A → List ℕ) (out : List ℕ) where
-    pub tells_accepted : (l : List ℕ) → l ≡ numbers a → none ≡ fault segments → Tells (mapped numbers (guarded segments (answered a))) out 0 l
+    pub tells_accepted : (l : List ℕ) → l ≡ numbers a → None ≡ fault segments → Tells (mapped numbers (guarded segments (answered a))) out 0 l
     tells_accepted l el h = tells_as numbers _ out a l (accepted_list segments (answered a) h) el
 
-    pub tells_refused : (r : ℕ) {n : ℕ} → some n ≡ fault segments → r ≡ n → Tells (mapped numbers (guarded segments (answered a))) out r out
+    pub tells_refused : (r : ℕ) {n : ℕ} → Some n ≡ fault segments → r ≡ n → Tells (mapped numbers (guarded segments (answered a))) out r out
     tells_refused r h er = refuses numbers _ out r _ (refused_list segments (answered a) h) er
 
   module _ (text : A → List ℕ) (b : List ℕ) where
-    pub writes_accepted : (b' : List ℕ) → b' ≡ at_start (text a) b → none ≡ fault segments → b' ≡ overwritten b (answer_of (mapped text (guarded segments (answered a))))
+    pub writes_accepted : (b' : List ℕ) → b' ≡ at_start (text a) b → None ≡ fault segments → b' ≡ overwritten b (answer_of (mapped text (guarded segments (answered a))))
     writes_accepted b' e h = e ∙ ap (λ (x : Guarded A). overwritten b (answer_of (mapped text x))) (accepted_list segments (answered a) h)
 
-    pub keeps_refused : {n : ℕ} → some n ≡ fault segments → b ≡ overwritten b (answer_of (mapped text (guarded segments (answered a))))
+    pub keeps_refused : {n : ℕ} → Some n ≡ fault segments → b ≡ overwritten b (answer_of (mapped text (guarded segments (answered a))))
     keeps_refused h = ap (λ (x : Guarded A). overwritten b (answer_of (mapped text x))) (refused_list segments (answered a) h)
 
 -- a context's numbers, the last three of which are its name's

@@ -1,7 +1,6 @@
 -- docs/SPECIFICATION.md, "Calls for C". The answers of the calls as a status and a fixed number of numbers in the caller's array. If there
 -- is nothing, all numbers are 0.
-use Rattle.std.specs.Prelude.{ℕ, ◌≡◌, List, [], ◌∷◌}
-use Rattle.std.proofs.Math.Option.{Option, some, none}
+use Rattle.std.specs.Prelude.{ℕ, ◌≡◌, List, [], ◌∷◌, Option, Some, None}
 use Rattle.refusal.specs.Refusal.{Guarded, answered, refused}
 use Rattle.util.specs.Cstr.{Place, place, part_of}
 use Rattle.typedescriptor.specs.Row.{TypeRow}
@@ -26,21 +25,21 @@ pub record Tells (answer : Guarded (List ℕ)) (out : List ℕ) (r : ℕ) (out' 
 
 -- a single number
 abbrev pub value_numbers : Option ℕ → List ℕ
-value_numbers none = 0 ∷ (0 ∷ [])
-value_numbers (some o) = 1 ∷ (o ∷ [])
+value_numbers None = 0 ∷ (0 ∷ [])
+value_numbers (Some o) = 1 ∷ (o ∷ [])
 
 abbrev pub row_numbers : Option Found → List ℕ
-row_numbers none = 0 ∷ (0 ∷ (0 ∷ (0 ∷ (0 ∷ (0 ∷ (0 ∷ (0 ∷ [])))))))
-row_numbers (some f) =
+row_numbers None = 0 ∷ (0 ∷ (0 ∷ (0 ∷ (0 ∷ (0 ∷ (0 ∷ (0 ∷ [])))))))
+row_numbers (Some f) =
     1 ∷ (f.slot ∷ (f.next ∷ (f.row.address ∷ (f.row.flags ∷ (f.row.parent ∷ (f.row.name.start ∷ (f.row.name.size ∷ [])))))))
 
 abbrev pub context_numbers : Option context.Name → List ℕ
-context_numbers none = 0 ∷ (0 ∷ (0 ∷ []))
-context_numbers (some n) = 1 ∷ (n.place.start ∷ (n.place.size ∷ []))
+context_numbers None = 0 ∷ (0 ∷ (0 ∷ []))
+context_numbers (Some n) = 1 ∷ (n.place.start ∷ (n.place.size ∷ []))
 
 abbrev pub chain_step_numbers : Option Step → List ℕ
-chain_step_numbers none = 0 ∷ (0 ∷ (0 ∷ (0 ∷ (0 ∷ (0 ∷ (0 ∷ (0 ∷ [])))))))
-chain_step_numbers (some s) =
+chain_step_numbers None = 0 ∷ (0 ∷ (0 ∷ (0 ∷ (0 ∷ (0 ∷ (0 ∷ (0 ∷ [])))))))
+chain_step_numbers (Some s) =
     1 ∷ (s.context.header.address ∷ (s.context.header.flags ∷ (s.next ∷ (s.given ∷ context_numbers s.context.name))))
 
 -- a single length

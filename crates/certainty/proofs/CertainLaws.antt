@@ -1,12 +1,11 @@
 -- What is certain for the bytes that arrived holds whatever bytes follow (`certain-run`), that is, for every image that starts with them
 -- (`certain-first`): the program's answer is that image's, and if it has none the image has none. It stays certain (`certain-stays`). There
 -- is no premise on texts.
-use Rattle.std.specs.Prelude.{ℕ, zero, suc, ◌+◌, ◌≤◌, ◌<◌, ◌≡◌, refl, ◌&&◌, take, drop, ltb}
+use Rattle.std.specs.Prelude.{ℕ, zero, suc, ◌+◌, ◌≤◌, ◌<◌, ◌≡◌, refl, ◌&&◌, take, drop, ltb, Option, Some, None, option_map}
 use Rattle.std.proofs.Common.{arith, sym, ◌∙◌, ap, length-append, length-drop, take-append-drop}
 use mathlib.Core.List.{List, [], ◌∷◌, ◌++◌}
 use Rattle.std.proofs.Math.Bool.{true, false, and-eq-true_iff}
 use Rattle.std.proofs.lemmas.Bool.{false≢true}
-use Rattle.std.proofs.Math.Option.{Option, some, none, map}
 use Rattle.std.proofs.Math.ListN.{length}
 use Rattle.std.proofs.lemmas.List.{take-append-le, drop-append-le}
 use Rattle.std.proofs.Math.Dec.{leb, leb-suc-suc}
@@ -66,7 +65,7 @@ module _ (arrived rest : List ℕ) where
     place_same =
         let h : o ≤ length arrived = omega (arith, nul_inside arrived o e) in
         simp (le-leb o (length arrived) h, le-leb o (length (arrived ++ rest)) (omega (arith, longer)))
-        (ap (λ (u : List ℕ). map (place o) (elim (well_formed u) as (λ _. Option ℕ) [ true ↦ some (length u) | false ↦ none ])) text_same)
+        (ap (λ (u : List ℕ). option_map (place o) (elim (well_formed u) as (λ _. Option ℕ) [ true ↦ Some (length u) | false ↦ None ])) text_same)
 
 -- ---- a program
 
@@ -82,8 +81,8 @@ module _ (arrived rest segments : List ℕ) where
         ≡ and_then (and_then x (within (length arrived) n)) (λ o. run arrived segments (k (take n (drop o arrived)))))
         × (if_there x (λ o. leb (o + n) (length (arrived ++ rest)) && certain (arrived ++ rest) segments (k (take n (drop o (arrived ++ rest))))) ≡ true)
     unfolding within
-    kept_bytes n k none kept e = (refl, refl)
-    kept_bytes n k (some o) kept e =
+    kept_bytes n k None kept e = (refl, refl)
+    kept_bytes n k (Some o) kept e =
         let w = (and-eq-true_iff (leb (o + n) (length arrived)) (certain arrived segments (k (take n (drop o arrived))))).0 e in
         let h : o + n ≤ length arrived = leb-true (o + n) (length arrived) w.0 in
         let g : leb (o + n) (length (arrived ++ rest)) ≡ true = le-leb (o + n) (length (arrived ++ rest)) (omega (arith, longer arrived rest)) in
@@ -95,8 +94,8 @@ module _ (arrived rest segments : List ℕ) where
         → (and_then x (λ o. and_then (text_at (arrived ++ rest) o) (λ p. run (arrived ++ rest) segments (k p (until_nul (drop o (arrived ++ rest))))))
         ≡ and_then x (λ o. and_then (text_at arrived o) (λ p. run arrived segments (k p (until_nul (drop o arrived))))))
         × (if_there x (λ o. has_nul (drop o (arrived ++ rest)) && if_there (text_at (arrived ++ rest) o) (λ p. certain (arrived ++ rest) segments (k p (until_nul (drop o (arrived ++ rest)))))) ≡ true)
-    kept_text k none kept e = (refl, refl)
-    kept_text k (some o) kept e =
+    kept_text k None kept e = (refl, refl)
+    kept_text k (Some o) kept e =
         let w = (and-eq-true_iff (has_nul (drop o arrived)) (if_there (text_at arrived o) (λ p. certain arrived segments (k p (until_nul (drop o arrived)))))).0 e in
         let u = found (text_at arrived o) w.1 in
         let g : has_nul (drop o (arrived ++ rest)) ≡ true = ap has_nul (drop_same arrived rest o w.0) ∙ nul_stays (drop o arrived) rest w.0 in
@@ -105,8 +104,8 @@ module _ (arrived rest segments : List ℕ) where
         found : (y : Option Place) → if_there y (λ p. certain arrived segments (k p (until_nul (drop o arrived)))) ≡ true
             → (and_then y (λ p. run (arrived ++ rest) segments (k p (until_nul (drop o arrived)))) ≡ and_then y (λ p. run arrived segments (k p (until_nul (drop o arrived)))))
             × (if_there y (λ p. certain (arrived ++ rest) segments (k p (until_nul (drop o arrived)))) ≡ true)
-        found none f = (refl, refl)
-        found (some p) f = kept p (until_nul (drop o arrived)) f
+        found None f = (refl, refl)
+        found (Some p) f = kept p (until_nul (drop o arrived)) f
 
     kept : (p : Reads A) → Kept p
     unfolding certain run bytes_place

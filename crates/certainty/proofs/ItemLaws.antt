@@ -7,10 +7,9 @@ use Rattle.std.proofs.Math.Decide.{dec_le, dec_lt}
 use Rattle.std.proofs.Common.{arith, ◌∙◌, length-drop, le-leb, lt-ltb, le-ltb, ne_eqb}
 use Rattle.std.proofs.Math.Path.{◌≡◌, refl, sym, ap}
 use mathlib.Core.List.{List, ◌∷◌, ◌++◌}
-use Rattle.std.specs.Prelude.{Bool, cond, ◌&&◌, take, drop, eqb}
+use Rattle.std.specs.Prelude.{Bool, cond, ◌&&◌, take, drop, eqb, Option, Some, None, option_map}
 use Rattle.std.proofs.Math.Bool.{true, false, and-eq-true_iff, and-true}
 use Rattle.std.proofs.lemmas.Bool.{false≢true, lt-leb}
-use Rattle.std.proofs.Math.Option.{Option, some, none, map}
 use Rattle.std.proofs.Math.ListN.{length}
 use Rattle.std.proofs.Math.Dec.{leb, ltb}
 use Rattle.utf8.specs.Text.{until_nul}
@@ -50,28 +49,28 @@ nul_before arrived o h = nul_is (drop o arrived) ∙ go (dec_lt (length (until_n
         )
 
 -- the place of the text at an address
-place_looked : (image segments : List ℕ) (a : ℕ) → map (λ n. n.place) (run image segments (lookup a)) ≡ text_place image segments a
+place_looked : (image segments : List ℕ) (a : ℕ) → option_map (λ n. n.place) (run image segments (lookup a)) ≡ text_place image segments a
 unfolding lookup run text_place
 place_looked image segments a = go (text_offset segments a)
   where
-    at : (o : ℕ) (y : Option Place) → map (λ (n : Name). n.place) (and_then y (λ p. some (record { place = p; bytes = until_nul (drop o image) }))) ≡ y
-    at o none = refl
-    at o (some p) = refl
+    at : (o : ℕ) (y : Option Place) → option_map (λ (n : Name). n.place) (and_then y (λ p. Some (record { place = p; bytes = until_nul (drop o image) }))) ≡ y
+    at o None = refl
+    at o (Some p) = refl
 
-    go : (x : Option ℕ) → map (λ (n : Name). n.place) (and_then x (λ o. and_then (text_at image o) (λ p. some (record { place = p; bytes = until_nul (drop o image) })))) ≡ and_then x (text_at image)
-    go none = refl
-    go (some o) = at o (text_at image o)
+    go : (x : Option ℕ) → option_map (λ (n : Name). n.place) (and_then x (λ o. and_then (text_at image o) (λ p. Some (record { place = p; bytes = until_nul (drop o image) })))) ≡ and_then x (text_at image)
+    go None = refl
+    go (Some o) = at o (text_at image o)
 
 module _ (arrived segments : List ℕ) where
   -- there is no text at an offset past the end
-  pub found_inside : (o : ℕ) (p : Place) → text_at arrived o ≡ some p → o ≤ length arrived
+  pub found_inside : (o : ℕ) (p : Place) → text_at arrived o ≡ Some p → o ≤ length arrived
   unfolding text_at
   found_inside o p e = go (dec_le o (length arrived))
     where
       go : Dec (o ≤ length arrived) → o ≤ length arrived
       go (yes h) = h
       go (no h) =
-          let f : ◌≡◌ {A = Option Place} none (some p) = simp (lt-leb o (length arrived) (omega arith)) at e in
+          let f : ◌≡◌ {A = Option Place} None (Some p) = simp (lt-leb o (length arrived) (omega arith)) at e in
           let z : ◌≡◌ {A = ℕ} 0 1 = cc in
           absurd (omega arith)
 
@@ -93,7 +92,7 @@ module _ (arrived segments : List ℕ) where
         (rw (w.at, w.found, size) (and-true (has_nul (drop o arrived)) ∙ nul_before arrived o (found_inside o _ w.found)))
 
   -- a text that was found is certain if it ends before the last byte that arrived
-  pub text_certain : (a : ℕ) (n : Name) → run arrived segments (lookup a) ≡ some n
+  pub text_certain : (a : ℕ) (n : Name) → run arrived segments (lookup a) ≡ Some n
       → certain arrived segments (lookup a) ≡ ltb (n.place.start + n.place.size) (length arrived)
   unfolding lookup run
   text_certain a n e =
@@ -101,23 +100,23 @@ module _ (arrived segments : List ℕ) where
       let q : record { place = w.place; bytes = until_nul (drop w.place.start arrived) } ≡ n = (let g = w.goes in cc) in
       text_there a (λ p t. record { place = p; bytes = t }) n w ∙ ap (λ (m : Name). ltb (m.place.start + m.place.size) (length arrived)) q
 
-  slot_name_certain : (v : ℕ) (h : List ℕ) (n : Name) → run arrived segments (slot_name v h) ≡ some n
+  slot_name_certain : (v : ℕ) (h : List ℕ) (n : Name) → run arrived segments (slot_name v h) ≡ Some n
       → certain arrived segments (slot_name v h) ≡ ltb (n.place.start + n.place.size) (length arrived)
   unfolding slot_name lookup run certain
   slot_name_certain v h n e = go (eqb (unsigned_in 4 h 0) 0) e
     where
-      go : (b : Bool) → run arrived segments (cond b nothing (lookup (relative_pointer v (signed_in 4 h 0)))) ≡ some n
+      go : (b : Bool) → run arrived segments (cond b nothing (lookup (relative_pointer v (signed_in 4 h 0)))) ≡ Some n
           → certain arrived segments (cond b nothing (lookup (relative_pointer v (signed_in 4 h 0)))) ≡ ltb (n.place.start + n.place.size) (length arrived)
       go true f = let z : ◌≡◌ {A = ℕ} 0 1 = cc in absurd (omega arith)
       go false f = text_certain (relative_pointer v (signed_in 4 h 0)) n f
 
   -- a context's name, whose offset is a separate read
-  pub context_name_certain : (a flags : ℕ) (n : Name) → run arrived segments (name a flags) ≡ some n
+  pub context_name_certain : (a flags : ℕ) (n : Name) → run arrived segments (name a flags) ≡ Some n
       → certain arrived segments (name a flags) ≡ ltb (n.place.start + n.place.size) (length arrived)
   unfolding name name_at run certain
   context_name_certain a flags n e = go (has_name (context_kind flags)) (leb (2 ^ 64) (a + 8)) e
     where
-      go : (b d : Bool) → run arrived segments (cond b (cond d nothing (bytes (a + 8) 4 (slot_name (a + 8)))) nothing) ≡ some n
+      go : (b d : Bool) → run arrived segments (cond b (cond d nothing (bytes (a + 8) 4 (slot_name (a + 8)))) nothing) ≡ Some n
           → certain arrived segments (cond b (cond d nothing (bytes (a + 8) 4 (slot_name (a + 8)))) nothing) ≡ ltb (n.place.start + n.place.size) (length arrived)
       go true false f =
           let w : BytesRead arrived segments (a + 8) 4 (slot_name (a + 8)) n = bytes_read_lem arrived segments (a + 8) n 4 (slot_name (a + 8)) f in
@@ -127,14 +126,14 @@ module _ (arrived segments : List ℕ) where
 
   -- ---- a row
 
-  descriptor_certain : (a : ℕ) (r : TypeRow) → run arrived segments (descriptor a) ≡ some r
+  descriptor_certain : (a : ℕ) (r : TypeRow) → run arrived segments (descriptor a) ≡ Some r
       → certain arrived segments (descriptor a) ≡ ltb (r.name.start + r.name.size) (length arrived)
   unfolding descriptor row_name run certain
   descriptor_certain a r e =
       let w : BytesRead arrived segments a 20 (row_name a) r = bytes_read_lem arrived segments a r 20 (row_name a) e in
       bytes_there a 20 (row_name a) r w ∙ go (take 20 (drop w.offset arrived)) (leb (2 ^ 64) (a + 8)) w.goes
     where
-      go : (h : List ℕ) (b : Bool) → run arrived segments (cond b nothing (text (name_address a h) (λ p t. done (type_row a h p t)))) ≡ some r
+      go : (h : List ℕ) (b : Bool) → run arrived segments (cond b nothing (text (name_address a h) (λ p t. done (type_row a h p t)))) ≡ Some r
           → certain arrived segments (cond b nothing (text (name_address a h) (λ p t. done (type_row a h p t)))) ≡ ltb (r.name.start + r.name.size) (length arrived)
       go h true f = let z : ◌≡◌ {A = ℕ} 0 1 = cc in absurd (omega arith)
       go h false f =
@@ -143,7 +142,7 @@ module _ (arrived segments : List ℕ) where
           text_there (name_address a h) (type_row a h) r v ∙ ap (λ (m : TypeRow). ltb (m.name.start + m.name.size) (length arrived)) q
 
   -- a row that is in the listing of what arrived is certain if its name ends before the last byte
-  pub row_certain : (types : List ℕ) (start i : ℕ) (r : TypeRow) → run arrived segments (slot_row types start i) ≡ some r
+  pub row_certain : (types : List ℕ) (start i : ℕ) (r : TypeRow) → run arrived segments (slot_row types start i) ≡ Some r
       → certain arrived segments (slot_row types start i) ≡ ltb (r.name.start + r.name.size) (length arrived)
   row_certain types start i r e =
       let p : slot_row types start i ≡ descriptor (slot_address types start i) = slot_program arrived segments types start i r e in
@@ -151,12 +150,12 @@ module _ (arrived segments : List ℕ) where
 
   -- ---- what one comparison says: the answer is that of every image that starts with these bytes
 
-  pub text_first : (a : ℕ) (n : Name) → run arrived segments (lookup a) ≡ some n → n.place.start + n.place.size < length arrived
-      → (image : List ℕ) → take (length arrived) image ≡ arrived → run image segments (lookup a) ≡ some n
+  pub text_first : (a : ℕ) (n : Name) → run arrived segments (lookup a) ≡ Some n → n.place.start + n.place.size < length arrived
+      → (image : List ℕ) → take (length arrived) image ≡ arrived → run image segments (lookup a) ≡ Some n
   text_first a n e h image f = certain_first segments (lookup a) arrived (text_certain a n e ∙ lt-ltb _ _ h) image f ∙ e
 
-  pub context_name_first : (a flags : ℕ) (n : Name) → run arrived segments (name a flags) ≡ some n → n.place.start + n.place.size < length arrived
-      → (image : List ℕ) → take (length arrived) image ≡ arrived → run image segments (name a flags) ≡ some n
+  pub context_name_first : (a flags : ℕ) (n : Name) → run arrived segments (name a flags) ≡ Some n → n.place.start + n.place.size < length arrived
+      → (image : List ℕ) → take (length arrived) image ≡ arrived → run image segments (name a flags) ≡ Some n
   context_name_first a flags n e h image f = certain_first segments (name a flags) arrived (context_name_certain a flags n e ∙ lt-ltb _ _ h) image f ∙ e
 
   -- a field's name, in the image or, if it is certain that the image has none, in the string section
@@ -165,7 +164,7 @@ module _ (arrived segments : List ℕ) where
   unfolding field_name
   field_name_first a e image f strings start =
       let same : text_place image segments a ≡ text_place arrived segments a =
-      sym (place_looked image segments a) ∙ ap (map (λ n. n.place)) (certain_first segments (lookup a) arrived e image f) ∙ place_looked arrived segments a in
+      sym (place_looked image segments a) ∙ ap (option_map (λ n. n.place)) (certain_first segments (lookup a) arrived e image f) ∙ place_looked arrived segments a in
       rw same
 
   -- ---- an item
@@ -185,8 +184,8 @@ module _ (arrived segments : List ℕ) where
         go : (x : Option ℕ) → ((h : List ℕ) → certain arrived segments (k h) ≡ true → All Ended (path arrived segments (k h)))
             → if_there x (λ o. leb (o + n) (length arrived) && certain arrived segments (k (take n (drop o arrived)))) ≡ true
             → All Ended (also (and_then x (within (length arrived) n)) (λ o. bytes_range o n ∷ path arrived segments (k (take n (drop o arrived)))))
-        go none ends f = tt
-        go (some o) ends f =
+        go None ends f = tt
+        go (Some o) ends f =
             let w = (and-eq-true_iff (leb (o + n) (length arrived)) (certain arrived segments (k (take n (drop o arrived))))).0 f in
             simp w.0 ((λ t. absurd (false≢true t)), ends (take n (drop o arrived)) w.1)
     certain_ends (text address k) e = go (text_offset segments address) (λ p t. certain_ends (k p t)) e
@@ -194,83 +193,83 @@ module _ (arrived segments : List ℕ) where
         found : (o : ℕ) (y : Option Place) → ((p : Place) (t : List ℕ) → certain arrived segments (k p t) ≡ true → All Ended (path arrived segments (k p t)))
             → if_there y (λ p. certain arrived segments (k p (until_nul (drop o arrived)))) ≡ true
             → All Ended (also y (λ p. path arrived segments (k p (until_nul (drop o arrived)))))
-        found o none ends f = tt
-        found o (some p) ends f = ends p (until_nul (drop o arrived)) f
+        found o None ends f = tt
+        found o (Some p) ends f = ends p (until_nul (drop o arrived)) f
 
         go : (x : Option ℕ) → ((p : Place) (t : List ℕ) → certain arrived segments (k p t) ≡ true → All Ended (path arrived segments (k p t)))
             → if_there x (λ o. has_nul (drop o arrived) && if_there (text_at arrived o) (λ p. certain arrived segments (k p (until_nul (drop o arrived))))) ≡ true
             → All Ended (also x (λ o. text_range arrived o ∷ also (text_at arrived o) (λ p. path arrived segments (k p (until_nul (drop o arrived))))))
-        go none ends f = tt
-        go (some o) ends f =
+        go None ends f = tt
+        go (Some o) ends f =
             let w = (and-eq-true_iff (has_nul (drop o arrived)) (if_there (text_at arrived o) (λ p. certain arrived segments (k p (until_nul (drop o arrived)))))).0 f in
             ((λ t. w.0), found o (text_at arrived o) ends w.1)
 
     -- and a program that answers, and whose texts have their NUL, is certain
-    pub answers_certain : (p : Reads A) (x : A) → run arrived segments p ≡ some x → All Ended (path arrived segments p) → certain arrived segments p ≡ true
+    pub answers_certain : (p : Reads A) (x : A) → run arrived segments p ≡ Some x → All Ended (path arrived segments p) → certain arrived segments p ≡ true
     unfolding certain run path bytes_place within
     answers_certain (done a) x e = λ _. refl
     answers_certain nothing x e = λ _. refl
     answers_certain (bytes address n k) x e = go (file_offset (segments_of segments) address) (λ h. answers_certain (k h) x) e
       where
-        go : (y : Option ℕ) → ((h : List ℕ) → run arrived segments (k h) ≡ some x → All Ended (path arrived segments (k h)) → certain arrived segments (k h) ≡ true)
-            → and_then (and_then y (within (length arrived) n)) (λ o. run arrived segments (k (take n (drop o arrived)))) ≡ some x
+        go : (y : Option ℕ) → ((h : List ℕ) → run arrived segments (k h) ≡ Some x → All Ended (path arrived segments (k h)) → certain arrived segments (k h) ≡ true)
+            → and_then (and_then y (within (length arrived) n)) (λ o. run arrived segments (k (take n (drop o arrived)))) ≡ Some x
             → All Ended (also (and_then y (within (length arrived) n)) (λ o. bytes_range o n ∷ path arrived segments (k (take n (drop o arrived)))))
             → if_there y (λ o. leb (o + n) (length arrived) && certain arrived segments (k (take n (drop o arrived)))) ≡ true
-        go none sure f = λ _. refl
-        go (some o) sure f = at (dec_le (o + n) (length arrived)) f
+        go None sure f = λ _. refl
+        go (Some o) sure f = at (dec_le (o + n) (length arrived)) f
           where
-            at : Dec (o + n ≤ length arrived) → and_then (within (length arrived) n o) (λ q. run arrived segments (k (take n (drop q arrived)))) ≡ some x
+            at : Dec (o + n ≤ length arrived) → and_then (within (length arrived) n o) (λ q. run arrived segments (k (take n (drop q arrived)))) ≡ Some x
                 → All Ended (also (within (length arrived) n o) (λ q. bytes_range q n ∷ path arrived segments (k (take n (drop q arrived)))))
                 → (leb (o + n) (length arrived) && certain arrived segments (k (take n (drop o arrived)))) ≡ true
             at (yes h) g =
-                let f : run arrived segments (k (take n (drop o arrived))) ≡ some x = simp (le-leb (o + n) (length arrived) h) at g in
+                let f : run arrived segments (k (take n (drop o arrived))) ≡ Some x = simp (le-leb (o + n) (length arrived) h) at g in
                 simp (le-leb (o + n) (length arrived) h) (λ w. sure (take n (drop o arrived)) f w.1)
             at (no h) g =
-                let f : ◌≡◌ {A = Option A} none (some x) = simp (lt-leb (o + n) (length arrived) (omega arith)) at g in
+                let f : ◌≡◌ {A = Option A} None (Some x) = simp (lt-leb (o + n) (length arrived) (omega arith)) at g in
                 let z : ◌≡◌ {A = ℕ} 0 1 = cc in
                 absurd (omega arith)
     answers_certain (text address k) x e = go (text_offset segments address) (λ p t. answers_certain (k p t) x) e
       where
-        found : (o : ℕ) (y : Option Place) → ((p : Place) (t : List ℕ) → run arrived segments (k p t) ≡ some x → All Ended (path arrived segments (k p t)) → certain arrived segments (k p t) ≡ true)
-            → and_then y (λ p. run arrived segments (k p (until_nul (drop o arrived)))) ≡ some x
+        found : (o : ℕ) (y : Option Place) → ((p : Place) (t : List ℕ) → run arrived segments (k p t) ≡ Some x → All Ended (path arrived segments (k p t)) → certain arrived segments (k p t) ≡ true)
+            → and_then y (λ p. run arrived segments (k p (until_nul (drop o arrived)))) ≡ Some x
             → All Ended (also y (λ p. path arrived segments (k p (until_nul (drop o arrived)))))
             → if_there y (λ p. certain arrived segments (k p (until_nul (drop o arrived)))) ≡ true
-        found o none sure f w = refl
-        found o (some p) sure f w = sure p (until_nul (drop o arrived)) f w
+        found o None sure f w = refl
+        found o (Some p) sure f w = sure p (until_nul (drop o arrived)) f w
 
-        go : (y : Option ℕ) → ((p : Place) (t : List ℕ) → run arrived segments (k p t) ≡ some x → All Ended (path arrived segments (k p t)) → certain arrived segments (k p t) ≡ true)
-            → and_then y (λ o. and_then (text_at arrived o) (λ p. run arrived segments (k p (until_nul (drop o arrived))))) ≡ some x
+        go : (y : Option ℕ) → ((p : Place) (t : List ℕ) → run arrived segments (k p t) ≡ Some x → All Ended (path arrived segments (k p t)) → certain arrived segments (k p t) ≡ true)
+            → and_then y (λ o. and_then (text_at arrived o) (λ p. run arrived segments (k p (until_nul (drop o arrived))))) ≡ Some x
             → All Ended (also y (λ o. text_range arrived o ∷ also (text_at arrived o) (λ p. path arrived segments (k p (until_nul (drop o arrived))))))
             → if_there y (λ o. has_nul (drop o arrived) && if_there (text_at arrived o) (λ p. certain arrived segments (k p (until_nul (drop o arrived))))) ≡ true
-        go none sure f w = refl
-        go (some o) sure f w = rw (w.0 refl) (found o (text_at arrived o) sure f w.1)
+        go None sure f w = refl
+        go (Some o) sure f w = rw (w.0 refl) (found o (text_at arrived o) sure f w.1)
 
-  row_gone : (s : Sections) (i : ℕ) → run arrived segments (row_of_slot s i) ≡ none → run arrived segments (item s (Key.row i)) ≡ none
+  row_gone : (s : Sections) (i : ℕ) → run arrived segments (row_of_slot s i) ≡ None → run arrived segments (item s (Key.row i)) ≡ None
   unfolding item
   row_gone s i e = map_none arrived segments (row_of_slot s i) e Answer.row
 
-  module _ (s : Sections) (k : Key) (x : Answer) (e : run arrived segments (item s k) ≡ some x) where
+  module _ (s : Sections) (k : Key) (x : Answer) (e : run arrived segments (item s k) ≡ Some x) where
     -- an item that is in the listing of what arrived is certain if its row is
-    pub item_certain : ((i : ℕ) → slot_of k ≡ some i → certain arrived segments (row_of_slot s i) ≡ true) → certain arrived segments (item s k) ≡ true
+    pub item_certain : ((i : ℕ) → slot_of k ≡ Some i → certain arrived segments (row_of_slot s i) ≡ true) → certain arrived segments (item s k) ≡ true
     item_certain row =
         answers_certain (item s k) x e
         (on_item arrived segments Ended (λ o n t. absurd (false≢true t)) s k (λ i q. record { all = certain_ends (row_of_slot s i) (row i q) }))
 
     -- then it is an item of every image that starts with these bytes, word for word
-    pub item_kept : ((i : ℕ) → slot_of k ≡ some i → certain arrived segments (row_of_slot s i) ≡ true) → (rest : List ℕ) → run (arrived ++ rest) segments (item s k) ≡ some x
+    pub item_kept : ((i : ℕ) → slot_of k ≡ Some i → certain arrived segments (row_of_slot s i) ≡ true) → (rest : List ℕ) → run (arrived ++ rest) segments (item s k) ≡ Some x
     item_kept row rest = certain_run segments (item s k) arrived (item_certain row) rest ∙ e
 
     -- the same in plain numbers: the name of its row ends before the last byte that arrived
-    pub item_first : ((i : ℕ) (r : TypeRow) → slot_of k ≡ some i → run arrived segments (row_of_slot s i) ≡ some r → r.name.start + r.name.size < length arrived)
-        → (image : List ℕ) → take (length arrived) image ≡ arrived → run image segments (item s k) ≡ some x
+    pub item_first : ((i : ℕ) (r : TypeRow) → slot_of k ≡ Some i → run arrived segments (row_of_slot s i) ≡ Some r → r.name.start + r.name.size < length arrived)
+        → (image : List ℕ) → take (length arrived) image ≡ arrived → run image segments (item s k) ≡ Some x
     item_first before image f = certain_first segments (item s k) arrived (item_certain row) image f ∙ e
       where
-        row : (i : ℕ) → slot_of k ≡ some i → certain arrived segments (row_of_slot s i) ≡ true
+        row : (i : ℕ) → slot_of k ≡ Some i → certain arrived segments (row_of_slot s i) ≡ true
         row i q = go (run arrived segments (row_of_slot s i)) refl
           where
             go : (y : Option TypeRow) → run arrived segments (row_of_slot s i) ≡ y → certain arrived segments (row_of_slot s i) ≡ true
-            go none g =
-                let n : run arrived segments (item s k) ≡ none = no_row arrived segments s k i q (row_gone s i g) in
+            go None g =
+                let n : run arrived segments (item s k) ≡ None = no_row arrived segments s k i q (row_gone s i g) in
                 let z : ◌≡◌ {A = ℕ} 0 1 = cc in
                 absurd (omega arith)
-            go (some r) g = row_certain s.types s.types_start i r g ∙ lt-ltb _ _ (before i r q g)
+            go (Some r) g = row_certain s.types s.types_start i r g ∙ lt-ltb _ _ (before i r q g)

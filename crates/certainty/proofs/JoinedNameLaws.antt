@@ -1,12 +1,11 @@
 -- A joined name that is certain for the bytes that arrived is that of every image that starts with them, including refusals 3 and 4, for
 -- every length of the buffer (`name-kept`, `name-first`), and so is the row's line in the printed listing (`line_first`).
 use Prim.Native.Nat.{ℕ, zero, suc, ◌+◌, ◌^◌}
-use Rattle.std.specs.Prelude.{◌≡◌, Bool, cond, ◌&&◌, ◌||◌, length, take, eqb}
+use Rattle.std.specs.Prelude.{◌≡◌, Bool, cond, ◌&&◌, ◌||◌, length, take, eqb, Option, Some, None, option_map}
 use Rattle.std.proofs.Math.Path.{refl, sym, ap}
 use Rattle.std.proofs.Common.{◌∙◌}
 use mathlib.Core.List.{List, ◌++◌}
 use Rattle.std.proofs.Math.Bool.{true, false, and-eq-true_iff}
-use Rattle.std.proofs.Math.Option.{Option, some, none, map}
 use Rattle.std.proofs.Math.ListN.{drop, take-append-drop}
 use Rattle.std.proofs.Math.Dec.{leb}
 use Rattle.runtime.specs.Reads.{nothing, bytes, and_then, bytes_place, run}
@@ -22,15 +21,15 @@ use Rattle.certainty.proofs.CertainLaws.{certain_run, certain_first}
 use Rattle.certainty.specs.JoinedName.{header_certain, chain_certain, name_certain, joined_name}
 
 -- at or above 2^64 - 4 there is no header
-wrapped : (image segments : List ℕ) (a : ℕ) → leb (2 ^ 64) (a + 4) ≡ true → run image segments (header a) ≡ none
+wrapped : (image segments : List ℕ) (a : ℕ) → leb (2 ^ 64) (a + 4) ≡ true → run image segments (header a) ≡ None
 unfolding header header_in run
 wrapped image segments a e = go (eqb a 0)
   where
-    read : (x : Option ℕ) → and_then x (λ o. run image segments (header_in a (take 8 (drop o image)))) ≡ none
-    read none = refl
-    read (some o) = rw e
+    read : (x : Option ℕ) → and_then x (λ o. run image segments (header_in a (take 8 (drop o image)))) ≡ None
+    read None = refl
+    read (Some o) = rw e
 
-    go : (b : Bool) → run image segments (cond b nothing (bytes a 8 (header_in a))) ≡ none
+    go : (b : Bool) → run image segments (cond b nothing (bytes a 8 (header_in a))) ≡ None
     go true = refl
     go false = read (bytes_place image segments a 8)
 
@@ -64,19 +63,19 @@ module _ (arrived segments rest : List ℕ) where
           → (chain (arrived ++ rest) segments n b ≡ chain arrived segments n b) × (run (arrived ++ rest) segments (header_at n b) ≡ run arrived segments (header_at n b)))
           → (chain (arrived ++ rest) segments (suc n) a ≡ chain arrived segments (suc n) a)
           × (run (arrived ++ rest) segments (header_at (suc n) a) ≡ run arrived segments (header_at (suc n) a))
-      go none g f further =
-          let g' : run (arrived ++ rest) segments (header a) ≡ none = header_kept_lem a w.0 ∙ g in (
-            chain_by (arrived ++ rest) segments n a none g' ∙ sym (chain_by arrived segments n a none g),
-            next_by (arrived ++ rest) segments n a none g' ∙ sym (next_by arrived segments n a none g),
+      go None g f further =
+          let g' : run (arrived ++ rest) segments (header a) ≡ None = header_kept_lem a w.0 ∙ g in (
+            chain_by (arrived ++ rest) segments n a None g' ∙ sym (chain_by arrived segments n a None g),
+            next_by (arrived ++ rest) segments n a None g' ∙ sym (next_by arrived segments n a None g),
           )
-      go (some h) g f further =
-          let g' : run (arrived ++ rest) segments (header a) ≡ some h = header_kept_lem a w.0 ∙ g in
+      go (Some h) g f further =
+          let g' : run (arrived ++ rest) segments (header a) ≡ Some h = header_kept_lem a w.0 ∙ g in
           let v = (and-eq-true_iff (certain arrived segments (name h.address h.flags)) (chain_certain arrived segments n h.parent)).0 f in
           let u = further h.parent v.1 in
           let c : with_name (arrived ++ rest) segments h ≡ with_name arrived segments h = context_kept h v.0 in
-          let d : chained (arrived ++ rest) segments n (some h) ≡ chained arrived segments n (some h) = rw (c, u.0) in (
-            chain_by (arrived ++ rest) segments n a (some h) g' ∙ d ∙ sym (chain_by arrived segments n a (some h) g),
-            next_by (arrived ++ rest) segments n a (some h) g' ∙ u.1 ∙ sym (next_by arrived segments n a (some h) g),
+          let d : chained (arrived ++ rest) segments n (Some h) ≡ chained arrived segments n (Some h) = rw (c, u.0) in (
+            chain_by (arrived ++ rest) segments n a (Some h) g' ∙ d ∙ sym (chain_by arrived segments n a (Some h) g),
+            next_by (arrived ++ rest) segments n a (Some h) g' ∙ u.1 ∙ sym (next_by arrived segments n a (Some h) g),
           )
 
   answer_kept : (r : TypeRow) (size : ℕ) → chain_certain arrived segments contexts_most r.parent ≡ true → name_answer (arrived ++ rest) segments r size ≡ name_answer arrived segments r size
@@ -94,9 +93,9 @@ module _ (segments types : List ℕ) (start i : ℕ) (arrived : List ℕ) (e : n
       w = (and-eq-true_iff (certain arrived segments (slot_row types start i)) _).0 e
 
       go : (x : Option TypeRow) → if_there x (λ r. chain_certain arrived segments contexts_most r.parent) ≡ true
-          → map (λ r. name_answer (arrived ++ rest) segments r size) x ≡ map (λ r. name_answer arrived segments r size) x
-      go none f = refl
-      go (some r) f = ap some (answer_kept arrived segments rest r size f)
+          → option_map (λ r. name_answer (arrived ++ rest) segments r size) x ≡ option_map (λ r. name_answer arrived segments r size) x
+      go None f = refl
+      go (Some r) f = ap Some (answer_kept arrived segments rest r size f)
 
   -- for every image that starts with these bytes
   pub name_first : (image : List ℕ) → take (length arrived) image ≡ arrived → (size : ℕ) → joined_name image segments types start i size ≡ joined_name arrived segments types start i size
@@ -105,8 +104,8 @@ module _ (segments types : List ℕ) (start i : ℕ) (arrived : List ℕ) (e : n
       ap (λ (s : List ℕ). joined_name s segments types start i size) g ∙ name_kept (drop (length arrived) image) size
 
   -- and the row's line in the printed listing
-  pub line_first : (r : TypeRow) → run arrived segments (slot_row types start i) ≡ some r → (image : List ℕ) → take (length arrived) image ≡ arrived
-      → (run image segments (slot_row types start i) ≡ some r) × (row_line image segments r ≡ row_line arrived segments r)
+  pub line_first : (r : TypeRow) → run arrived segments (slot_row types start i) ≡ Some r → (image : List ℕ) → take (length arrived) image ≡ arrived
+      → (run image segments (slot_row types start i) ≡ Some r) × (row_line image segments r ≡ row_line arrived segments r)
   unfolding name_certain row_line name_text
   line_first r t image f =
       let w = (and-eq-true_iff (certain arrived segments (slot_row types start i)) (if_there (run arrived segments (slot_row types start i)) (λ r. chain_certain arrived segments contexts_most r.parent))).0 e in

@@ -2,12 +2,11 @@
 use Prim.Native.Nat.{ℕ, zero, suc, ◌+◌, ◌-◌, ◌^◌, ◌≤◌, ◌<◌}
 use Rattle.std.proofs.Math.Decide.{dec_le}
 use Rattle.std.proofs.Common.{add-one, arith, sym, ◌∙◌, length-take, length-drop, drop_of_length-le, drop-cons}
-use Rattle.std.specs.Prelude.{◌≡◌, Bool, ◌&&◌, get_or, leb}
+use Rattle.std.specs.Prelude.{◌≡◌, Bool, ◌&&◌, get_or, leb, Option, Some, None}
 use Rattle.std.proofs.Math.Path.{refl, ap}
 use mathlib.Core.List.{List, [], ◌∷◌}
 use Rattle.std.proofs.Math.Bool.{true, false, and-true, or-true}
 use Rattle.std.proofs.lemmas.Bool.{false≢true}
-use Rattle.std.proofs.Math.Option.{Option, some, none}
 use Rattle.std.proofs.Math.ListN.{length, take, drop}
 use borrow.Author.Tests.{le-leb, lt-leb, eq-eqb, ne_eqb}
 use Rattle.segment.specs.Segments.{segments_of, file_offset}
@@ -53,10 +52,10 @@ abbrev pub nowhere : List ℕ → ℕ → Bool
 nowhere segments a = if_there (file_offset (segments_of segments) a) (λ _. false)
 
 module _ (segments : List ℕ) (a : ℕ) where
-  pub in_file_lem : (o : ℕ) → some o ≡ file_offset (segments_of segments) a → false ≡ nowhere segments a
+  pub in_file_lem : (o : ℕ) → Some o ≡ file_offset (segments_of segments) a → false ≡ nowhere segments a
   in_file_lem o e = rw (← e)
 
-  pub not_in_file : none ≡ file_offset (segments_of segments) a → true ≡ nowhere segments a
+  pub not_in_file : None ≡ file_offset (segments_of segments) a → true ≡ nowhere segments a
   not_in_file e = rw (← e)
 
 module _ (image segments : List ℕ) (a : ℕ) where
@@ -64,15 +63,15 @@ module _ (image segments : List ℕ) (a : ℕ) where
   unfolding certain lookup text_offset
   zero_text z = simp (eq-eqb a 0 z)
 
-  pub nowhere_text : (a ≡ 0 → ⊥) → none ≡ file_offset (segments_of segments) a → certain image segments (lookup a) ≡ true
+  pub nowhere_text : (a ≡ 0 → ⊥) → None ≡ file_offset (segments_of segments) a → certain image segments (lookup a) ≡ true
   unfolding certain lookup text_offset
   nowhere_text z e = simp (ne_eqb a 0 z) (rw (← e))
 
   passed : {A : Type 0} (y : Option A) → if_there y (λ _. true) ≡ true
-  passed none = refl
-  passed (some p) = refl
+  passed None = refl
+  passed (Some p) = refl
 
-  pub text_there : (o : ℕ) → (a ≡ 0 → ⊥) → some o ≡ file_offset (segments_of segments) a → certain image segments (lookup a) ≡ has_nul (drop o image)
+  pub text_there : (o : ℕ) → (a ≡ 0 → ⊥) → Some o ≡ file_offset (segments_of segments) a → certain image segments (lookup a) ≡ has_nul (drop o image)
   unfolding certain lookup text_offset
   text_there o z e = simp (ne_eqb a 0 z) (rw (← e, passed (text_at image o)) (and-true (has_nul (drop o image))))
 
@@ -104,8 +103,8 @@ module _ (image segments : List ℕ) (a n : ℕ) {A : Type 0} (k : List ℕ → 
 
       go : (x : Option ℕ) → h ≡ bytes_from image n (and_then x (within (length image) n))
           → if_there x (λ o. leb (o + n) (length image) && certain image segments (k (take n (drop o image)))) ≡ certain image segments (k h)
-      go none f = absurd (omega (arith, ap length f))
-      go (some o) f = at o (dec_le (o + n) (length image)) f
+      go None f = absurd (omega (arith, ap length f))
+      go (Some o) f = at o (dec_le (o + n) (length image)) f
 
   -- bytes that were not: certain if the address is not in the file, else the end was met
   pub certain_no_bytes : length h < n → certain image segments (bytes a n k) ≡ nowhere segments a
@@ -121,8 +120,8 @@ module _ (image segments : List ℕ) (a n : ℕ) {A : Type 0} (k : List ℕ → 
 
       go : (x : Option ℕ) → h ≡ bytes_from image n (and_then x (within (length image) n))
           → if_there x (λ o. leb (o + n) (length image) && certain image segments (k (take n (drop o image)))) ≡ if_there x (λ _. false)
-      go none f = refl
-      go (some o) f = at o (dec_le (o + n) (length image)) f
+      go None f = refl
+      go (Some o) f = at o (dec_le (o + n) (length image)) f
 
 -- ---- a descriptor
 
@@ -206,7 +205,7 @@ module _ (image segments : List ℕ) (a : ℕ) where
       whole_header l = bytes_header ∙ certain_bytes image segments a 8 (header_in a) h e (omega arith) l ∙ simp (lt-leb (2 ^ 64) (a + 4) w)
 
   -- a header that was read: it is only bytes
-  header_there : (h : Header) → some h ≡ run image segments (header a) → header_certain image segments a ≡ true
+  header_there : (h : Header) → Some h ≡ run image segments (header a) → header_certain image segments a ≡ true
   unfolding header_certain header_at
   header_there h e =
       let c : certain image segments (header a) ≡ true =
@@ -215,7 +214,7 @@ module _ (image segments : List ℕ) (a : ℕ) where
 
 module _ (image segments : List ℕ) (left a : ℕ) where
   -- the chain ended
-  pub chain_last : none ≡ run image segments (header a) → chain_certain image segments left a ≡ header_certain image segments a
+  pub chain_last : None ≡ run image segments (header a) → chain_certain image segments left a ≡ header_certain image segments a
   unfolding chain_certain
   chain_last e = go left
     where
@@ -223,7 +222,7 @@ module _ (image segments : List ℕ) (left a : ℕ) where
       go zero = refl
       go (suc n) = rw (chain_certain, ← e) (and-true (header_certain image segments a))
 
-  module _ (h : Header) (e : some h ≡ run image segments (header a)) where
+  module _ (h : Header) (e : Some h ≡ run image segments (header a)) where
     -- a 257th context
     pub chain_deep : left ≡ 0 → chain_certain image segments left a ≡ true
     unfolding chain_certain
@@ -248,10 +247,10 @@ module _ (image segments types : List ℕ) (start i : ℕ) where
   name_open e = rw e
 
   module _ (e : certain image segments (slot_row types start i) ≡ true) where
-    pub name_none : none ≡ run image segments (slot_row types start i) → name_certain image segments types start i ≡ true
+    pub name_none : None ≡ run image segments (slot_row types start i) → name_certain image segments types start i ≡ true
     unfolding name_certain
     name_none f = rw (e, ← f)
 
-    pub name_by : (r : TypeRow) → some r ≡ run image segments (slot_row types start i) → name_certain image segments types start i ≡ chain_certain image segments contexts_most r.parent
+    pub name_by : (r : TypeRow) → Some r ≡ run image segments (slot_row types start i) → name_certain image segments types start i ≡ chain_certain image segments contexts_most r.parent
     unfolding name_certain
     name_by r f = rw (e, ← f)

@@ -1,6 +1,5 @@
 -- Certainty worked out by computing: the images `Clue` and `Oak` of crate `items`, cut and whole, and one whose chain of contexts ends at an address outside the segments.
-use Rattle.std.specs.Prelude.{ℕ, ◌≡◌, refl, List, [], ◌∷◌, ◌++◌, Bool, true, false, take}
-use Rattle.std.proofs.Math.Option.{Option, some}
+use Rattle.std.specs.Prelude.{ℕ, ◌≡◌, refl, List, [], ◌∷◌, ◌++◌, Bool, true, false, take, Option, Some}
 use Rattle.utf8.specs.Table.{table}
 use Rattle.utf8.specs.Text.{following, goes_on, until_nul, text_length}
 use Rattle.util.specs.Letters.{letters}
@@ -93,7 +92,7 @@ pub record CertaintyWorked : Type 0 where
       ∷ (further, false)
       ∷ [])
   -- cut in the name of the module, the joined name is `Wo.Oak`
-  pub joined_110 : joined (oak 110) ≡ some (answered (letters "Wo.Oak"))
+  pub joined_110 : joined (oak 110) ≡ Some (answered (letters "Wo.Oak"))
 
 pub certainty_worked : CertaintyWorked
 unfolding certain has_nul header_certain chain_certain name_certain joined_name run bind bytes_place within text_offset segments_of file_offset decides in_file table following goes_on text_at text_length until_nul unsigned_in signed_in little_at signed_at bytes_at little_endian twos_complement relative_address relative_pointer descriptor row_name slot_row kind_of header_in header header_at slot_name name_at name context_name with_name context_read chain hops qualified_name too_deep name_answer

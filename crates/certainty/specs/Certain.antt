@@ -1,7 +1,6 @@
 -- What is certain by an image's first bytes: docs/CUT.md. A program of reads is certain for what arrived if none of its reads met the end
 -- of that: no byte that is still missing changes its answer, or that it has none (`CertainLaws.certain-run`).
-use Rattle.std.specs.Prelude.{ℕ, zero, suc, ◌+◌, List, [], ◌∷◌, Bool, true, false, ◌&&◌, length, take, drop, leb}
-use Rattle.std.proofs.Math.Option.{Option, some, none}
+use Rattle.std.specs.Prelude.{ℕ, zero, suc, ◌+◌, List, [], ◌∷◌, Bool, true, false, ◌&&◌, length, take, drop, leb, Option, Some, None}
 use Rattle.utf8.specs.Text.{until_nul}
 use Rattle.segment.specs.Segments.{segments_of, file_offset}
 use Rattle.util.specs.Cstr.{text_at}
@@ -15,8 +14,8 @@ has_nul (suc b ∷ s) = has_nul s
 
 -- a test of an answer; it passes if there is none
 abbrev pub if_there : {A : Type 0} → Option A → (A → Bool) → Bool
-if_there none test = true
-if_there (some a) test = test a
+if_there None test = true
+if_there (Some a) test = test a
 
 -- An address that is not in the file stays so. Bytes are certain if all of them arrived; a text, found or ill_formed, is certain if its NUL
 -- arrived.

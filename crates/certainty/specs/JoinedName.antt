@@ -1,7 +1,6 @@
 -- When the joined name of a row is certain: docs/CUT.md. The row is certain, the chain of contexts around it ended at an address and not at
 -- the end of what arrived, and each name in it is certain.
-use Rattle.std.specs.Prelude.{ℕ, zero, suc, ◌+◌, ◌^◌, List, Bool, ◌&&◌, ◌||◌, leb}
-use Rattle.std.proofs.Math.Option.{Option, map}
+use Rattle.std.specs.Prelude.{ℕ, zero, suc, ◌+◌, ◌^◌, List, Bool, ◌&&◌, ◌||◌, leb, Option, option_map}
 use Rattle.refusal.specs.Refusal.{Guarded}
 use Rattle.runtime.specs.Reads.{run}
 use Rattle.typedescriptor.specs.Slots.{slot_row}
@@ -31,4 +30,4 @@ name_certain arrived segments types start i =
 -- what a listing says of the joined name of a slot's row, for a buffer of a length: nothing if there is no row
 unfoldable pub joined_name : List ℕ → List ℕ → List ℕ → ℕ → ℕ → ℕ → Option (Guarded (List ℕ))
 joined_name image segments types start i size =
-    map (λ r. name_answer image segments r size) (run image segments (slot_row types start i))
+    option_map (λ r. name_answer image segments r size) (run image segments (slot_row types start i))

@@ -8,9 +8,8 @@ use Rattle.std.proofs.Math.Nat.{div-div-eq-div-mul}
 use native.Mathlib.Omega.{arith}
 use Rattle.std.proofs.Math.Path.{◌≡◌, refl, sym, ap}
 use mathlib.Core.List.{List, [], ◌∷◌}
-use Rattle.std.specs.Prelude.{Bool, cond, take, drop, eqb}
+use Rattle.std.specs.Prelude.{Bool, cond, take, drop, eqb, Option, Some, None}
 use Rattle.std.proofs.Math.Bool.{true, false}
-use Rattle.std.proofs.Math.Option.{Option, some, none}
 use Rattle.std.proofs.Math.ListN.{length}
 use Rattle.context.specs.Bits.{bit}
 use Rattle.runtime.specs.Reads.{Reads, nothing, and_then, run}
@@ -25,13 +24,13 @@ use Rattle.classtrailers.specs.declared.block.BlockKind.{BlockKind}
 unfoldable pub stepped_blocks : List ℕ → List ℕ → ℕ → Walk → List Block
 stepped_blocks image segments zero w = []
 stepped_blocks image segments (suc n) w =
-    elim (next_block image segments w) [ none ↦ [] | some s ↦ s.block ∷ stepped_blocks image segments n s.next ]
+    elim (next_block image segments w) [ None ↦ [] | Some s ↦ s.block ∷ stepped_blocks image segments n s.next ]
 
 -- and the walk at which they leave off
 unfoldable pub stepped_blocks_to : List ℕ → List ℕ → ℕ → Walk → Walk
 stepped_blocks_to image segments zero w = w
 stepped_blocks_to image segments (suc n) w =
-    elim (next_block image segments w) [ none ↦ w | some s ↦ stepped_blocks_to image segments n s.next ]
+    elim (next_block image segments w) [ None ↦ w | Some s ↦ stepped_blocks_to image segments n s.next ]
 
 -- ---- the table
 
@@ -61,12 +60,12 @@ take_none (suc n) = refl
 
 module _ (image segments : List ℕ) where
   -- a walk that has ended stays ended
-  stepped_over : (n : ℕ) (w : Walk) → none ≡ next_block image segments w → stepped_blocks image segments n w ≡ []
+  stepped_over : (n : ℕ) (w : Walk) → None ≡ next_block image segments w → stepped_blocks image segments n w ≡ []
   unfolding stepped_blocks
   stepped_over zero w e = refl
   stepped_over (suc n) w e = rw (stepped_blocks, ← e)
 
-  left_over : (n : ℕ) (w : Walk) → none ≡ next_block image segments w → stepped_blocks_to image segments n w ≡ w
+  left_over : (n : ℕ) (w : Walk) → None ≡ next_block image segments w → stepped_blocks_to image segments n w ≡ w
   unfolding stepped_blocks_to
   left_over zero w e = refl
   left_over (suc n) w e = rw (stepped_blocks_to, ← e)
@@ -78,20 +77,20 @@ module _ (image segments : List ℕ) where
   stepped_same (suc n) v w e = rw (stepped_blocks, e)
 
   left_same : (n : ℕ) (v w : Walk) → next_block image segments v ≡ next_block image segments w
-      → none ≡ next_block image segments (stepped_blocks_to image segments n w) → none ≡ next_block image segments (stepped_blocks_to image segments n v)
+      → None ≡ next_block image segments (stepped_blocks_to image segments n w) → None ≡ next_block image segments (stepped_blocks_to image segments n v)
   unfolding stepped_blocks_to
   left_same zero v w e h = h ∙ sym e
   left_same (suc n) v w e h = go (next_block image segments w) refl
     where
-      go : (x : Option Step) → next_block image segments w ≡ x → none ≡ next_block image segments (stepped_blocks_to image segments (suc n) v)
-      go none f = rw (stepped_blocks_to, e, f) (sym (e ∙ f))
-      go (some s) f = rw (stepped_blocks_to, e, f) (rw (stepped_blocks_to, f) at h)
+      go : (x : Option Step) → next_block image segments w ≡ x → None ≡ next_block image segments (stepped_blocks_to image segments (suc n) v)
+      go None f = rw (stepped_blocks_to, e, f) (sym (e ∙ f))
+      go (Some s) f = rw (stepped_blocks_to, e, f) (rw (stepped_blocks_to, f) at h)
 
   module _ (t : Trailing) (start : ℕ) where
     abbrev at : ℕ → ℕ → Walk
     at i a = record { trailing = t; row = i; address = a }
 
-    over : (i a : ℕ) → 11 ≤ i → none ≡ next_block image segments (at i a)
+    over : (i a : ℕ) → 11 ≤ i → None ≡ next_block image segments (at i a)
     over i a h = walk_over image segments t i a h
 
     -- the blocks of `n` rows from row `i` on
@@ -109,20 +108,20 @@ module _ (image segments : List ℕ) where
     blocks_few (suc n) i = go (run image segments (block_in t start i)) (blocks_few n (i + 1))
       where
         go : (x : Option Block) → length (blocks_from n (i + 1)) ≤ n → length (with_block x (blocks_from n (i + 1))) ≤ suc n
-        go none h = omega arith
-        go (some b) h = omega arith
+        go None h = omega arith
+        go (Some b) h = omega arith
 
-    none_after : (n i : ℕ) → none ≡ run image segments (reached t start i) → blocks_from n i ≡ []
+    none_after : (n i : ℕ) → None ≡ run image segments (reached t start i) → blocks_from n i ≡ []
     unfolding blocks_from
     none_after zero i e = refl
     none_after (suc n) i e =
-        let f : none ≡ run image segments (reached t start (i + 1)) = stopped image segments t start (i + 1) i e (omega arith) in
+        let f : None ≡ run image segments (reached t start (i + 1)) = stopped image segments t start (i + 1) i e (omega arith) in
         rw (← kind_stops image segments t start i i e (omega arith)) (none_after n (i + 1) f)
 
-    module _ (i a : ℕ) (h : i < 11) (e : some a ≡ run image segments (reached t start i)) where
+    module _ (i a : ℕ) (h : i < 11) (e : Some a ≡ run image segments (reached t start i)) where
       -- a row whose block is not present: the next one lies at the same address
       pub row_absent : (row_at i).there t ≡ false
-          → (some a ≡ run image segments (reached t start (i + 1))) × (none ≡ run image segments (block_in t start i)) × (next_block image segments (at i a) ≡ next_block image segments (at (i + 1) a))
+          → (Some a ≡ run image segments (reached t start (i + 1))) × (None ≡ run image segments (block_in t start i)) × (next_block image segments (at i a) ≡ next_block image segments (at (i + 1) a))
       row_absent y = (
         reached_next image segments t start i a _ e (pass_absent image segments t (row_at i) a y),
         kind_absent image segments t start i y,
@@ -134,30 +133,30 @@ module _ (image segments : List ℕ) where
         end_reached x f = reached_next image segments t start i a _ e (pass_there image segments t (row_at i) a _ y (end_says image segments (row_at i) a x f))
 
         -- one that cannot be read ends the walk
-        pub row_fails : none ≡ run image segments (block_at (row_at i) a)
-            → (none ≡ run image segments (reached t start (i + 1))) × (none ≡ run image segments (block_in t start i)) × (none ≡ next_block image segments (at i a))
+        pub row_fails : None ≡ run image segments (block_at (row_at i) a)
+            → (None ≡ run image segments (reached t start (i + 1))) × (None ≡ run image segments (block_in t start i)) × (None ≡ next_block image segments (at i a))
         row_fails f = (
-          end_reached none f,
-          kind_there_lem image segments t start i i a _ y e refl (record_says image segments (row_at i) a none f),
-          next_there image segments t i a _ y (step_as image segments t i a none f) h,
+          end_reached None f,
+          kind_there_lem image segments t start i i a _ y e refl (record_says image segments (row_at i) a None f),
+          next_there image segments t i a _ y (step_as image segments t i a None f) h,
         )
 
         -- one that can be read is the next block, and the walk goes on where it ends
-        pub row_read : (b : Ended) → some b ≡ run image segments (block_at (row_at i) a)
-            → (some b.block ≡ run image segments (block_in t start i))
-            × (some (record { block = b.block; next = after t (i + 1) b.end }) ≡ next_block image segments (at i a))
+        pub row_read : (b : Ended) → Some b ≡ run image segments (block_at (row_at i) a)
+            → (Some b.block ≡ run image segments (block_in t start i))
+            × (Some (record { block = b.block; next = after t (i + 1) b.end }) ≡ next_block image segments (at i a))
             × (b.end ≡ run image segments (reached t start (i + 1)))
         row_read b f = (
-          kind_there_lem image segments t start i i a _ y e refl (record_says image segments (row_at i) a (some b) f),
-          next_there image segments t i a _ y (step_as image segments t i a (some b) f) h,
-          end_reached (some b) f,
+          kind_there_lem image segments t start i i a _ y e refl (record_says image segments (row_at i) a (Some b) f),
+          next_there image segments t i a _ y (step_as image segments t i a (Some b) f) h,
+          end_reached (Some b) f,
         )
 
     -- from row `i` on, which lies at `a`, steps give the blocks of the rows that are left
     abbrev Gives : ℕ → ℕ → ℕ → Type 0
     Gives m i a = (n : ℕ) → stepped_blocks image segments n (at i a) ≡ take n (blocks_from m i)
 
-    gives : (m i a : ℕ) → i + m ≡ 11 → some a ≡ run image segments (reached t start i) → Gives m i a
+    gives : (m i a : ℕ) → i + m ≡ 11 → Some a ≡ run image segments (reached t start i) → Gives m i a
     unfolding blocks_from stepped_blocks
     gives zero i a h e n = stepped_over n (at i a) (over i a (omega arith)) ∙ take_none n
     gives (suc m) i a h e n = by (λ c f. gives m (i + 1) c (omega arith) f) n ((row_at i).there t) refl
@@ -165,22 +164,22 @@ module _ (image segments : List ℕ) where
         l : i < 11
         l = omega arith
 
-        on : ((c : ℕ) → some c ≡ run image segments (reached t start (i + 1)) → Gives m (i + 1) c)
+        on : ((c : ℕ) → Some c ≡ run image segments (reached t start (i + 1)) → Gives m (i + 1) c)
             → (x : Option ℕ) → x ≡ run image segments (reached t start (i + 1)) → (n : ℕ) → stepped_blocks image segments n (after t (i + 1) x) ≡ take n (blocks_from m (i + 1))
-        on further none f n = stepped_over n (at 11 0) (over 11 0 (omega arith)) ∙ rw (none_after m (i + 1) f) (take_none n)
-        on further (some c) f n = further c f n
+        on further None f n = stepped_over n (at 11 0) (over 11 0 (omega arith)) ∙ rw (none_after m (i + 1) f) (take_none n)
+        on further (Some c) f n = further c f n
 
-        there : ((c : ℕ) → some c ≡ run image segments (reached t start (i + 1)) → Gives m (i + 1) c) → (row_at i).there t ≡ true
+        there : ((c : ℕ) → Some c ≡ run image segments (reached t start (i + 1)) → Gives m (i + 1) c) → (row_at i).there t ≡ true
             → (x : Option Ended) → x ≡ run image segments (block_at (row_at i) a) → Gives (suc m) i a
-        there further y none f n =
+        there further y None f n =
             let w = row_fails i a l e y f in
             stepped_over n (at i a) w.2 ∙ rw (blocks_from, ← w.1, none_after m (i + 1) w.0) (take_none n)
-        there further y (some b) f zero = refl
-        there further y (some b) f (suc n) =
+        there further y (Some b) f zero = refl
+        there further y (Some b) f (suc n) =
             let w = row_read i a l e y b f in
             rw (stepped_blocks, ← w.1, blocks_from, ← w.0) (ap (λ (s : List Block). b.block ∷ s) (on further _ w.2 n))
 
-        by : ((c : ℕ) → some c ≡ run image segments (reached t start (i + 1)) → Gives m (i + 1) c) → (n : ℕ) (b : Bool) → (row_at i).there t ≡ b
+        by : ((c : ℕ) → Some c ≡ run image segments (reached t start (i + 1)) → Gives m (i + 1) c) → (n : ℕ) (b : Bool) → (row_at i).there t ≡ b
             → stepped_blocks image segments n (at i a) ≡ take n (blocks_from (suc m) i)
         by further n true y = there further y (run image segments (block_at (row_at i) a)) refl n
         by further n false y =
@@ -197,7 +196,7 @@ module _ (image segments : List ℕ) where
 
     -- then none is left
     abbrev Ends : ℕ → ℕ → ℕ → Type 0
-    Ends m i a = (n : ℕ) → m ≤ n → none ≡ next_block image segments (stepped_blocks_to image segments n (at i a))
+    Ends m i a = (n : ℕ) → m ≤ n → None ≡ next_block image segments (stepped_blocks_to image segments n (at i a))
 
     ends : (m i a : ℕ) → i + m ≡ 11 → Ends m i a
     unfolding stepped_blocks_to
@@ -208,25 +207,25 @@ module _ (image segments : List ℕ) where
         l : i < 11
         l = omega arith
 
-        on : ((c : ℕ) → Ends m (i + 1) c) → (x : Option ℕ) → none ≡ next_block image segments (stepped_blocks_to image segments n (after t (i + 1) x))
-        on further none = rw (left_over n (at 11 0) (over 11 0 (omega arith))) (over 11 0 (omega arith))
-        on further (some c) = further c n (omega arith)
+        on : ((c : ℕ) → Ends m (i + 1) c) → (x : Option ℕ) → None ≡ next_block image segments (stepped_blocks_to image segments n (after t (i + 1) x))
+        on further None = rw (left_over n (at 11 0) (over 11 0 (omega arith))) (over 11 0 (omega arith))
+        on further (Some c) = further c n (omega arith)
 
         there : ((c : ℕ) → Ends m (i + 1) c) → (row_at i).there t ≡ true → (x : Option Ended) → x ≡ run image segments (block_at (row_at i) a)
-            → none ≡ next_block image segments (stepped_blocks_to image segments (suc n) (at i a))
-        there further y none f =
-            let w : none ≡ next_block image segments (at i a) = next_there image segments t i a _ y (step_as image segments t i a none f) l in
+            → None ≡ next_block image segments (stepped_blocks_to image segments (suc n) (at i a))
+        there further y None f =
+            let w : None ≡ next_block image segments (at i a) = next_there image segments t i a _ y (step_as image segments t i a None f) l in
             rw (left_over (suc n) (at i a) w) w
-        there further y (some b) f =
-            let w : some (record { block = b.block; next = after t (i + 1) b.end }) ≡ next_block image segments (at i a)
-            = next_there image segments t i a _ y (step_as image segments t i a (some b) f) l in
+        there further y (Some b) f =
+            let w : Some (record { block = b.block; next = after t (i + 1) b.end }) ≡ next_block image segments (at i a)
+            = next_there image segments t i a _ y (step_as image segments t i a (Some b) f) l in
             rw (stepped_blocks_to, ← w) (on further b.end)
 
-        by : ((c : ℕ) → Ends m (i + 1) c) → (b : Bool) → (row_at i).there t ≡ b → none ≡ next_block image segments (stepped_blocks_to image segments (suc n) (at i a))
+        by : ((c : ℕ) → Ends m (i + 1) c) → (b : Bool) → (row_at i).there t ≡ b → None ≡ next_block image segments (stepped_blocks_to image segments (suc n) (at i a))
         by further true y = there further y (run image segments (block_at (row_at i) a)) refl
         by further false y = left_same (suc n) (at i a) (at (i + 1) a) (next_absent image segments t i a y l) (further a (suc n) (omega arith))
 
-    pub stepped_blocks_end : (n : ℕ) → 11 ≤ n → none ≡ next_block image segments (stepped_blocks_to image segments n (at 0 start))
+    pub stepped_blocks_end : (n : ℕ) → 11 ≤ n → None ≡ next_block image segments (stepped_blocks_to image segments n (at 0 start))
     stepped_blocks_end n h = ends 11 0 start refl n h
 
 -- ---- the number of protocols
@@ -277,21 +276,21 @@ pub record RecordedAs (k : BlockKind) (x : Block) : Type 0 where
   pub is : x ≡ record { kind = k; body = (row_at (row_number k)).recorded address header }
 
 module _ (image segments : List ℕ) where
-  ended_is : (c : Bool) (b : Block) (e : Option ℕ) (x : Ended) → run image segments (ended c b e) ≡ some x → x.block ≡ b
+  ended_is : (c : Bool) (b : Block) (e : Option ℕ) (x : Ended) → run image segments (ended c b e) ≡ Some x → x.block ≡ b
   unfolding run
-  ended_is true b none x f = let z : ◌≡◌ {A = ℕ} 0 1 = cc in absurd (omega arith)
-  ended_is true b (some e) x f = let g : record { block = b; end = some e } ≡ x = cc in ap (λ (y : Ended). y.block) (sym g)
+  ended_is true b None x f = let z : ◌≡◌ {A = ℕ} 0 1 = cc in absurd (omega arith)
+  ended_is true b (Some e) x f = let g : record { block = b; end = Some e } ≡ x = cc in ap (λ (y : Ended). y.block) (sym g)
   ended_is false b e x f = let g : record { block = b; end = e } ≡ x = cc in ap (λ (y : Ended). y.block) (sym g)
 
   module _ (k : BlockKind) where
-    at_recorded : (a : ℕ) (x : Ended) → run image segments (block_at (row_at (row_number k)) a) ≡ some x → RecordedAs k x.block
+    at_recorded : (a : ℕ) (x : Ended) → run image segments (block_at (row_at (row_number k)) a) ≡ Some x → RecordedAs k x.block
     unfolding block_at
     at_recorded a x e = go (row_at (row_number k)).header e
       where
         its : List ℕ → Reads Ended
         its h = ended (row_at (row_number k)).bounded (record { kind = (row_at (row_number k)).kind; body = (row_at (row_number k)).recorded a h }) (below (a + (row_at (row_number k)).size h))
 
-        by : (h : List ℕ) → run image segments (its h) ≡ some x → RecordedAs k x.block
+        by : (h : List ℕ) → run image segments (its h) ≡ Some x → RecordedAs k x.block
         by h f =
             record {
               address = a;
@@ -301,22 +300,22 @@ module _ (image segments : List ℕ) where
                   ∙ ap (λ (j : BlockKind). record { kind = j; body = (row_at (row_number k)).recorded a h }) (kind_row k);
             }
 
-        go : (n : ℕ) → run image segments (read_header a n its) ≡ some x → RecordedAs k x.block
+        go : (n : ℕ) → run image segments (read_header a n its) ≡ Some x → RecordedAs k x.block
         go zero f = by [] f
         go (suc n) f = let w = bytes_read_lem image segments a x (suc n) its f in by (take (suc n) (drop w.offset image)) w.goes
 
-    pub block_recorded : (t : Trailing) (start : ℕ) (x : Block) → run image segments (block t start k) ≡ some x → RecordedAs k x
+    pub block_recorded : (t : Trailing) (start : ℕ) (x : Block) → run image segments (block t start k) ≡ Some x → RecordedAs k x
     unfolding block block_in record_at run
     block_recorded t start x e = reach (run image segments (reached t start (row_number k))) (sym (run_bind image segments _ (reached t start (row_number k))) ∙ e)
       where
-        made : (a : ℕ) (y : Option Ended) → run image segments (block_at (row_at (row_number k)) a) ≡ y → and_then y (λ z. some z.block) ≡ some x → RecordedAs k x
-        made a none f g = let z : ◌≡◌ {A = ℕ} 0 1 = cc in absurd (omega arith)
-        made a (some y) f g = let q : y.block ≡ x = cc in rw q at (at_recorded a y f)
+        made : (a : ℕ) (y : Option Ended) → run image segments (block_at (row_at (row_number k)) a) ≡ y → and_then y (λ z. Some z.block) ≡ Some x → RecordedAs k x
+        made a None f g = let z : ◌≡◌ {A = ℕ} 0 1 = cc in absurd (omega arith)
+        made a (Some y) f g = let q : y.block ≡ x = cc in rw q at (at_recorded a y f)
 
-        there : (a : ℕ) (b : Bool) → run image segments (cond b (record_at (row_at (row_number k)) a) nothing) ≡ some x → RecordedAs k x
+        there : (a : ℕ) (b : Bool) → run image segments (cond b (record_at (row_at (row_number k)) a) nothing) ≡ Some x → RecordedAs k x
         there a true f = made a (run image segments (block_at (row_at (row_number k)) a)) refl (sym (run_bind image segments _ (block_at (row_at (row_number k)) a)) ∙ f)
         there a false f = let z : ◌≡◌ {A = ℕ} 0 1 = cc in absurd (omega arith)
 
-        reach : (y : Option ℕ) → and_then y (λ a. run image segments (cond ((row_at (row_number k)).there t) (record_at (row_at (row_number k)) a) nothing)) ≡ some x → RecordedAs k x
-        reach none f = let z : ◌≡◌ {A = ℕ} 0 1 = cc in absurd (omega arith)
-        reach (some a) f = there a ((row_at (row_number k)).there t) f
+        reach : (y : Option ℕ) → and_then y (λ a. run image segments (cond ((row_at (row_number k)).there t) (record_at (row_at (row_number k)) a) nothing)) ≡ Some x → RecordedAs k x
+        reach None f = let z : ◌≡◌ {A = ℕ} 0 1 = cc in absurd (omega arith)
+        reach (Some a) f = there a ((row_at (row_number k)).there t) f

@@ -1,9 +1,8 @@
 -- docs/SPECIFICATION.md, "Checked lines": those that speak of blocks.
-use Rattle.std.specs.Prelude.{ℕ, ◌+◌, ◌*◌, ◌^◌, ◌≤◌, ◌<◌, ◌≡◌, List, [], ◌∷◌, ◌++◌, true, length}
+use Rattle.std.specs.Prelude.{ℕ, ◌+◌, ◌*◌, ◌^◌, ◌≤◌, ◌<◌, ◌≡◌, List, [], ◌∷◌, ◌++◌, true, length, Some}
 use native.Mathlib.Omega.{arith}
 use Rattle.std.proofs.Math.Path.{refl, sym, ap}
 use Rattle.std.proofs.Common.{◌∙◌}
-use Rattle.std.proofs.Math.Option.{some}
 use Rattle.segment.specs.Segments.{segments_of, file_offset}
 use Rattle.util.specs.LittleEndian.{unsigned_in}
 use Rattle.runtime.specs.Reads.{run, bind, path, also, bytes_range}
@@ -30,24 +29,24 @@ pub record CheckedBlocks : Type 0 where
   pub four_parameters : generic_size 4 0 ≡ 20
   pub two_requirements : generic_size 3 2 ≡ 44
   -- in the class at `a`, whose blocks start at `a` + 44: where the vtable's header, its entries and the header of the overrides lie
-  pub vtable_header : (image segments : List ℕ) (extra a : ℕ) → run image segments (reached (tabled extra) (a + 44) 4) ≡ some (a + 44)
+  pub vtable_header : (image segments : List ℕ) (extra a : ℕ) → run image segments (reached (tabled extra) (a + 44) 4) ≡ Some (a + 44)
   pub vtable_entries : (image segments : List ℕ) (extra a : ℕ) (h : List ℕ) → ThreeMethods image segments (a + 44) h → a + 76 < 2 ^ 64
-      → run image segments (block (tabled extra) (a + 44) BlockKind.VTable) ≡ some (table_block BlockKind.VTable (unsigned_in 4 h 0) 3 (a + 52))
+      → run image segments (block (tabled extra) (a + 44) BlockKind.VTable) ≡ Some (table_block BlockKind.VTable (unsigned_in 4 h 0) 3 (a + 52))
   pub override_header : (image segments : List ℕ) (extra a : ℕ) (h : List ℕ) → ThreeMethods image segments (a + 44) h → a + 76 < 2 ^ 64
-      → run image segments (reached (tabled extra) (a + 44) 5) ≡ some (a + 76)
+      → run image segments (reached (tabled extra) (a + 44) 5) ≡ Some (a + 76)
   -- and what the overrides' block reads: both headers
   pub override_path : (image segments : List ℕ) (extra a : ℕ) (h : List ℕ) → ThreeMethods image segments (a + 44) h → a + 76 < 2 ^ 64
-      → (o q : ℕ) (b : Block) → file_offset (segments_of segments) (a + 44) ≡ some o → file_offset (segments_of segments) (a + 76) ≡ some q
-      → some b ≡ run image segments (block (tabled extra) (a + 44) BlockKind.OverrideTable)
+      → (o q : ℕ) (b : Block) → file_offset (segments_of segments) (a + 44) ≡ Some o → file_offset (segments_of segments) (a + 76) ≡ Some q
+      → Some b ≡ run image segments (block (tabled extra) (a + 44) BlockKind.OverrideTable)
       → path image segments (block (tabled extra) (a + 44) BlockKind.OverrideTable) ≡ bytes_range o 8 ∷ (bytes_range q 4 ∷ [])
 
 module _ (image segments : List ℕ) (extra a : ℕ) where
-  header : run image segments (reached (tabled extra) (a + 44) 4) ≡ some (a + 44)
+  header : run image segments (reached (tabled extra) (a + 44) 4) ≡ Some (a + 44)
   unfolding reached bind passed row_at run
   header = refl
 
   module _ (h : List ℕ) (w : ThreeMethods image segments (a + 44) h) (l : a + 76 < 2 ^ 64) where
-    says : some (record { block = table_block BlockKind.VTable (unsigned_in 4 h 0) 3 (a + 52); end = some (a + 76) }) ≡ run image segments (block_at (row_at 4) (a + 44))
+    says : Some (record { block = table_block BlockKind.VTable (unsigned_in 4 h 0) 3 (a + 52); end = Some (a + 76) }) ≡ run image segments (block_at (row_at 4) (a + 44))
     unfolding row_at
     says =
         let size : a + 44 + (8 + 8 * unsigned_in 4 h 4) ≡ a + 76 = omega (arith, w.methods) in
@@ -58,14 +57,14 @@ module _ (image segments : List ℕ) (extra a : ℕ) where
     unfolding row_at
     there = refl
 
-    entries : run image segments (block (tabled extra) (a + 44) BlockKind.VTable) ≡ some (table_block BlockKind.VTable (unsigned_in 4 h 0) 3 (a + 52))
+    entries : run image segments (block (tabled extra) (a + 44) BlockKind.VTable) ≡ Some (table_block BlockKind.VTable (unsigned_in 4 h 0) 3 (a + 52))
     unfolding block
     entries = sym (kind_there_lem image segments (tabled extra) (a + 44) 4 4 (a + 44) _ there (sym header) refl (record_says image segments (row_at 4) (a + 44) _ says))
 
-    overrides : run image segments (reached (tabled extra) (a + 44) 5) ≡ some (a + 76)
+    overrides : run image segments (reached (tabled extra) (a + 44) 5) ≡ Some (a + 76)
     overrides = sym (reached_next image segments (tabled extra) (a + 44) 4 (a + 44) _ (sym header) (pass_there image segments (tabled extra) (row_at 4) (a + 44) _ there (end_says image segments (row_at 4) (a + 44) _ says)))
 
-    module _ (o q : ℕ) (p : file_offset (segments_of segments) (a + 44) ≡ some o) (r : file_offset (segments_of segments) (a + 76) ≡ some q) where
+    module _ (o q : ℕ) (p : file_offset (segments_of segments) (a + 44) ≡ Some o) (r : file_offset (segments_of segments) (a + 76) ≡ Some q) where
       vtable_range : headers image segments (tabled extra) (a + 44) 5 ≡ bytes_range o 8 ∷ []
       unfolding headers reached bind passed row_at run
       vtable_range = rw p

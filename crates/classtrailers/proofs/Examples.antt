@@ -2,8 +2,7 @@
 -- counted by hand from its class order and sizes: generic header, 16 bytes, one for each parameter padded to four and 12 for each requirement; resilient superclass 4;
 -- foreign 4 or singleton initialization 12; vtable 8 + 8n; override table 4 + 12n; Objective-C stub 4; prespecializations 4 + 8n; invertible set, 2 bytes read, 4 passed;
 -- singleton pointer 4; default overrides 4 + 8n. A struct has the generic header, the initialization, prespecializations, the invertible set and the singleton pointer.
-use Rattle.std.specs.Prelude.{ℕ, ◌≡◌, refl, List, [], ◌∷◌, ◌++◌, true, false}
-use Rattle.std.proofs.Math.Option.{some}
+use Rattle.std.specs.Prelude.{ℕ, ◌≡◌, refl, List, [], ◌∷◌, ◌++◌, true, false, Some}
 use Rattle.util.specs.LittleEndian.{little_endian, bytes_at, little_at, unsigned_in}
 use Rattle.segment.specs.Segments.{segments_of, file_offset, decides, in_file}
 use Rattle.runtime.specs.Reads.{within, bytes_place, bind, run}
@@ -78,10 +77,10 @@ pub record AllKinds : Type 0 where
       table_block BlockKind.DefaultOverrideTable 0 1 0x1068 ∷
       []
   -- where the last of them ends
-  pub class_end : run class_image (segments 0x70) (reached class 0x1000 11) ≡ some 0x1070
+  pub class_end : run class_image (segments 0x70) (reached class 0x1000 11) ≡ Some 0x1070
   pub of_struct_lem : blocks struct_image (segments 0x2c) struct 0x1000
       ≡ placed_block BlockKind.Generic 0x1000 ∷ placed_block BlockKind.ForeignMetadataInit 0x1010 ∷ table_block BlockKind.Prespecializations 0 2 0x1018 ∷ set_block 0xff 8 ∷ []
-  pub struct_end : run struct_image (segments 0x2c) (reached struct 0x1000 11) ≡ some 0x102c
+  pub struct_end : run struct_image (segments 0x2c) (reached struct 0x1000 11) ≡ Some 0x102c
 
 pub all_kinds : AllKinds
 unfolding little_endian bytes_at little_at unsigned_in segments_of file_offset decides in_file within bytes_place bind run initialization_of generic_size set_bits row_at below block_at record_at end_at passed reached block_in block blocks

@@ -1,8 +1,6 @@
 -- The trailing blocks, in one table: docs/SPECIFICATION.md, "Trailing blocks"; Metadata.h, the trailing objects of `TargetClassDescriptor`,
 -- `TargetStructDescriptor` and `TargetEnumDescriptor`, in their order.
-use Rattle.std.specs.Prelude.{ℕ, zero, suc, ◌+◌, ◌-◌, ◌*◌, ◌/◌, ◌^◌, ◌%◌, List, [], ◌∷◌, map, Bool, true, false, cond, ◌&&◌, get_or, leb, eqb}
-use Rattle.std.proofs.Math.Option
-use Rattle.std.proofs.Math.Option.{Option, some, none}
+use Rattle.std.specs.Prelude.{ℕ, zero, suc, ◌+◌, ◌-◌, ◌*◌, ◌/◌, ◌^◌, ◌%◌, List, [], ◌∷◌, map, Bool, true, false, cond, ◌&&◌, get_or, leb, eqb, Option, Some, None, option_map}
 use Rattle.std.proofs.Math.ListN.{get_elem?}
 use Rattle.util.specs.LittleEndian.{unsigned_in}
 use Rattle.context.specs.Bits.{bit, low}
@@ -111,7 +109,7 @@ read_header a (suc n) k = bytes a (suc n) k
 
 -- an end, unless it reaches 2^64
 unfoldable pub below : ℕ → Option ℕ
-below n = cond (leb (2 ^ 64) n) none (some n)
+below n = cond (leb (2 ^ 64) n) None (Some n)
 
 -- a block, and where the next one starts: nowhere if its end reaches 2^64
 pub record Ended : Type 0 where
@@ -120,8 +118,8 @@ pub record Ended : Type 0 where
 
 -- a bounded block is recorded only if it has an end
 abbrev pub ended : Bool → Block → Option ℕ → Reads Ended
-ended true b none = nothing
-ended true b (some e) = done (record { block = b; end = some e })
+ended true b None = nothing
+ended true b (Some e) = done (record { block = b; end = Some e })
 ended false b e = done (record { block = b; end = e })
 
 unfoldable pub block_at : BlockRow → ℕ → Reads Ended
@@ -133,8 +131,8 @@ record_at r a = bind (block_at r a) (λ x. done x.block)
 
 -- where the next one starts; the walk stops if that is nowhere
 abbrev pub somewhere : Option ℕ → Reads ℕ
-somewhere none = nothing
-somewhere (some e) = done e
+somewhere None = nothing
+somewhere (Some e) = done e
 
 unfoldable pub end_at : BlockRow → ℕ → Reads ℕ
 end_at r a = bind (block_at r a) (λ x. somewhere x.end)
@@ -171,7 +169,7 @@ unfoldable pub kind_numbered : ℕ → Option BlockKind
 kind_numbered n = get_elem? (map (λ (r : BlockRow). r.kind) block_table) n
 
 unfoldable pub kind_there : Trailing → ℕ → Option BlockKind
-kind_there t n = cond ((row_at n).there t) (kind_numbered n) none
+kind_there t n = cond ((row_at n).there t) (kind_numbered n) None
 
 unfoldable pub block : Trailing → ℕ → BlockKind → Reads Block
 block t start k = block_in t start (row_number k)
@@ -190,17 +188,17 @@ pub record Step : Type 0 where
 
 -- the walk after row `i`: it has ended if the block's end overflowed
 abbrev pub after : Trailing → ℕ → Option ℕ → Walk
-after t i none = record { trailing = t; row = 11; address = 0 }
-after t i (some a) = record { trailing = t; row = i; address = a }
+after t i None = record { trailing = t; row = 11; address = 0 }
+after t i (Some a) = record { trailing = t; row = i; address = a }
 
 unfoldable pub step_at : List ℕ → List ℕ → Trailing → ℕ → ℕ → Option Step
 step_at image segments t i a =
-    Option.map (λ x. record { block = x.block; next = after t (i + 1) x.end }) (run image segments (block_at (row_at i) a))
+    option_map (λ x. record { block = x.block; next = after t (i + 1) x.end }) (run image segments (block_at (row_at i) a))
 
 -- the next block of `n` rows from row `i` on, at address `a`: rows whose block is not present are passed over, and the first failure ends
 -- the walk
 unfoldable pub step_in : List ℕ → List ℕ → Trailing → ℕ → ℕ → ℕ → Option Step
-step_in image segments t zero i a = none
+step_in image segments t zero i a = None
 step_in image segments t (suc n) i a =
     cond ((row_at i).there t) (step_at image segments t i a) (step_in image segments t n (i + 1) a)
 
@@ -210,8 +208,8 @@ next_block image segments w = step_in image segments w.trailing (11 - w.row) w.r
 -- ---- all blocks of a descriptor
 
 abbrev pub with_block : Option Block → List Block → List Block
-with_block none bs = bs
-with_block (some b) bs = b ∷ bs
+with_block None bs = bs
+with_block (Some b) bs = b ∷ bs
 
 -- those of these kinds that are present and can be read
 abbrev pub blocks_of : List ℕ → List ℕ → Trailing → ℕ → List BlockKind → List Block

@@ -1,6 +1,5 @@
 -- What the calls' answers say, in terms of the definitions.
-use Rattle.std.specs.Prelude.{ℕ}
-use Rattle.std.proofs.Math.Option.{Option, some, none}
+use Rattle.std.specs.Prelude.{ℕ, Option, Some, None}
 use Rattle.classtrailers.specs.Blocks.{Trailing, Ended, Walk, Step}
 use Rattle.classtrailers.specs.declared.block.Block.{Block}
 use Rattle.classtrailers.specs.declared.block.BlockKind.{BlockKind}
@@ -18,19 +17,19 @@ abbrev pub walk_of : BlockIter → Walk
 walk_of w = record { trailing = trailing_of w.trailing; row = w.row; address = w.address }
 
 abbrev pub block_step_of : BlockStep → Option Step
-block_step_of (BlockStep.Block b w) = some (record { block = b; next = walk_of w })
-block_step_of BlockStep.End = none
+block_step_of (BlockStep.Block b w) = Some (record { block = b; next = walk_of w })
+block_step_of BlockStep.End = None
 
 abbrev pub block_read_of : BlockRead → Option Block
-block_read_of (BlockRead.Block b) = some b
-block_read_of BlockRead.Nothing = none
+block_read_of (BlockRead.Block b) = Some b
+block_read_of BlockRead.Nothing = None
 
 -- a block at an address, and where it ends
 abbrev pub block_at_of : BlockAt → Option Ended
-block_at_of (BlockAt.Block b e) = some (record { block = b; end = some e })
-block_at_of (BlockAt.Last b) = some (record { block = b; end = none })
-block_at_of BlockAt.Nothing = none
+block_at_of (BlockAt.Block b e) = Some (record { block = b; end = Some e })
+block_at_of (BlockAt.Last b) = Some (record { block = b; end = None })
+block_at_of BlockAt.Nothing = None
 
 abbrev pub kind_read_of : KindRead → Option BlockKind
-kind_read_of (KindRead.Kind k) = some k
-kind_read_of KindRead.Nothing = none
+kind_read_of (KindRead.Kind k) = Some k
+kind_read_of KindRead.Nothing = None

@@ -1,6 +1,5 @@
 // Blocks at an address. A header is read once, as a part of the image.
-ghost use Rattle.std.specs.Prelude.{◌≡◌, false, ◌+◌, ◌*◌, ◌≤◌};
-ghost use Rattle.std.proofs.Math.Option.{some};
+ghost use Rattle.std.specs.Prelude.{◌≡◌, false, ◌+◌, ◌*◌, ◌≤◌, Some};
 ghost use Rattle.runtime.specs.Reads.{run};
 ghost use Rattle.segment.specs.Mapping.{with_mapping};
 ghost use Rattle.segment.specs.VmAddress.{address_of};
@@ -37,7 +36,7 @@ fn end_of(at: u64, size: u64) -> VmAddress
 
 // A block that is recorded whatever its end.
 fn unread(block: Block, at: u64, size: u64) -> BlockAt
-    ensures { block_at_of result ≡ some (record { block = block; end = below (at + size) }) }
+    ensures { block_at_of result ≡ Some (record { block = block; end = below (at + size) }) }
 {
     match end_of(at, size) {
         VmAddress::At(end) => BlockAt::Block { block, end },
@@ -47,7 +46,7 @@ fn unread(block: Block, at: u64, size: u64) -> BlockAt
 
 // One without a header.
 fn plain_at(kind: BlockKind, at: u64, size: u64) -> BlockAt
-    ensures { block_at_of result ≡ some (record { block = placed_block kind at; end = below (at + size) }) }
+    ensures { block_at_of result ≡ Some (record { block = placed_block kind at; end = below (at + size) }) }
 {
     let block = Block {
         kind,

@@ -1,8 +1,7 @@
 -- Two bundles and what is left of them when their image is cut, worked out by computing: each pair is a `CutBundle`, and what `cut-printed` says of it is here line for line.
 use Prim.Native.Nat.{ℕ, zero, suc, ◌+◌, ◌/◌}
 use Rattle.std.proofs.Common.{arith, ◌∙◌, inl, inr}
-use Rattle.std.specs.Prelude.{◌≡◌, refl, List, [], ◌∷◌, ◌++◌, map, length, take, drop}
-use Rattle.std.proofs.Math.Option.{Option, some}
+use Rattle.std.specs.Prelude.{◌≡◌, refl, List, [], ◌∷◌, ◌++◌, map, length, take, drop, Option, Some}
 use borrow.Author.Tests.{le-ltb}
 use Rattle.utf8.specs.Table.{table}
 use Rattle.utf8.specs.Text.{following, goes_on, until_nul, text_length}
@@ -98,7 +97,7 @@ module _ (b : List ℕ) (l : Layout) (c : ℕ) where
   named i = run (bytes_of b l.image) (segment_numbers b l) (name_of (sections_of b l) (NameKey.descriptor i))
 
   -- for one slot, whose name is looked up at `a`, offset `o`
-  of_one : (a o : ℕ) → length (bytes_of b l.types.part) / 4 ≡ 1 → named 0 ≡ some a → text_offset (segment_numbers b l) a ≡ some o
+  of_one : (a o : ℕ) → length (bytes_of b l.types.part) / 4 ≡ 1 → named 0 ≡ Some a → text_offset (segment_numbers b l) a ≡ Some o
       → Outside o (o + extent (drop o (bytes_of b l.image))) c → (i : ℕ) → Clears i
   unfolding run slot_name_address name_of
   of_one a o n e t h zero = there (bytes_of b l.image) (segment_numbers b l) (sections_of b l) c (NameKey.descriptor 0) a o e t h

@@ -3,13 +3,12 @@
 -- before the row's own (`cut_line`, `kept-lines`); and when a line is the same (`same_line`).
 use Prim.Native.Nat.{ℕ, zero, suc, ◌<◌}
 use Rattle.std.proofs.Common.{arith, ◌∙◌, ⊎_elim, lt-ltb}
-use Rattle.std.specs.Prelude.{◌≡◌, ◌⊎◌, Bool, cond, ◌&&◌, length, take, ltb}
+use Rattle.std.specs.Prelude.{◌≡◌, ◌⊎◌, Bool, cond, ◌&&◌, length, take, ltb, Option, Some, None}
 use Rattle.std.proofs.Math.Path.{refl, sym, ap}
 use Rattle.std.proofs.Math.Logic.{inl, inr}
 use mathlib.Core.List.Memᴰ
 use mathlib.Core.List.{List, [], ◌∷◌, ◌++◌, map, Memᴰ}
 use Rattle.std.proofs.Math.Bool.{true, false, and-eq-true_iff}
-use Rattle.std.proofs.Math.Option.{Option, some, none}
 use Rattle.refusal.specs.Refusal.{answered, refused}
 use Rattle.runtime.specs.Reads.{run, Range, bytes_range, also, path, every, Clear, ends_by}
 use Rattle.runtime.proofs.ReadsLaws.{run_bind, path_bind, cut}
@@ -61,14 +60,14 @@ module _ (image segments : List ℕ) (row : TypeRow) where
 module _ (image segments : List ℕ) (c : ℕ) where
   -- the cut does not fall into a name of the first `n` contexts from an address on
   abbrev pub ClearChain : ℕ → ℕ → Type 0
-  ClearChain n a = (k : ℕ) (h : Header) → k < n → run image segments (header_at k a) ≡ some h → ClearBy image segments c (context_name_at h)
+  ClearChain n a = (k : ℕ) (h : Header) → k < n → run image segments (header_at k a) ≡ Some h → ClearBy image segments c (context_name_at h)
 
   -- a context's header, which has no text
   pub cut_header_at : (k a : ℕ)
-      → run (take c image) segments (header_at k a) ≡ cond (every (ends_by c) (path image segments (header_at k a))) (run image segments (header_at k a)) none
+      → run (take c image) segments (header_at k a) ≡ cond (every (ends_by c) (path image segments (header_at k a))) (run image segments (header_at k a)) None
   cut_header_at k a = cut image segments c (header_at k a) (on_context image segments (Clear c) (λ o n. bytes_clear c (bytes_range o n) refl) k a).all
 
-  cut_header : (a : ℕ) → run (take c image) segments (header a) ≡ cond (every (ends_by c) (path image segments (header a))) (run image segments (header a)) none
+  cut_header : (a : ℕ) → run (take c image) segments (header a) ≡ cond (every (ends_by c) (path image segments (header a))) (run image segments (header a)) None
   unfolding header_at
   cut_header a = cut_header_at 0 a
 
@@ -79,7 +78,7 @@ module _ (image segments : List ℕ) (c : ℕ) where
     kept_on : header_kept ≡ true
         → record {
           header = h;
-          name = cond (every (ends_by c) (path image segments (name h.address h.flags))) (context_name image segments h.address h.flags) none;
+          name = cond (every (ends_by c) (path image segments (name h.address h.flags))) (context_name image segments h.address h.flags) None;
         } ∷ kept_contexts image segments c xs
         ≡ kept_contexts image segments c (with_name image segments h ∷ xs)
     unfolding with_name
@@ -95,10 +94,10 @@ module _ (image segments : List ℕ) (c : ℕ) where
   cut_chain zero a clear = refl
   cut_chain (suc n) a clear = go (λ b. cut_chain n b) (run image segments (header a)) refl (every (ends_by c) (path image segments (header a))) refl
     where
-      further : (h : Header) → run image segments (header a) ≡ some h → ClearChain n h.parent
-      further h e k g l t = clear (suc k) g (omega arith) (next_by image segments k a (some h) e ∙ t)
+      further : (h : Header) → run image segments (header a) ≡ Some h → ClearChain n h.parent
+      further h e k g l t = clear (suc k) g (omega arith) (next_by image segments k a (Some h) e ∙ t)
 
-      own : (h : Header) → run image segments (header a) ≡ some h
+      own : (h : Header) → run image segments (header a) ≡ Some h
           → every (ends_by c) (path image segments (header h.address)) ≡ every (ends_by c) (path image segments (header a))
       own h e = ap (λ (b : ℕ). every (ends_by c) (path image segments (header b))) (header_address image segments a h e)
 
@@ -106,29 +105,29 @@ module _ (image segments : List ℕ) (c : ℕ) where
           → (x : Option Header) → run image segments (header a) ≡ x
           → (b : Bool) → every (ends_by c) (path image segments (header a)) ≡ b
           → chain (take c image) segments (suc n) a ≡ kept_contexts image segments c (chain image segments (suc n) a)
-      go ih none e true t =
-          let f : run (take c image) segments (header a) ≡ none = cut_header a ∙ rw (t, e) in
-          rw (chain_by (take c image) segments n a none f, chain_by image segments n a none e)
-      go ih none e false t =
-          let f : run (take c image) segments (header a) ≡ none = cut_header a ∙ rw t in
-          rw (chain_by (take c image) segments n a none f, chain_by image segments n a none e)
-      go ih (some h) e true t =
-          let f : run (take c image) segments (header a) ≡ some h = cut_header a ∙ rw (t, e) in
-          chain_by (take c image) segments n a (some h) f
+      go ih None e true t =
+          let f : run (take c image) segments (header a) ≡ None = cut_header a ∙ rw (t, e) in
+          rw (chain_by (take c image) segments n a None f, chain_by image segments n a None e)
+      go ih None e false t =
+          let f : run (take c image) segments (header a) ≡ None = cut_header a ∙ rw t in
+          rw (chain_by (take c image) segments n a None f, chain_by image segments n a None e)
+      go ih (Some h) e true t =
+          let f : run (take c image) segments (header a) ≡ Some h = cut_header a ∙ rw (t, e) in
+          chain_by (take c image) segments n a (Some h) f
           ∙ rw (cut_context image segments c h (clear 0 h (omega arith) e), ih h.parent (further h e)) (kept_on h (chain image segments n h.parent) (own h e ∙ t))
-          ∙ ap (kept_contexts image segments c) (sym (chain_by image segments n a (some h) e))
-      go ih (some h) e false t =
-          let f : run (take c image) segments (header a) ≡ none = cut_header a ∙ rw t in
-          chain_by (take c image) segments n a none f
+          ∙ ap (kept_contexts image segments c) (sym (chain_by image segments n a (Some h) e))
+      go ih (Some h) e false t =
+          let f : run (take c image) segments (header a) ≡ None = cut_header a ∙ rw t in
+          chain_by (take c image) segments n a None f
           ∙ kept_off h (chain image segments n h.parent) (own h e ∙ t)
-          ∙ ap (kept_contexts image segments c) (sym (chain_by image segments n a (some h) e))
+          ∙ ap (kept_contexts image segments c) (sym (chain_by image segments n a (Some h) e))
 
   -- whether a 257th context can be read
   cut_too_deep : (a : ℕ) → too_deep (take c image) segments a ≡ kept_too_deep image segments c a
   unfolding too_deep
   cut_too_deep a = rw (cut_header_at contexts_most a) (go (every (ends_by c) (path image segments (header_at contexts_most a))))
     where
-      go : (b : Bool) → is_there (cond b (run image segments (header_at contexts_most a)) none) ≡ b && is_there (run image segments (header_at contexts_most a))
+      go : (b : Bool) → is_there (cond b (run image segments (header_at contexts_most a)) None) ≡ b && is_there (run image segments (header_at contexts_most a))
       go true = refl
       go false = refl
 
@@ -170,11 +169,11 @@ module _ (image segments : List ℕ) (c : ℕ) where
           → ((b : ℕ) → every (ends_by c) (path image segments (header_at n b)) ≡ true → every (ends_by c) (names_path image segments (chain image segments n b)) ≡ true
           → chain (take c image) segments n b ≡ chain image segments n b)
           → chain (take c image) segments (suc n) a ≡ chain image segments (suc n) a
-      go none t w ih = chain_by (take c image) segments n a none (kept_run image segments c (header a) w.0 ∙ t) ∙ sym (chain_by image segments n a none t)
-      go (some h) t w ih =
-          let v = names_end h (chain image segments n h.parent) (sym (ap (λ (l : List Context). every (ends_by c) (names_path image segments l)) (chain_by image segments n a (some h) t)) ∙ f) in
-          chain_by (take c image) segments n a (some h) (kept_run image segments c (header a) w.0 ∙ t)
-          ∙ rw (same_name h v.0, ih h.parent (rw t at w.1) v.1) (sym (chain_by image segments n a (some h) t))
+      go None t w ih = chain_by (take c image) segments n a None (kept_run image segments c (header a) w.0 ∙ t) ∙ sym (chain_by image segments n a None t)
+      go (Some h) t w ih =
+          let v = names_end h (chain image segments n h.parent) (sym (ap (λ (l : List Context). every (ends_by c) (names_path image segments l)) (chain_by image segments n a (Some h) t)) ∙ f) in
+          chain_by (take c image) segments n a (Some h) (kept_run image segments c (header a) w.0 ∙ t)
+          ∙ rw (same_name h v.0, ih h.parent (rw t at w.1) v.1) (sym (chain_by image segments n a (Some h) t))
 
   -- a line whose joined name reads nothing after the cut is the whole image's: no premise is needed
   pub same_line : (row : TypeRow) → every (ends_by c) (joined_path image segments row.parent) ≡ true → row_line (take c image) segments row ≡ row_line image segments row
@@ -184,12 +183,12 @@ module _ (image segments : List ℕ) (c : ℕ) where
       rw (kept_run image segments c (header_at contexts_most row.parent) w.0, same_chain contexts_most row.parent w.0 w.1)
 
 -- the listing's premise has the names of a row's contexts
-pub chain_clear : (image segments : List ℕ) (s : Sections) (c i : ℕ) (r : TypeRow) → run image segments (row_of_slot s i) ≡ some r
+pub chain_clear : (image segments : List ℕ) (s : Sections) (c i : ℕ) (r : TypeRow) → run image segments (row_of_slot s i) ≡ Some r
     → ((k : ℕ) → ClearOf image segments s c (NameKey.context i k)) → ClearChain image segments c contexts_most r.parent
 unfolding context_of_slot
 chain_clear image segments s c i r e clear k h l t = context_clear image segments c s i k h there (clear k)
   where
-    there : run image segments (context_of_slot s i k) ≡ some h
+    there : run image segments (context_of_slot s i k) ≡ Some h
     there = simp (lt-ltb k contexts_most l) (run_bind image segments (λ r. header_at k r.parent) (row_of_slot s i) ∙ rw e t)
 
 -- ---- the lines

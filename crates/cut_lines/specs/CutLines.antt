@@ -1,6 +1,5 @@
 -- What a cut leaves of a printed line: docs/SPECIFICATION.md, "The printed listing" and "Items, paths and the cut".
-use Rattle.std.specs.Prelude.{ℕ, ◌≡◌, List, [], ◌∷◌, ◌++◌, Bool, cond, ◌&&◌, length, take, ltb}
-use Rattle.std.proofs.Math.Option.{none}
+use Rattle.std.specs.Prelude.{ℕ, ◌≡◌, List, [], ◌∷◌, ◌++◌, Bool, cond, ◌&&◌, length, take, ltb, None}
 use Rattle.refusal.specs.Refusal.{Guarded, answered, refused}
 use Rattle.runtime.specs.Reads.{Range, path, every, ends_by}
 use Rattle.typedescriptor.specs.Row.{TypeRow}
@@ -30,7 +29,7 @@ module _ (image segments : List ℕ) (c : ℕ) where
   abbrev pub kept_contexts : List Context → List Context
   kept_contexts [] = []
   kept_contexts (x ∷ xs) =
-      cond (header_ends_by x) (record { header = x.header; name = cond (name_ends_by x) x.name none } ∷ kept_contexts xs) []
+      cond (header_ends_by x) (record { header = x.header; name = cond (name_ends_by x) x.name None } ∷ kept_contexts xs) []
 
   -- the 257th context can be read from bytes before the cut
   abbrev pub kept_too_deep : ℕ → Bool

@@ -1,13 +1,12 @@
 -- What the code finds of a table is `tableFrom`: where an entry lies (`no_place`, `a-place`), its numbers in the list (`set-put`,
 -- `set_more`), the entries of a run (`Ran`), and run after run (`Going`, for any numbers of an entry: `tableBy`). The table is the entries
 -- that stepping gives, as numbers (`table-listed`); its counts do not depend on those numbers (`same-counts`).
-use Rattle.std.specs.Prelude.{◌≡◌, ℕ, zero, suc, ◌+◌, ◌-◌, ◌*◌, ◌/◌, ◌%◌, ◌^◌, ◌<◌, ◌≤◌, min, Bool, true, false, cond, List, [], ◌∷◌, ◌++◌, length, take, drop, ◌≢◌, slice_set}
+use Rattle.std.specs.Prelude.{◌≡◌, ℕ, zero, suc, ◌+◌, ◌-◌, ◌*◌, ◌/◌, ◌%◌, ◌^◌, ◌<◌, ◌≤◌, min, Bool, true, false, cond, List, [], ◌∷◌, ◌++◌, length, take, drop, ◌≢◌, slice_set, Option, Some, None}
 use Rattle.std.proofs.Common.{mul-le-mul_left, mul-zero, mul-suc, mul-add, mod-eq_of_lt, le_antisymm, le_trans, div-le_self, zero-add, add-one, subst, ◌∙◌, append_assoc, append-nil, length-append, length-set, take-append-drop, take_at, drop_at, drop-drop, length-take-le, le-leb, lt-ltb, le-ltb}
 use Rattle.std.proofs.Math.Nat.{mul-div-le, div-eq_of_lt, div-eq-sub-div}
 use Rattle.std.proofs.Math.Decide.{dec_le, dec_lt}
 use native.Mathlib.Omega.{arith}
 use Rattle.std.proofs.Math.Path.{refl, sym, ap}
-use Rattle.std.proofs.Math.Option.{Option, some, none}
 use Rattle.std.proofs.lemmas.List.{set_split}
 use Rattle.std.proofs.lemmas.Bool.{lt-leb}
 use Rattle.util.specs.LittleEndian.{signed_in}
@@ -37,7 +36,7 @@ use Rattle.entry_tables.specs.Tables.{entry_numbers, WholeTable, Counts, empty_t
 -- ---- where an entry lies
 
 module _ (image segments : List ℕ) (size a : ℕ) where
-  pub place_wraps : 2 ^ 64 ≤ a + (size - 4) → none ≡ entry_place image segments size a
+  pub place_wraps : 2 ^ 64 ≤ a + (size - 4) → None ≡ entry_place image segments size a
   unfolding entry_place
   place_wraps w = simp (le-leb (2 ^ 64) (a + (size - 4)) w)
 
@@ -45,13 +44,13 @@ module _ (image segments : List ℕ) (size a : ℕ) where
   unfolding entry_place
   place_as x w e = simp (lt-leb (2 ^ 64) (a + (size - 4)) w) e
 
-  pub place_in : (o : ℕ) → some o ≡ entry_place image segments size a → (a + (size - 4) < 2 ^ 64) × (o + size ≤ length image)
+  pub place_in : (o : ℕ) → Some o ≡ entry_place image segments size a → (a + (size - 4) < 2 ^ 64) × (o + size ≤ length image)
   unfolding entry_place
   place_in o e = go (dec_le (2 ^ 64) (a + (size - 4)))
     where
       go : Dec (2 ^ 64 ≤ a + (size - 4)) → (a + (size - 4) < 2 ^ 64) × (o + size ≤ length image)
       go (yes w) =
-          let f : ◌≡◌ {A = Option ℕ} (some o) none = simp (le-leb (2 ^ 64) (a + (size - 4)) w) at e in
+          let f : ◌≡◌ {A = Option ℕ} (Some o) None = simp (le-leb (2 ^ 64) (a + (size - 4)) w) at e in
           let z : ◌≡◌ {A = ℕ} 0 1 = cc in
           absurd (omega arith)
       go (no w) = (omega arith, bytes_within image segments a size o (simp (lt-leb (2 ^ 64) (a + (size - 4)) (omega arith)) at e))
@@ -70,14 +69,14 @@ on_words : (a size last : ℕ) → a + (size - 4) < 2 ^ 64 → last ≤ 18446744
 on_words a size last w l = omega arith
 
 module _ (image segments : List ℕ) (size a : ℕ) (w : a + (size - 4) < 2 ^ 64) where
-  pub opens_one : (o : ℕ) → some o ≡ bytes_place image segments a size → Opens image segments size a (Window.At o 0)
+  pub opens_one : (o : ℕ) → Some o ≡ bytes_place image segments a size → Opens image segments size a (Window.At o 0)
   opens_one o e i h =
       let eo : o + i ≡ o = omega arith in
       let ea : a + i ≡ a = omega arith in
-      rw (eo, ea) (place_as image segments size a (some o) w e)
+      rw (eo, ea) (place_as image segments size a (Some o) w e)
 
-  pub opens_none : none ≡ bytes_place image segments a size → Opens image segments size a Window.Nothing
-  opens_none e = place_as image segments size a none w e
+  pub opens_none : None ≡ bytes_place image segments a size → Opens image segments size a Window.Nothing
+  opens_none e = place_as image segments size a None w e
 
   pub opens_nowhere : Located segments a Around.Nothing → Opens image segments size a Window.Nothing
   opens_nowhere f = opens_none (bytes_nowhere image segments a size f)
@@ -98,8 +97,8 @@ module _ (image segments : List ℕ) (size a : ℕ) (w : a + (size - 4) < 2 ^ 64
         let below = on_words a size last w (le_trans hl.1 hu.1) in
         let has : Has m (a + i) = record { from = omega (arith, f.1.from); to = omega (arith, f.1.from, f.1.to) } in
         let far : m.fileoff + (a + i - m.vmaddr) ≡ m.fileoff + past + i = omega (arith, f.1.from) in
-        let e : file_offset (segments_of segments) (a + i) ≡ some (m.fileoff + past + i) = f.2.offset (a + i) has ∙ ap some far in
-        place_as image segments size (a + i) (some (m.fileoff + past + i)) (omega (arith, below)) (bytes_at_lem image segments (a + i) size (m.fileoff + past + i) (sym e) (omega (arith, inside)))
+        let e : file_offset (segments_of segments) (a + i) ≡ Some (m.fileoff + past + i) = f.2.offset (a + i) has ∙ ap Some far in
+        place_as image segments size (a + i) (Some (m.fileoff + past + i)) (omega (arith, below)) (bytes_at_lem image segments (a + i) size (m.fileoff + past + i) (sym e) (omega (arith, inside)))
 
     pub opens_least : (u last : ℕ) → m.fileoff ≤ length image → past ≤ length image - m.fileoff → size ≤ length image - (m.fileoff + past)
         → u ≡ min (length image - (m.fileoff + past) - size) (18446744073709551615 - (size - 4) - a) → last ≡ min (m.size - past - 1) u
@@ -107,7 +106,7 @@ module _ (image segments : List ℕ) (size a : ℕ) (w : a + (size - 4) < 2 ^ 64
     opens_least u last hf hp hs eu el = opens_all u last hf hp hs (lesser u _ _ eu) (lesser last _ _ el)
 
 module _ (image segments : List ℕ) (size a o last : ℕ) (w : Opens image segments size a (Window.At o last)) where
-  pub opens_here : some o ≡ entry_place image segments size a
+  pub opens_here : Some o ≡ entry_place image segments size a
   opens_here =
       let eo : o + 0 ≡ o = omega arith in
       let ea : a + 0 ≡ a = omega arith in
@@ -117,18 +116,18 @@ module _ (image segments : List ℕ) (size a o last : ℕ) (w : Opens image segm
   opens_last = place_in image segments size (a + last) (o + last) (w last (omega arith))
 
 module _ (image segments : List ℕ) (l : Layout) (base k : ℕ) where
-  pub no_place : none ≡ entry_place image segments (entry_size l) (entry_address l base k) → none ≡ run image segments (entry_at l base k)
+  pub no_place : None ≡ entry_place image segments (entry_size l) (entry_address l base k) → None ≡ run image segments (entry_at l base k)
   unfolding entry_place entry_at run
   no_place e = go (dec_le (2 ^ 64) (entry_address l base k + (entry_size l - 4)))
     where
-      go : Dec (2 ^ 64 ≤ entry_address l base k + (entry_size l - 4)) → none ≡ run image segments (entry_at l base k)
+      go : Dec (2 ^ 64 ≤ entry_address l base k + (entry_size l - 4)) → None ≡ run image segments (entry_at l base k)
       go (yes w) = simp (le-leb (2 ^ 64) (entry_address l base k + (entry_size l - 4)) w)
       go (no w) =
           let f = simp (lt-leb (2 ^ 64) (entry_address l base k + (entry_size l - 4)) (omega arith)) at e in
           simp (lt-leb (2 ^ 64) (entry_address l base k + (entry_size l - 4)) (omega arith)) (rw (← f))
 
-  pub a_place : (o : ℕ) → some o ≡ entry_place image segments (entry_size l) (entry_address l base k)
-      → some (entry_of l (entry_address l base k) (take (entry_size l) (drop o image))) ≡ run image segments (entry_at l base k)
+  pub a_place : (o : ℕ) → Some o ≡ entry_place image segments (entry_size l) (entry_address l base k)
+      → Some (entry_of l (entry_address l base k) (take (entry_size l) (drop o image))) ≡ run image segments (entry_at l base k)
   unfolding entry_place entry_at run
   a_place o e =
       let w = (place_in image segments (entry_size l) (entry_address l base k) o e).0 in
@@ -313,13 +312,13 @@ module _ (say : Entry → List ℕ) (image segments : List ℕ) (l : Layout) (ba
   unfolding table_by
   from_full k h = ap empty_table (sym (stop_full k count h))
 
-  from_none : (n k : ℕ) → k < count → none ≡ run image segments (entry_at l base k) → left (suc n) k ≡ empty_table 2
+  from_none : (n k : ℕ) → k < count → None ≡ run image segments (entry_at l base k) → left (suc n) k ≡ empty_table 2
   unfolding table_by
-  from_none n k h e = rw (table_by, sym (step_gives image segments l (iter_at base count k) none e h))
+  from_none n k h e = rw (table_by, sym (step_gives image segments l (iter_at base count k) None e h))
 
-  from_some : (n k : ℕ) (x : Entry) → k < count → some x ≡ run image segments (entry_at l base k) → left (suc n) k ≡ entry_then say x (left n (k + 1))
+  from_some : (n k : ℕ) (x : Entry) → k < count → Some x ≡ run image segments (entry_at l base k) → left (suc n) k ≡ entry_then say x (left n (k + 1))
   unfolding table_by
-  from_some n k x h e = rw (table_by, sym (step_gives image segments l (iter_at base count k) (some x) e h))
+  from_some n k x h e = rw (table_by, sym (step_gives image segments l (iter_at base count k) (Some x) e h))
 
   -- some entries are listed, and a walk stands at the next one
   abbrev after : List ℕ → ℕ → WholeTable → WholeTable
@@ -356,8 +355,8 @@ module _ (say : Entry → List ℕ) (image segments : List ℕ) (l : Layout) (ba
 
       given : ((left n (k + 1)).stop ≡ 1 → left (n + m) (k + 1) ≡ after (left n (k + 1)).numbers n (left m (n + (k + 1)))) → k < count
           → (y : Option Entry) → y ≡ run image segments (entry_at l base k) → left (suc n + m) k ≡ after (left (suc n) k).numbers (suc n) (left m (suc n + k))
-      given ih h none f = never 2 (from_none n k h f) (λ z. omega arith)
-      given ih h (some x) f =
+      given ih h None f = never 2 (from_none n k h f) (λ z. omega arith)
+      given ih h (Some x) f =
           let first : left (suc n) k ≡ entry_then say x (left n (k + 1)) = from_some n k x h f in
           let rest = ih (sym (ap (λ (r : WholeTable). r.stop) first) ∙ e) in
           let next : n + (k + 1) ≡ suc n + k = omega arith in
@@ -384,8 +383,8 @@ module _ (say : Entry → List ℕ) (image segments : List ℕ) (l : Layout) (ba
     where
       found : ((left n (k + 1)).stop ≡ 1 → ((left n (k + 1)).entries ≡ n) × (k + 1 + n < count)) → k < count → (y : Option Entry)
           → y ≡ run image segments (entry_at l base k) → ((left (suc n) k).entries ≡ suc n) × (k + suc n < count)
-      found ih h none f = absurd (omega (arith, ap stop_of (from_none n k h f)))
-      found ih h (some x) f =
+      found ih h None f = absurd (omega (arith, ap stop_of (from_none n k h f)))
+      found ih h (Some x) f =
           let first = from_some n k x h f in
           let rest = ih (sym (ap stop_of first) ∙ e) in
           (ap (λ (r : WholeTable). r.entries) first ∙ ap suc rest.0, omega (arith, rest.1))
@@ -406,8 +405,8 @@ module _ (say : Entry → List ℕ) (image segments : List ℕ) (l : Layout) (ba
     where
       found : (((left n (k + 1)).stop ≢ 1) → left n (k + 1) ≡ left m (k + 1)) → k < count → (y : Option Entry) → y ≡ run image segments (entry_at l base k)
           → left (suc n) k ≡ left (suc m) k
-      found ih h none e = from_none n k h e ∙ sym (from_none m k h e)
-      found ih h (some x) e =
+      found ih h None e = from_none n k h e ∙ sym (from_none m k h e)
+      found ih h (Some x) e =
           let first = from_some n k x h e in
           first ∙ ap (entry_then say x) (ih (λ z. f (ap stop_of first ∙ z))) ∙ sym (from_some m k x h e)
 
@@ -471,11 +470,11 @@ module _ (say : Entry → List ℕ) (image segments : List ℕ) (l : Layout) (ba
         one_left : most - n ≡ suc (most - (n + 1))
         one_left = omega arith
 
-        pub stops_none : none ≡ run image segments (entry_at l base k)
+        pub stops_none : None ≡ run image segments (entry_at l base k)
             → (record { entries = n; stop = 2 } ≡ counts (left most k₀)) × (b ≡ at_start (table_numbers (left most k₀)) b₀)
         stops_none e = stops 2 (ap (λ (j : ℕ). left j k) one_left ∙ from_none (most - (n + 1)) k h e)
 
-        pub goes_on_lem : (x : Entry) (b' : List ℕ) → some x ≡ run image segments (entry_at l base k) → length (say x) ≡ each
+        pub goes_on_lem : (x : Entry) (b' : List ℕ) → Some x ≡ run image segments (entry_at l base k) → length (say x) ≡ each
             → b' ≡ pasted b (each * n) (say x) → Going (k + 1) (n + 1) b'
         goes_on_lem x b' e w eb =
             let t : List ℕ = say x in
@@ -507,7 +506,7 @@ module _ (image segments : List ℕ) (l : Layout) (base count : ℕ) (b₀ : Lis
     with_run r = pasted b (width l * n) (run_numbers image l o (entry_address l base k) r)
 
     pub goes_along : (r : ℕ) → n + r ≤ length b₀ / width l → k + r ≤ count
-        → ((i : ℕ) → i < r → some (o + l.stride * i) ≡ entry_place image segments (entry_size l) (entry_address l base k + l.stride * i)) → Listing (k + r) (n + r) (with_run r)
+        → ((i : ℕ) → i < r → Some (o + l.stride * i) ≡ entry_place image segments (entry_size l) (entry_address l base k + l.stride * i)) → Listing (k + r) (n + r) (with_run r)
     goes_along zero m h f =
         let ek : k + 0 ≡ k = omega arith in
         let en : n + 0 ≡ n = omega arith in
@@ -515,8 +514,8 @@ module _ (image segments : List ℕ) (l : Layout) (base count : ℕ) (b₀ : Lis
     goes_along (suc r) m h f =
         let x : Entry = entry_of l (entry_address l base k + l.stride * r) (take (entry_size l) (drop (o + l.stride * r) image)) in
         let there : entry_address l base k + l.stride * r ≡ entry_address l base (k + r) = omega (arith, mul-add l.stride k r) in
-        let is : some x ≡ run image segments (entry_at l base (k + r)) =
-        ap (λ (z : ℕ). some (entry_of l z (take (entry_size l) (drop (o + l.stride * r) image)))) there
+        let is : Some x ≡ run image segments (entry_at l base (k + r)) =
+        ap (λ (z : ℕ). Some (entry_of l z (take (entry_size l) (drop (o + l.stride * r) image)))) there
         ∙ a_place image segments l base (k + r) (o + l.stride * r) (f r (omega arith) ∙ ap (entry_place image segments (entry_size l)) there) in
         let so_far : length (run_numbers image l o (entry_address l base k) r) ≡ width l * r = run_length image l o (entry_address l base k) r in
         let at : width l * (n + r) ≡ width l * n + length (run_numbers image l o (entry_address l base k) r) = omega (arith, mul-add (width l) n r, so_far) in
@@ -561,16 +560,16 @@ module _ (image segments : List ℕ) (numbered : Bool) (more stride base count :
     table_full s h f = stops_full entry_numbers image segments l base count (width l) b₀ k₀ k n b g (le_antisymm g.few (rw wide h)) s f
 
     module _ (h : k < count) (m : n < length b₀ / (2 + more)) where
-      pub table_none : none ≡ entry_place image segments (4 + 4 * more) (at k) → Done 2
-      table_none e = stops_none entry_numbers image segments l base count (width l) b₀ k₀ k n b g h (below n m) (no_place image segments l base k (by_size k none e))
+      pub table_none : None ≡ entry_place image segments (4 + 4 * more) (at k) → Done 2
+      table_none e = stops_none entry_numbers image segments l base count (width l) b₀ k₀ k n b g h (below n m) (no_place image segments l base k (by_size k None e))
 
-      pub table_some : (o a : ℕ) (b' : List ℕ) → some o ≡ entry_place image segments (4 + 4 * more) (at k) → a ≡ at k % 2 ^ 64
+      pub table_some : (o a : ℕ) (b' : List ℕ) → Some o ≡ entry_place image segments (4 + 4 * more) (at k) → a ≡ at k % 2 ^ 64
           → b' ≡ pasted b ((2 + more) * n) (entry_numbers (entry_of (shape numbered more 0) a (take (4 + 4 * more) (drop o image))))
           → Listing image segments l base count b₀ k₀ (k + 1) (n + 1) b'
       table_some o a b' e ea eb =
           let w = (place_in image segments (4 + 4 * more) (at k) o e).0 in
           let same : a ≡ at k = ea ∙ mod-eq_of_lt (omega arith) in
-          let is : some (entry_of l (entry_address l base k) (take (entry_size l) (drop o image))) ≡ run image segments (entry_at l base k) = a_place image segments l base k o (by_size k (some o) e) in
+          let is : Some (entry_of l (entry_address l base k) (take (entry_size l) (drop o image))) ≡ run image segments (entry_at l base k) = a_place image segments l base k o (by_size k (Some o) e) in
           let x : Entry = entry_of l (entry_address l base k) (take (entry_size l) (drop o image)) in
           let put : b' ≡ pasted b (width l * n) (entry_numbers x) =
           eb ∙ rw (wide, shape_size numbered more stride small, shape_stride numbered more stride, same, shape_words numbered more stride) in
@@ -582,7 +581,7 @@ module _ (image segments : List ℕ) (numbered : Bool) (more stride base count :
         let here = (place_in image segments (4 + 4 * more) (at k) o (opens_here image segments (4 + 4 * more) (at k) o last w)).0 in
         let same : a ≡ entry_address l base k = ea ∙ mod-eq_of_lt (omega arith) ∙ ap (λ (j : ℕ). base + j * k) (sym (shape_stride numbered more stride)) in
         let put : b' ≡ pasted b (width l * n) (run_numbers image l o (entry_address l base k) r) = p.holds ∙ rw (wide, same) in
-        let far : (i : ℕ) → i < r → some (o + l.stride * i) ≡ entry_place image segments (entry_size l) (entry_address l base k + l.stride * i) =
+        let far : (i : ℕ) → i < r → Some (o + l.stride * i) ≡ entry_place image segments (entry_size l) (entry_address l base k + l.stride * i) =
         λ i j. rw (shape_size numbered more stride small, shape_stride numbered more stride) (w (stride * i) (rw (shape_stride numbered more stride) at (p.within i j))) in
         let few : length b₀ / (2 + more) ≡ length b₀ / width l = rw wide in
         rw put (goes_along image segments l base count b₀ k₀ k n b g o r (omega (arith, p.few, g.few, few)) (omega (arith, p.few)) far)
@@ -600,7 +599,7 @@ module _ (image segments : List ℕ) (numbered : Bool) (more stride base count :
       one_fits : 0 < length b₀ / (2 + more)
       one_fits = omega (arith, div-eq-sub-div {m = 2 + more} {n = length b₀} (omega arith) m)
 
-      pub one_none : none ≡ entry_place image segments (4 + 4 * more) (at k₀) → Lists only b₀ (record { entries = 0; stop = 2 }) b₀
+      pub one_none : None ≡ entry_place image segments (4 + 4 * more) (at k₀) → Lists only b₀ (record { entries = 0; stop = 2 }) b₀
       one_none e = table_none k₀ 0 b₀ (start_going entry_numbers image segments l base count (width l) b₀ k₀) (omega arith) one_fits e
 
       pub one_some : (o last a : ℕ) (b' : List ℕ) → Opens image segments (4 + 4 * more) (at k₀) (Window.At o last) → a ≡ at k₀ % 2 ^ 64
@@ -620,11 +619,11 @@ lists_least image segments numbered more r stride c b b' x e h =
 
 -- a call that lists into a buffer: its answer, and the numbers at the buffer's start
 module _ {A B : Type 0} (tell : A → B) (say : A → List ℕ) (segments : List ℕ) (r : A) (b : List ℕ) where
-  pub listed_refused : {n : ℕ} → some n ≡ fault segments
+  pub listed_refused : {n : ℕ} → Some n ≡ fault segments
       → (refused n ≡ mapped tell (guarded segments (answered r))) × (b ≡ overwritten b (answer_of (mapped say (guarded segments (answered r)))))
   listed_refused h = rw (sym (refused_list segments (answered r) h)) (refl, refl)
 
-  pub listed_accepted : (x : B) (b' : List ℕ) → (x ≡ tell r) × (b' ≡ at_start (say r) b) → none ≡ fault segments
+  pub listed_accepted : (x : B) (b' : List ℕ) → (x ≡ tell r) × (b' ≡ at_start (say r) b) → None ≡ fault segments
       → (answered x ≡ mapped tell (guarded segments (answered r))) × (b' ≡ overwritten b (answer_of (mapped say (guarded segments (answered r)))))
   listed_accepted x b' e h = rw (sym (accepted_list segments (answered r) h)) (ap answered e.0, e.1)
 
@@ -632,10 +631,10 @@ module _ (segments : List ℕ) (t : WholeTable) (b : List ℕ) where
   abbrev G : Guarded WholeTable
   G = guarded segments (answered t)
 
-  pub table_refused : (x : TableAnswer) {n : ℕ} → refused n ≡ table_answer x → some n ≡ fault segments → GivesTable G b x b
+  pub table_refused : (x : TableAnswer) {n : ℕ} → refused n ≡ table_answer x → Some n ≡ fault segments → GivesTable G b x b
   table_refused x e h = record { answers = sym e ∙ ap (mapped counts) (refused_list segments (answered t) h); holds = ap (λ (g : Guarded WholeTable). buffer_with g b) (refused_list segments (answered t) h) }
 
-  pub table_accepted : (x : Listed) (b' : List ℕ) → Lists t b x b' → none ≡ fault segments → GivesTable G b (TableAnswer.Listed x) b'
+  pub table_accepted : (x : Listed) (b' : List ℕ) → Lists t b x b' → None ≡ fault segments → GivesTable G b (TableAnswer.Listed x) b'
   table_accepted x b' e h =
       record { answers = ap answered e.0 ∙ ap (mapped counts) (accepted_list segments (answered t) h); holds = e.1 ∙ ap (λ (g : Guarded WholeTable). buffer_with g b) (accepted_list segments (answered t) h) }
 
@@ -662,13 +661,13 @@ module _ (say : Entry → List ℕ) (image segments : List ℕ) (l : Layout) whe
   table_listed zero c = (refl, refl)
   table_listed (suc n) c = go (table_listed n) (entry_step image segments l c) refl
     where
-      found : ((c : EntryIter) → Told n c) → (s : Step) → entry_step image segments l c ≡ some s → (y : Option Entry) → s.found ≡ y → Told (suc n) c
-      found ih s t none e = rw (table_by, listed_entries, t, e) (refl, refl)
-      found ih s t (some x) e = rw (table_by, listed_entries, t, e) (ap (λ (m : List ℕ). say x ++ m) (ih s.next).0, ap suc (ih s.next).1)
+      found : ((c : EntryIter) → Told n c) → (s : Step) → entry_step image segments l c ≡ Some s → (y : Option Entry) → s.found ≡ y → Told (suc n) c
+      found ih s t None e = rw (table_by, listed_entries, t, e) (refl, refl)
+      found ih s t (Some x) e = rw (table_by, listed_entries, t, e) (ap (λ (m : List ℕ). say x ++ m) (ih s.next).0, ap suc (ih s.next).1)
 
       go : ((c : EntryIter) → Told n c) → (x : Option Step) → entry_step image segments l c ≡ x → Told (suc n) c
-      go ih none t = rw (table_by, listed_entries, t) (refl, refl)
-      go ih (some s) t = found ih s t s.found refl
+      go ih None t = rw (table_by, listed_entries, t) (refl, refl)
+      go ih (Some s) t = found ih s t s.found refl
 
   -- how many entries there are, and why no more, does not depend on the numbers of an entry
   abbrev Same : (Entry → List ℕ) → ℕ → EntryIter → Type 0
@@ -679,27 +678,27 @@ module _ (say : Entry → List ℕ) (image segments : List ℕ) (l : Layout) whe
   same_counts other zero c = refl
   same_counts other (suc n) c = go (same_counts other n) (entry_step image segments l c) refl
     where
-      found : ((c : EntryIter) → Same other n c) → (s : Step) → entry_step image segments l c ≡ some s → (y : Option Entry) → s.found ≡ y → Same other (suc n) c
-      found ih s t none e = rw (table_by, t, e)
-      found ih s t (some x) e = rw (table_by, t, e) (ap (λ (k : Counts). record { entries = suc k.entries; stop = k.stop }) (ih s.next))
+      found : ((c : EntryIter) → Same other n c) → (s : Step) → entry_step image segments l c ≡ Some s → (y : Option Entry) → s.found ≡ y → Same other (suc n) c
+      found ih s t None e = rw (table_by, t, e)
+      found ih s t (Some x) e = rw (table_by, t, e) (ap (λ (k : Counts). record { entries = suc k.entries; stop = k.stop }) (ih s.next))
 
       go : ((c : EntryIter) → Same other n c) → (x : Option Step) → entry_step image segments l c ≡ x → Same other (suc n) c
-      go ih none t = rw (table_by, t)
-      go ih (some s) t = found ih s t s.found refl
+      go ih None t = rw (table_by, t)
+      go ih (Some s) t = found ih s t s.found refl
 
 -- each entry has the words of its layout
 module _ (image segments : List ℕ) (l : Layout) where
-  entry_words : (base k : ℕ) (e : Entry) → run image segments (entry_at l base k) ≡ some e → length e.words ≡ length l.words
+  entry_words : (base k : ℕ) (e : Entry) → run image segments (entry_at l base k) ≡ Some e → length e.words ≡ length l.words
   entry_words base k e t = go (entry_place image segments (entry_size l) (entry_address l base k)) refl
     where
       go : (x : Option ℕ) → entry_place image segments (entry_size l) (entry_address l base k) ≡ x → length e.words ≡ length l.words
-      go none p =
-          let f : ◌≡◌ {A = Option Entry} none (some e) = no_place image segments l base k (sym p) ∙ t in
+      go None p =
+          let f : ◌≡◌ {A = Option Entry} None (Some e) = no_place image segments l base k (sym p) ∙ t in
           let z : ◌≡◌ {A = ℕ} 0 1 = cc in
           absurd (omega arith)
-      go (some o) p =
+      go (Some o) p =
           let h : List ℕ = take (entry_size l) (drop o image) in
-          let f : some (entry_of l (entry_address l base k) h) ≡ some e = a_place image segments l base k o (sym p) ∙ t in
+          let f : Some (entry_of l (entry_address l base k) h) ≡ Some e = a_place image segments l base k o (sym p) ∙ t in
           let q : e ≡ entry_of l (entry_address l base k) h = cc in
           ap (λ (x : Entry). length x.words) q ∙ words_long l.words (entry_address l base k) 0 h
 
@@ -714,8 +713,8 @@ module _ (image segments : List ℕ) (l : Layout) where
     where
       given : ((c : EntryIter) → Whole (listed_entries image segments l n c)) → c.next < c.count → (y : Option Entry) → run image segments (entry_at l c.base_va c.next) ≡ y
           → Whole (listed_entries image segments l (suc n) c)
-      given ih h none t = rw (listed_entries, sym (step_gives image segments l c none (sym t) h)) tt
-      given ih h (some e) t = rw (listed_entries, sym (step_gives image segments l c (some e) (sym t) h)) (entry_words c.base_va c.next e t, ih _)
+      given ih h None t = rw (listed_entries, sym (step_gives image segments l c None (sym t) h)) tt
+      given ih h (Some e) t = rw (listed_entries, sym (step_gives image segments l c (Some e) (sym t) h)) (entry_words c.base_va c.next e t, ih _)
 
       go : ((c : EntryIter) → Whole (listed_entries image segments l n c)) → Dec (c.next < c.count) → Whole (listed_entries image segments l (suc n) c)
       go ih (yes h) = given ih h (run image segments (entry_at l c.base_va c.next)) refl

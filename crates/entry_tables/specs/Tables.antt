@@ -1,6 +1,5 @@
 -- Whole tables of entries into the caller's list of numbers: docs/SPECIFICATION.md, "Whole tables".
-use Rattle.std.specs.Prelude.{◌≡◌, ℕ, zero, suc, ◌+◌, ◌-◌, ◌*◌, ◌/◌, ◌^◌, ◌<◌, ◌≤◌, Bool, true, false, cond, List, [], ◌∷◌, ◌++◌, length, take, drop, nat_le, nat_lt}
-use Rattle.std.proofs.Math.Option.{Option, some, none}
+use Rattle.std.specs.Prelude.{◌≡◌, ℕ, zero, suc, ◌+◌, ◌-◌, ◌*◌, ◌/◌, ◌^◌, ◌<◌, ◌≤◌, Bool, true, false, cond, List, [], ◌∷◌, ◌++◌, length, take, drop, nat_le, nat_lt, Option, Some, None}
 use Rattle.util.specs.Buffer.{pasted, at_start, overwritten}
 use Rattle.refusal.specs.Refusal.{Guarded, answered, refused, refusal_number, mapped, answer_of}
 use Rattle.refusal.specs.Guarded.{guarded}
@@ -41,8 +40,8 @@ unfoldable pub table_by : (Entry → List ℕ) → List ℕ → List ℕ → Lay
 table_by f image segments l zero c = empty_table (stop_at c.next c.count)
 table_by f image segments l (suc n) c =
     elim (entry_step image segments l c) [
-      | none ↦ empty_table 0
-      | some s ↦ elim s.found [ none ↦ empty_table 2 | some e ↦ entry_then f e (table_by f image segments l n s.next) ]
+      | None ↦ empty_table 0
+      | Some s ↦ elim s.found [ None ↦ empty_table 2 | Some e ↦ entry_then f e (table_by f image segments l n s.next) ]
     ]
 
 abbrev pub table_from : List ℕ → List ℕ → Layout → ℕ → EntryIter → WholeTable
@@ -107,13 +106,13 @@ words_in (suc (suc n)) w = w.first ∷ (w.second ∷ (w.third ∷ []))
 
 -- where an entry of a size lies in the image: nowhere if one of its words does not lie below 2^64
 unfoldable pub entry_place : List ℕ → List ℕ → ℕ → ℕ → Option ℕ
-entry_place image segments size a = cond (nat_le (2 ^ 64) (a + (size - 4))) none (bytes_place image segments a size)
+entry_place image segments size a = cond (nat_le (2 ^ 64) (a + (size - 4))) None (bytes_place image segments a size)
 
 -- the entry at an address lies at a place, and each that starts at most `last` bytes after that address lies as far after that place; or it
 -- lies nowhere
 abbrev pub Opens : List ℕ → List ℕ → ℕ → ℕ → Window → Type 0
-Opens image segments size a (Window.At o last) = (i : ℕ) → i ≤ last → some (o + i) ≡ entry_place image segments size (a + i)
-Opens image segments size a Window.Nothing = none ≡ entry_place image segments size a
+Opens image segments size a (Window.At o last) = (i : ℕ) → i ≤ last → Some (o + i) ≡ entry_place image segments size (a + i)
+Opens image segments size a Window.Nothing = None ≡ entry_place image segments size a
 
 -- the numbers of entries that lie one after the other from a place of the image on; the first is at an address
 abbrev pub run_numbers : List ℕ → Layout → ℕ → ℕ → ℕ → List ℕ

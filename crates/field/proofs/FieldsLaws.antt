@@ -1,12 +1,11 @@
 -- What the calls' tests say about the fields section: when a step stays (`no_header`, `overruns`) and when it moves (`passes`); and what
 -- stepping gives: the step after `k` steps gives descriptor `k` (`stepped-descriptor`), and the list of a caller who steps until there is
 -- none has those whose programs answer, in order, and no others (`descriptors-listed-all`).
-use Rattle.std.specs.Prelude.{◌≡◌, ℕ, zero, suc, ◌+◌, ◌*◌, ◌%◌, ◌^◌, ◌<◌, ◌≤◌, List, [], ◌∷◌, length, ◌≢◌}
+use Rattle.std.specs.Prelude.{◌≡◌, ℕ, zero, suc, ◌+◌, ◌*◌, ◌%◌, ◌^◌, ◌<◌, ◌≤◌, List, [], ◌∷◌, length, ◌≢◌, Option, Some, None}
 use Rattle.std.proofs.Math.Decide.{dec_lt}
 use native.Mathlib.Omega.{arith}
 use Rattle.std.proofs.Math.Path.{refl, sym}
 use Rattle.std.proofs.Common.{ap, ◌∙◌}
-use Rattle.std.proofs.Math.Option.{Option, some, none}
 use Rattle.std.proofs.Math.ListN.{get_elem?}
 use borrow.Author.Tests.{le-leb, lt-leb, lt-ltb, le-ltb}
 use Rattle.util.specs.LittleEndian.{unsigned_in, signed_in}
@@ -35,21 +34,21 @@ module _ (a : ℕ) (h : List ℕ) where
       } ≡ field_descriptor_of a h
   descriptor_of_lem name super size count kind en es ek ez ec = cc
 
-  pub not_headed : 2 ^ 64 ≤ a + 4 → none ≡ header_descriptor a h
+  pub not_headed : 2 ^ 64 ≤ a + 4 → None ≡ header_descriptor a h
   not_headed w = simp (le-leb (2 ^ 64) (a + 4) w)
 
-  pub is_headed : a + 4 < 2 ^ 64 → some (field_descriptor_of a h) ≡ header_descriptor a h
+  pub is_headed : a + 4 < 2 ^ 64 → Some (field_descriptor_of a h) ≡ header_descriptor a h
   is_headed w = simp (lt-leb (2 ^ 64) (a + 4) w)
 
 -- ---- a step
 
 module _ (fields : List ℕ) (vmaddr at : ℕ) where
-  pub no_header : length fields < at + 16 → record { found = none; next = at } ≡ field_step fields vmaddr at
+  pub no_header : length fields < at + 16 → record { found = None; next = at } ≡ field_step fields vmaddr at
   unfolding field_step
   no_header l = simp (lt-ltb (length fields) (at + 16) l)
 
   module _ (fits : at + 16 ≤ length fields) where
-    overrun : length fields < records_end fields at → record { found = none; next = at } ≡ field_step fields vmaddr at
+    overrun : length fields < records_end fields at → record { found = None; next = at } ≡ field_step fields vmaddr at
     unfolding field_step
     overrun l = simp (le-ltb (length fields) (at + 16) fits, lt-ltb (length fields) (records_end fields at) l)
 
@@ -65,7 +64,7 @@ module _ (fields : List ℕ) (vmaddr at : ℕ) where
       is_end : at + (16 + count * size) ≡ records_end fields at
       is_end = rw (ec, ez, is_header)
 
-      pub overruns : length fields < at + (16 + count * size) → record { found = none; next = at } ≡ field_step fields vmaddr at
+      pub overruns : length fields < at + (16 + count * size) → record { found = None; next = at } ≡ field_step fields vmaddr at
       overruns l = overrun (rw is_end at l)
 
       pub passes : (x : Option FieldDescriptor) (a : ℕ) → a ≡ (vmaddr + at) % 2 ^ 64 → x ≡ header_descriptor a h → at + (16 + count * size) ≤ length fields
@@ -87,12 +86,12 @@ module _ (fields : List ℕ) (vmaddr : ℕ) where
   Within at = (at + 16 ≤ next_of at) × (next_of at ≤ length fields)
 
   -- a descriptor lies in the section, and the walk moves past its header
-  moves : (at : ℕ) (d : FieldDescriptor) → found_at at ≡ some d → Within at
+  moves : (at : ℕ) (d : FieldDescriptor) → found_at at ≡ Some d → Within at
   moves at d e = go (dec_lt (length fields) (at + 16)) (dec_lt (length fields) (records_end fields at))
     where
-      stays : record { found = none; next = at } ≡ field_step fields vmaddr at → Within at
+      stays : record { found = None; next = at } ≡ field_step fields vmaddr at → Within at
       stays f =
-          let g : ◌≡◌ {A = Option FieldDescriptor} none (some d) = ap (λ (s : Step). s.found) f ∙ e in
+          let g : ◌≡◌ {A = Option FieldDescriptor} None (Some d) = ap (λ (s : Step). s.found) f ∙ e in
           let z : ◌≡◌ {A = ℕ} 0 1 = cc in
           absurd (omega arith)
 
@@ -104,40 +103,40 @@ module _ (fields : List ℕ) (vmaddr : ℕ) where
           (omega arith, omega arith)
 
   -- so a section has at most one descriptor for each 16 bytes
-  few : (k at : ℕ) → length fields < at + 16 * (k + 1) → descriptor_from fields vmaddr at k ≡ none
+  few : (k at : ℕ) → length fields < at + 16 * (k + 1) → descriptor_from fields vmaddr at k ≡ None
   unfolding descriptor_from
   few zero at l = go (found_at at) refl
     where
-      go : (x : Option FieldDescriptor) → found_at at ≡ x → x ≡ none
-      go none e = refl
-      go (some d) e = let m = moves at d e in absurd (omega arith)
+      go : (x : Option FieldDescriptor) → found_at at ≡ x → x ≡ None
+      go None e = refl
+      go (Some d) e = let m = moves at d e in absurd (omega arith)
   few (suc k) at l = go (found_at at) refl (few k (next_of at))
     where
-      go : (x : Option FieldDescriptor) → found_at at ≡ x → (length fields < next_of at + 16 * (k + 1) → descriptor_from fields vmaddr (next_of at) k ≡ none)
-          → and_then x (λ _. descriptor_from fields vmaddr (next_of at) k) ≡ none
-      go none e ih = refl
-      go (some d) e ih = let m = moves at d e in ih (omega arith)
+      go : (x : Option FieldDescriptor) → found_at at ≡ x → (length fields < next_of at + 16 * (k + 1) → descriptor_from fields vmaddr (next_of at) k ≡ None)
+          → and_then x (λ _. descriptor_from fields vmaddr (next_of at) k) ≡ None
+      go None e ih = refl
+      go (Some d) e ih = let m = moves at d e in ih (omega arith)
 
   -- the descriptors that at most `n` steps give from an offset on, up to the first step without one
   unfoldable pub listed_descriptors : ℕ → ℕ → List FieldDescriptor
   listed_descriptors zero at = []
-  listed_descriptors (suc n) at = elim (found_at at) [ none ↦ [] | some d ↦ d ∷ listed_descriptors n (next_of at) ]
+  listed_descriptors (suc n) at = elim (found_at at) [ None ↦ [] | Some d ↦ d ∷ listed_descriptors n (next_of at) ]
 
   listed_at : (n k at : ℕ) → k < n → get_elem? (listed_descriptors n at) k ≡ descriptor_from fields vmaddr at k
   unfolding listed_descriptors descriptor_from
   listed_at zero k at l = absurd (omega arith)
   listed_at (suc n) zero at l = go (found_at at)
     where
-      go : (x : Option FieldDescriptor) → get_elem? {A = FieldDescriptor} (elim x as (λ _. List FieldDescriptor) [ none ↦ [] | some d ↦ d ∷ listed_descriptors n (next_of at) ]) 0 ≡ x
-      go none = refl
-      go (some d) = refl
+      go : (x : Option FieldDescriptor) → get_elem? {A = FieldDescriptor} (elim x as (λ _. List FieldDescriptor) [ None ↦ [] | Some d ↦ d ∷ listed_descriptors n (next_of at) ]) 0 ≡ x
+      go None = refl
+      go (Some d) = refl
   listed_at (suc n) (suc k) at l = go (found_at at) (listed_at n k (next_of at) (omega arith))
     where
       go : (x : Option FieldDescriptor) → get_elem? (listed_descriptors n (next_of at)) k ≡ descriptor_from fields vmaddr (next_of at) k
-          → get_elem? {A = FieldDescriptor} (elim x as (λ _. List FieldDescriptor) [ none ↦ [] | some d ↦ d ∷ listed_descriptors n (next_of at) ]) (suc k)
+          → get_elem? {A = FieldDescriptor} (elim x as (λ _. List FieldDescriptor) [ None ↦ [] | Some d ↦ d ∷ listed_descriptors n (next_of at) ]) (suc k)
           ≡ and_then x (λ _. descriptor_from fields vmaddr (next_of at) k)
-      go none ih = refl
-      go (some d) ih = ih
+      go None ih = refl
+      go (Some d) ih = ih
 
   length_listed : (n at : ℕ) → length (listed_descriptors n at) ≤ n
   unfolding listed_descriptors
@@ -145,11 +144,11 @@ module _ (fields : List ℕ) (vmaddr : ℕ) where
   length_listed (suc n) at = go (found_at at) (length_listed n (next_of at))
     where
       go : (x : Option FieldDescriptor) → length (listed_descriptors n (next_of at)) ≤ n
-          → length {A = FieldDescriptor} (elim x as (λ _. List FieldDescriptor) [ none ↦ [] | some d ↦ d ∷ listed_descriptors n (next_of at) ]) ≤ suc n
-      go none ih = omega arith
-      go (some d) ih = omega arith
+          → length {A = FieldDescriptor} (elim x as (λ _. List FieldDescriptor) [ None ↦ [] | Some d ↦ d ∷ listed_descriptors n (next_of at) ]) ≤ suc n
+      go None ih = omega arith
+      go (Some d) ih = omega arith
 
-  past_end : (l : List FieldDescriptor) (k : ℕ) → length l ≤ k → get_elem? l k ≡ none
+  past_end : (l : List FieldDescriptor) (k : ℕ) → length l ≤ k → get_elem? l k ≡ None
   past_end [] k h = refl
   past_end (d ∷ l) zero h = absurd (omega arith)
   past_end (d ∷ l) (suc k) h = past_end l k (omega arith)
@@ -159,20 +158,20 @@ module _ (fields : List ℕ) (vmaddr : ℕ) where
   offset_after zero at = at
   offset_after (suc k) at = offset_after k (next_of at)
 
-  after_from : (k at : ℕ) → ((j : ℕ) → j < k → found_at (offset_after j at) ≢ none) → found_at (offset_after k at) ≡ descriptor_from fields vmaddr at k
+  after_from : (k at : ℕ) → ((j : ℕ) → j < k → found_at (offset_after j at) ≢ None) → found_at (offset_after k at) ≡ descriptor_from fields vmaddr at k
   unfolding offset_after descriptor_from
   after_from zero at r = refl
   after_from (suc k) at r = after_from k (next_of at) (λ j l. r (suc j) (omega arith)) ∙ go (found_at at) refl
     where
       go : (x : Option FieldDescriptor) → found_at at ≡ x → descriptor_from fields vmaddr (next_of at) k ≡ and_then x (λ _. descriptor_from fields vmaddr (next_of at) k)
-      go none e = absurd (r 0 (omega arith) e)
-      go (some d) e = refl
+      go None e = absurd (r 0 (omega arith) e)
+      go (Some d) e = refl
 
   module _ (image segments : List ℕ) where
     run_given : (x : Option FieldDescriptor) → x ≡ run image segments (given x)
     unfolding run
-    run_given none = refl
-    run_given (some d) = refl
+    run_given None = refl
+    run_given (Some d) = refl
 
     -- the list of a caller who steps until there is no descriptor: its descriptor `k` is what the program of descriptor `k` gives, for every `k`;
     -- as many steps as the section has room for headers are enough
@@ -185,7 +184,7 @@ module _ (fields : List ℕ) (vmaddr : ℕ) where
         go (no l) = past_end (listed_descriptors n 0) k (omega (arith, length_listed n 0)) ∙ sym (few k 0 (omega arith))
 
     -- the step after `k` steps gives what the program of descriptor `k` gives, as long as each earlier step gave one
-    pub stepped_descriptor : (k : ℕ) → ((j : ℕ) → j < k → found_at (offset_after j 0) ≢ none)
+    pub stepped_descriptor : (k : ℕ) → ((j : ℕ) → j < k → found_at (offset_after j 0) ≢ None)
         → found_at (offset_after k 0) ≡ run image segments (descriptor_at fields vmaddr k)
     unfolding descriptor_at
     stepped_descriptor k r = after_from k 0 r ∙ run_given (descriptor_from fields vmaddr 0 k)

@@ -1,10 +1,9 @@
 -- Records are entries, and the laws of their steps are those of entries (crate `vtable`): the step after `k` steps gives what the program
 -- of record `k` gives, as long as no earlier record is unreadable (`stepped-record`); and the list of a caller who steps up to an
 -- unreadable record or the end has the records whose programs answer, in order, and no others (`records-listed-all`).
-use Rattle.std.specs.Prelude.{◌≡◌, ℕ, zero, suc, ◌+◌, ◌^◌, ◌<◌, ◌≤◌, List, [], ◌∷◌}
+use Rattle.std.specs.Prelude.{◌≡◌, ℕ, zero, suc, ◌+◌, ◌^◌, ◌<◌, ◌≤◌, List, [], ◌∷◌, Option, Some, None, option_map}
 use Rattle.std.proofs.Math.Path.{refl, ap}
 use Rattle.std.proofs.Common.{sym, ◌∙◌, le-leb}
-use Rattle.std.proofs.Math.Option.{Option, some, none, map}
 use Rattle.std.proofs.Math.ListN.{get_elem?}
 use Rattle.std.proofs.lemmas.Bool.{lt-leb}
 use Rattle.segment.specs.Mapping.{with_mapping, TrueMapping}
@@ -34,17 +33,17 @@ records_of_lem d b e = rw e
 -- ---- a step
 
 module _ (image segments : List ℕ) (c : FieldRecordIter) where
-  pub record_end : c.count ≤ c.cursor → none ≡ record_step image segments c
-  record_end l = ap (map (sized c.entry_size)) (step_end image segments (record_layout c.entry_size) (entries_of c) l)
+  pub record_end : c.count ≤ c.cursor → None ≡ record_step image segments c
+  record_end l = ap (option_map (sized c.entry_size)) (step_end image segments (record_layout c.entry_size) (entries_of c) l)
 
   pub record_gives : (x : Option Entry) → x ≡ run image segments (entry_at (record_layout c.entry_size) c.base_va c.cursor)
       → c.cursor < c.count
-      → some (record { found = x; next = records_from c.entry_size (moved (entries_of c)) }) ≡ record_step image segments c
-  record_gives x e l = ap (map (sized c.entry_size)) (step_gives image segments (record_layout c.entry_size) (entries_of c) x e l)
+      → Some (record { found = x; next = records_from c.entry_size (moved (entries_of c)) }) ≡ record_step image segments c
+  record_gives x e l = ap (option_map (sized c.entry_size)) (step_gives image segments (record_layout c.entry_size) (entries_of c) x e l)
 
   -- a true mapping changes no step
   pub record_mapped : (m : Mapping) → TrueMapping segments m → record_step image (with_mapping m segments) c ≡ record_step image segments c
-  record_mapped m w = ap (map (sized c.entry_size)) (step_mapped image segments (record_layout c.entry_size) (entries_of c) m w)
+  record_mapped m w = ap (option_map (sized c.entry_size)) (step_mapped image segments (record_layout c.entry_size) (entries_of c) m w)
 
 -- ---- stepping
 
@@ -52,15 +51,15 @@ module _ (image segments : List ℕ) where
   -- what the step after `n` steps gives; a step moves on past an unreadable record
   unfoldable pub record_step_after : ℕ → FieldRecordIter → Option RecordStep
   record_step_after zero c = record_step image segments c
-  record_step_after (suc n) c = elim (record_step image segments c) [ none ↦ none | some s ↦ record_step_after n s.next ]
+  record_step_after (suc n) c = elim (record_step image segments c) [ None ↦ None | Some s ↦ record_step_after n s.next ]
 
   -- the records that at most `n` steps give, up to the first unreadable one
   unfoldable pub listed_records : ℕ → FieldRecordIter → List Entry
   listed_records zero c = []
   listed_records (suc n) c =
       elim (record_step image segments c) [
-        | none ↦ []
-        | some s ↦ elim s.found [ none ↦ [] | some e ↦ e ∷ listed_records n s.next ]
+        | None ↦ []
+        | Some s ↦ elim s.found [ None ↦ [] | Some e ↦ e ∷ listed_records n s.next ]
       ]
 
   -- both are those of the entries
@@ -71,16 +70,16 @@ module _ (image segments : List ℕ) where
     abbrev entries : ℕ → EntryIter → List Entry
     entries = entriesListed image segments (record_layout size)
 
-    after_entries : (n : ℕ) (c : EntryIter) → record_step_after n (records_from size c) ≡ map (sized size) (after n c)
+    after_entries : (n : ℕ) (c : EntryIter) → record_step_after n (records_from size c) ≡ option_map (sized size) (after n c)
     unfolding record_step_after entriesAfter
     after_entries zero c = refl
     after_entries (suc n) c = go (entry_step image segments (record_layout size) c) (after_entries n)
       where
-        go : (x : Option Step) → ((e : EntryIter) → record_step_after n (records_from size e) ≡ map (sized size) (after n e))
-            → (elim (map (sized size) x) as (λ _. Option RecordStep) [ none ↦ none | some s ↦ record_step_after n s.next ])
-            ≡ map (sized size) (elim x as (λ _. Option Step) [ none ↦ none | some s ↦ after n s.next ])
-        go none ih = refl
-        go (some s) ih = ih s.next
+        go : (x : Option Step) → ((e : EntryIter) → record_step_after n (records_from size e) ≡ option_map (sized size) (after n e))
+            → (elim (option_map (sized size) x) as (λ _. Option RecordStep) [ None ↦ None | Some s ↦ record_step_after n s.next ])
+            ≡ option_map (sized size) (elim x as (λ _. Option Step) [ None ↦ None | Some s ↦ after n s.next ])
+        go None ih = refl
+        go (Some s) ih = ih s.next
 
     listed_entries_lem : (n : ℕ) (c : EntryIter) → listed_records n (records_from size c) ≡ entries n c
     unfolding listed_records entriesListed
@@ -89,10 +88,10 @@ module _ (image segments : List ℕ) where
       where
         go : (x : Option Step) → ((e : EntryIter) → listed_records n (records_from size e) ≡ entries n e)
             → ◌≡◌ {A = List Entry}
-            (elim (map (sized size) x) [ none ↦ [] | some s ↦ elim s.found [ none ↦ [] | some e ↦ e ∷ listed_records n s.next ] ])
-            (elim x [ none ↦ [] | some s ↦ elim s.found [ none ↦ [] | some e ↦ e ∷ entries n s.next ] ])
-        go none ih = refl
-        go (some s) ih = ap (λ (l : List Entry). elim s.found as (λ _. List Entry) [ none ↦ [] | some e ↦ e ∷ l ]) (ih s.next)
+            (elim (option_map (sized size) x) [ None ↦ [] | Some s ↦ elim s.found [ None ↦ [] | Some e ↦ e ∷ listed_records n s.next ] ])
+            (elim x [ None ↦ [] | Some s ↦ elim s.found [ None ↦ [] | Some e ↦ e ∷ entries n s.next ] ])
+        go None ih = refl
+        go (Some s) ih = ap (λ (l : List Entry). elim s.found as (λ _. List Entry) [ None ↦ [] | Some e ↦ e ∷ l ]) (ih s.next)
 
   -- the records of a descriptor
   module _ (d : FieldDescriptor) where
@@ -108,15 +107,15 @@ module _ (image segments : List ℕ) where
     -- stepping k + 1 times gives what the program of record k gives
     pub stepped_record : (k : ℕ) → k < count → Readable image segments (record_layout size) base count k
         → record_step_after k (records_of d)
-        ≡ some (record { found = run image segments (field_record base size count k); next = records_from size (iter_at base count (k + 1)) })
+        ≡ Some (record { found = run image segments (field_record base size count k); next = records_from size (iter_at base count (k + 1)) })
     stepped_record k l r =
-        after_entries size k (start base count) ∙ ap (map (sized size)) (stepped_entry image segments (record_layout size) base count k l r)
+        after_entries size k (start base count) ∙ ap (option_map (sized size)) (stepped_entry image segments (record_layout size) base count k l r)
 
     -- the list of a caller who steps to the end: its record `k` is what the program of record `k` reads, for every `k`
     pub records_listed_all : (n k : ℕ) → count ≤ n → get_elem? (listed_records n (records_of d)) k ≡ run image segments (field_record base size count k)
     records_listed_all n k c = ap (λ (l : List Entry). get_elem? l k) (listed_entries_lem size n (start base count)) ∙ entries-all image segments (record_layout size) base count n k c
 
-    module _ (fields : List ℕ) (vmaddr j : ℕ) (there : run image segments (descriptor_at fields vmaddr j) ≡ some d) where
+    module _ (fields : List ℕ) (vmaddr j : ℕ) (there : run image segments (descriptor_at fields vmaddr j) ≡ Some d) where
       -- as an item: record `k` of descriptor `j`
       pub record_of : (k : ℕ) → run image segments (descriptor_record fields vmaddr j k) ≡ run image segments (field_record base size count k)
       unfolding descriptor_record

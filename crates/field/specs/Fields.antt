@@ -1,7 +1,6 @@
 -- The fields section: docs/SPECIFICATION.md, "Fields"; RemoteInspection/Records.h, `FieldDescriptor`. One descriptor after the other, each a
 -- header of 16 bytes and its records.
-use Rattle.std.specs.Prelude.{ℕ, zero, suc, ◌+◌, ◌*◌, ◌%◌, ◌^◌, cond, List, length, take, drop, nat_le, nat_lt}
-use Rattle.std.proofs.Math.Option.{Option, some, none}
+use Rattle.std.specs.Prelude.{ℕ, zero, suc, ◌+◌, ◌*◌, ◌%◌, ◌^◌, cond, List, length, take, drop, nat_le, nat_lt, Option, Some, None}
 use Rattle.util.specs.LittleEndian.{unsigned_in, signed_in}
 use Rattle.util.specs.Pointer.{relative_address}
 use Rattle.context.specs.Field.{field_kind}
@@ -31,7 +30,7 @@ records_end fields at = at + (16 + unsigned_in 4 (header_bytes fields at) 12 * u
 
 -- there is no descriptor if the address of the superclass's offset, at 4, reaches 2^64
 abbrev pub header_descriptor : ℕ → List ℕ → Option FieldDescriptor
-header_descriptor a h = cond (nat_le (2 ^ 64) (a + 4)) none (some (field_descriptor_of a h))
+header_descriptor a h = cond (nat_le (2 ^ 64) (a + 4)) None (Some (field_descriptor_of a h))
 
 -- a step from an offset on: a descriptor or none, and where the walk then stands
 pub record Step : Type 0 where
@@ -42,8 +41,8 @@ pub record Step : Type 0 where
 -- header is a descriptor or not. The header's address is modulo 2^64
 unfoldable pub field_step : List ℕ → ℕ → ℕ → Step
 field_step fields vmaddr at =
-    cond (nat_lt (length fields) (at + 16)) (record { found = none; next = at })
-    (cond (nat_lt (length fields) (records_end fields at)) (record { found = none; next = at })
+    cond (nat_lt (length fields) (at + 16)) (record { found = None; next = at })
+    (cond (nat_lt (length fields) (records_end fields at)) (record { found = None; next = at })
     (record { found = header_descriptor ((vmaddr + at) % 2 ^ 64) (header_bytes fields at); next = records_end fields at }))
 
 -- descriptor `k` from an offset on: a list ends at the first step without a descriptor
@@ -53,8 +52,8 @@ descriptor_from fields vmaddr at (suc k) =
     and_then (field_step fields vmaddr at).found (λ _. descriptor_from fields vmaddr (field_step fields vmaddr at).next k)
 
 abbrev pub given : {A : Type 0} → Option A → Reads A
-given none = nothing
-given (some a) = done a
+given None = nothing
+given (Some a) = done a
 
 -- descriptor `k` of the section: it reads no byte of the image
 unfoldable pub descriptor_at : List ℕ → ℕ → ℕ → Reads FieldDescriptor
@@ -62,5 +61,5 @@ descriptor_at fields vmaddr k = given (descriptor_from fields vmaddr 0 k)
 
 -- a step's answer
 abbrev pub field_step_of : FieldStep → Step
-field_step_of (FieldStep.Descriptor d c) = record { found = some d; next = c.at }
-field_step_of (FieldStep.End c) = record { found = none; next = c.at }
+field_step_of (FieldStep.Descriptor d c) = record { found = Some d; next = c.at }
+field_step_of (FieldStep.End c) = record { found = None; next = c.at }

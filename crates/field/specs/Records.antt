@@ -1,7 +1,6 @@
 -- Field records: docs/SPECIFICATION.md, "Fields"; RemoteInspection/Records.h, `FieldRecord`. They are entries of three words (crate
 -- `vtable`, `Entries`) that lie a descriptor's record size apart: an entry of 12 bytes, whatever the record size.
-use Rattle.std.specs.Prelude.{ℕ, ◌+◌, ◌^◌, cond, List, [], ◌∷◌, nat_le}
-use Rattle.std.proofs.Math.Option.{Option, some, none, map}
+use Rattle.std.specs.Prelude.{ℕ, ◌+◌, ◌^◌, cond, List, [], ◌∷◌, nat_le, Option, Some, None, option_map}
 use Rattle.runtime.specs.Reads.{Reads, bind}
 use Rattle.vtable.specs.declared.iter.EntryIter.{EntryIter}
 use Rattle.vtable.specs.Entries.{Word, number, pointer, Layout, Entry, entry, Step, entry_step}
@@ -52,13 +51,13 @@ sized size s = record { found = s.found; next = records_from size s.next }
 -- a single step
 abbrev pub record_step : List ℕ → List ℕ → FieldRecordIter → Option RecordStep
 record_step image segments c =
-    map (sized c.entry_size) (entry_step image segments (record_layout c.entry_size) (entries_of c))
+    option_map (sized c.entry_size) (entry_step image segments (record_layout c.entry_size) (entries_of c))
 
 -- the answers
 abbrev pub of_record : FieldRecord → Entry
 of_record r = record { address = r.address; words = r.flags ∷ (r.mangled_type_name_va ∷ (r.field_name_va ∷ [])) }
 
 abbrev pub record_step_of : FieldRecordStep → Option RecordStep
-record_step_of (FieldRecordStep.Record r c) = some (record { found = some (of_record r); next = c })
-record_step_of (FieldRecordStep.Unreadable c) = some (record { found = none; next = c })
-record_step_of FieldRecordStep.End = none
+record_step_of (FieldRecordStep.Record r c) = Some (record { found = Some (of_record r); next = c })
+record_step_of (FieldRecordStep.Unreadable c) = Some (record { found = None; next = c })
+record_step_of FieldRecordStep.End = None

@@ -7,9 +7,8 @@ use native.Mathlib.Omega.{arith}
 use Rattle.std.proofs.Math.Path.{◌≡◌, refl, sym}
 use Rattle.std.proofs.Common.{◌∙◌, ap, take-take, drop-drop}
 use mathlib.Core.List.{List, [], ◌∷◌, ◌++◌}
-use Rattle.std.specs.Prelude.{Bool, ◌&&◌, take, drop, ltb}
+use Rattle.std.specs.Prelude.{Bool, ◌&&◌, take, drop, ltb, Option, Some, None, option_map}
 use Rattle.std.proofs.Math.Bool.{true, false, cond}
-use Rattle.std.proofs.Math.Option.{Option, some, none, map}
 use Rattle.std.proofs.Math.ListN.{length, get_elem?}
 use borrow.Author.Tests.{ltb-true, lt-ltb, le-ltb, le-leb, lt-leb}
 use Rattle.segment.specs.Segments.{segments_of, file_offset}
@@ -41,17 +40,17 @@ module _ (image segments : List ℕ) where
     pub offsets_of_lem : (x : Option Offsets) → x ≡ offsets_place image segments (body_of k) m → x ≡ offsets_place image segments (body_of b) m
     offsets_of_lem x e = of_case (λ (c : TypeBody). offsets_place image segments (body_of c) m) t e
 
-    pub no_offsets_of : and_then (body_of k) (λ b. vector b m) ≡ none → none ≡ offsets_place image segments (body_of b) m
+    pub no_offsets_of : and_then (body_of k) (λ b. vector b m) ≡ None → None ≡ offsets_place image segments (body_of b) m
     unfolding offsets_place
-    no_offsets_of e = offsets_of_lem none (rw e)
+    no_offsets_of e = offsets_of_lem None (rw e)
 
   module _ (b k : BlockBody) (t : b ≡ k) where
     pub pointer_of_lem : (x : Option ℕ) → x ≡ run image segments (needing (place_of k) singleton_pointer) → x ≡ run image segments (needing (place_of b) singleton_pointer)
     pointer_of_lem x e = of_case (λ (c : BlockBody). run image segments (needing (place_of c) singleton_pointer)) t e
 
-    pub no_pointer_of : place_of k ≡ none → none ≡ run image segments (needing (place_of b) singleton_pointer)
+    pub no_pointer_of : place_of k ≡ None → None ≡ run image segments (needing (place_of b) singleton_pointer)
     unfolding run
-    no_pointer_of e = pointer_of_lem none (rw e)
+    no_pointer_of e = pointer_of_lem None (rw e)
 
 pub offset_of_lem : (image : List ℕ) (n : ℕ) (o k : FieldOffsets) (x : Option ℕ) → o ≡ k → x ≡ and_then (offsets_of k) (λ v. offset_in image v n)
     → x ≡ and_then (offsets_of o) (λ v. offset_in image v n)
@@ -67,16 +66,16 @@ module _ (f v m : ℕ) where
     pub metadata : 0 < m
     pub below : m + 8 * v < 2 ^ 64
 
-  pub vector_at : Wants → vector (of_struct f v) m ≡ some (record { address = m + 8 * v; count = f })
+  pub vector_at : Wants → vector (of_struct f v) m ≡ Some (record { address = m + 8 * v; count = f })
   unfolding vector
   vector_at w = simp (lt-ltb 0 f w.count, lt-ltb 0 v w.word, lt-ltb 0 m w.metadata, lt-ltb (m + 8 * v) (2 ^ 64) w.below)
 
-  pub vector_none : (Wants → ⊥) → vector (of_struct f v) m ≡ none
+  pub vector_none : (Wants → ⊥) → vector (of_struct f v) m ≡ None
   unfolding vector
   vector_none n = go _ (ltb 0 f) (ltb 0 v) (ltb 0 m) (ltb (m + 8 * v) (2 ^ 64)) (ltb-true 0 f) (ltb-true 0 v) (ltb-true 0 m) (ltb-true (m + 8 * v) (2 ^ 64))
     where
       go : (x : Vector) (a b c d : Bool) → (a ≡ true → 0 < f) → (b ≡ true → 0 < v) → (c ≡ true → 0 < m) → (d ≡ true → m + 8 * v < 2 ^ 64)
-          → cond (a && b && c && d) (some x) none ≡ none
+          → cond (a && b && c && d) (Some x) None ≡ None
       go x true true true true p q r s = absurd (n (record { count = p refl; word = q refl; metadata = r refl; below = s refl }))
       go x true true true false p q r s = refl
       go x true true false d p q r s = refl
@@ -84,23 +83,23 @@ module _ (f v m : ℕ) where
       go x false b c d p q r s = refl
 
   module _ (image segments : List ℕ) where
-    pub no_offsets : (Wants → ⊥) → none ≡ offsets_place image segments (some (of_struct f v)) m
+    pub no_offsets : (Wants → ⊥) → None ≡ offsets_place image segments (Some (of_struct f v)) m
     unfolding offsets_place
     no_offsets n = rw (vector_none n)
 
     pub offsets_at : Wants → (x : Option ℕ) → x ≡ bytes_place image segments (m + 8 * v) (4 * f)
-        → map (λ p. offsets p f) x ≡ offsets_place image segments (some (of_struct f v)) m
+        → option_map (λ p. offsets p f) x ≡ offsets_place image segments (Some (of_struct f v)) m
     unfolding offsets_place
     offsets_at w x e = rw (vector_at w, e)
 
 -- ---- one offset
 
 module _ (image : List ℕ) (p n k : ℕ) where
-  pub no_number : n ≤ k → none ≡ offset_in image (offsets p n) k
+  pub no_number : n ≤ k → None ≡ offset_in image (offsets p n) k
   unfolding offset_in
   no_number h = simp (le-ltb k n h)
 
-  pub not_whole : k < n → length image < p + 4 * n → none ≡ offset_in image (offsets p n) k
+  pub not_whole : k < n → length image < p + 4 * n → None ≡ offset_in image (offsets p n) k
   unfolding offset_in
   not_whole h l = simp (lt-ltb k n h, lt-leb (p + 4 * n) (length image) l)
 
@@ -116,19 +115,19 @@ module _ (image segments : List ℕ) (s : Start) where
   unfolding metadata_at
   its_metadata = run_bind image segments pointer_of_block (block s.trailing s.start BlockKind.SingletonMetadataPointer)
 
-  module _ (t : Option Start) (es : some s ≡ t) where
-    pub no_block : none ≡ run image segments (block s.trailing s.start BlockKind.SingletonMetadataPointer) → none ≡ metadata_after image segments t
+  module _ (t : Option Start) (es : Some s ≡ t) where
+    pub no_block : None ≡ run image segments (block s.trailing s.start BlockKind.SingletonMetadataPointer) → None ≡ metadata_after image segments t
     no_block e = rw (← es, its_metadata, ← e)
 
-    pub by_block : (b : Block) (x : Option ℕ) → some b ≡ run image segments (block s.trailing s.start BlockKind.SingletonMetadataPointer)
+    pub by_block : (b : Block) (x : Option ℕ) → Some b ≡ run image segments (block s.trailing s.start BlockKind.SingletonMetadataPointer)
         → x ≡ run image segments (pointer_of_block b) → x ≡ metadata_after image segments t
     by_block b x e ex = ex ∙ rw (← es, its_metadata, ← e)
 
 pub static_at : (image segments : List ℕ) (a flags : ℕ) (o : Option Body) (p : Option ℕ) (x : Option Offsets) → o ≡ run image segments (body a flags)
     → p ≡ metadata_after image segments (trailers a flags o) → x ≡ and_then p (offsets_place image segments o) → x ≡ static_place image segments a flags
 unfolding static_place
-static_at image segments a flags none p x eo ep ex = ex ∙ rw (← eo, ep)
-static_at image segments a flags (some b) p x eo ep ex =
+static_at image segments a flags None p x eo ep ex = ex ∙ rw (← eo, ep)
+static_at image segments a flags (Some b) p x eo ep ex =
     let q : p ≡ run image segments (metadata_at (blocks_start a flags b)) = ep ∙ rw (blocks_start_lem image segments a b flags (sym eo)) in
     ex ∙ rw (← eo, ← q)
 
@@ -142,7 +141,7 @@ static_offsets a flags = bind (body a flags) (λ b. bind (metadata_at (blocks_st
 abbrev pub offset_list : List ℕ → Offsets → List ℕ
 offset_list image v = u32s v.count (take (4 * v.count) (drop v.place image))
 
-u32s_nth : (n k : ℕ) (h : List ℕ) → k < n → get_elem? (u32s n h) k ≡ some (little_endian (take 4 (drop (4 * k) h)))
+u32s_nth : (n k : ℕ) (h : List ℕ) → k < n → get_elem? (u32s n h) k ≡ Some (little_endian (take 4 (drop (4 * k) h)))
 unfolding u32s
 u32s_nth zero k h l = absurd (omega arith)
 u32s_nth (suc n) zero h l = refl
@@ -150,7 +149,7 @@ u32s_nth (suc n) (suc k) h l =
     let e : 4 * suc k ≡ 4 + 4 * k = omega arith in
     u32s_nth n k (drop 4 h) (omega arith) ∙ rw (e, drop-drop)
 
-u32s_past : (n k : ℕ) (h : List ℕ) → n ≤ k → get_elem? (u32s n h) k ≡ none
+u32s_past : (n k : ℕ) (h : List ℕ) → n ≤ k → get_elem? (u32s n h) k ≡ None
 unfolding u32s
 u32s_past zero k h l = refl
 u32s_past (suc n) zero h l = absurd (omega arith)
@@ -165,7 +164,7 @@ part_bytes m (suc f) (suc c) (x ∷ s) h = part_bytes m f c s (omega arith)
 
 module _ (image : List ℕ) (v : Offsets) (whole : v.place + 4 * v.count ≤ length image) (k : ℕ) where
   -- there is an offset for every field
-  pub offset_there : k < v.count → offset_in image v k ≡ some (little_endian (take 4 (drop (v.place + 4 * k) image)))
+  pub offset_there : k < v.count → offset_in image v k ≡ Some (little_endian (take 4 (drop (v.place + 4 * k) image)))
   unfolding little_at bytes_at
   offset_there h =
       sym (number_at image v.place v.count k h whole _ refl)
@@ -184,73 +183,73 @@ module _ (image : List ℕ) (v : Offsets) (whole : v.place + 4 * v.count ≤ len
 
 module _ (image segments : List ℕ) where
   -- a vector that was found lies in the image
-  pub offsets_within : (o : Option Body) (m : ℕ) (v : Offsets) → offsets_place image segments o m ≡ some v → v.place + 4 * v.count ≤ length image
+  pub offsets_within : (o : Option Body) (m : ℕ) (v : Offsets) → offsets_place image segments o m ≡ Some v → v.place + 4 * v.count ≤ length image
   unfolding offsets_place
   offsets_within o m v e = go (and_then o (λ b. vector b m)) e
     where
       at : (w : Vector) (x : Option ℕ) → bytes_place image segments w.address (4 * w.count) ≡ x
-          → map (λ p. offsets p w.count) x ≡ some v → v.place + 4 * v.count ≤ length image
-      at w none t f = let z : ◌≡◌ {A = ℕ} 0 1 = cc in absurd (omega arith)
-      at w (some p) t f =
+          → option_map (λ p. offsets p w.count) x ≡ Some v → v.place + 4 * v.count ≤ length image
+      at w None t f = let z : ◌≡◌ {A = ℕ} 0 1 = cc in absurd (omega arith)
+      at w (Some p) t f =
           let q : v ≡ offsets p w.count = cc in
           rw q (bytes_within image segments w.address (4 * w.count) p (sym t))
 
-      go : (x : Option Vector) → and_then x (λ w. map (λ p. offsets p w.count) (bytes_place image segments w.address (4 * w.count))) ≡ some v
+      go : (x : Option Vector) → and_then x (λ w. option_map (λ p. offsets p w.count) (bytes_place image segments w.address (4 * w.count))) ≡ Some v
           → v.place + 4 * v.count ≤ length image
-      go none f = let z : ◌≡◌ {A = ℕ} 0 1 = cc in absurd (omega arith)
-      go (some w) f = at w (bytes_place image segments w.address (4 * w.count)) refl f
+      go None f = let z : ◌≡◌ {A = ℕ} 0 1 = cc in absurd (omega arith)
+      go (Some w) f = at w (bytes_place image segments w.address (4 * w.count)) refl f
 
   -- the program's list is that of the place
-  pub offsets_run : (b : Body) (m : ℕ) → run image segments (field_offsets b m) ≡ map (offset_list image) (offsets_place image segments (some b) m)
+  pub offsets_run : (b : Body) (m : ℕ) → run image segments (field_offsets b m) ≡ option_map (offset_list image) (offsets_place image segments (Some b) m)
   unfolding field_offsets offsets_place run
   offsets_run b m = go (vector b m)
     where
-      at : (w : Vector) (x : Option ℕ) → and_then x (λ o. some (u32s w.count (take (4 * w.count) (drop o image))))
-          ≡ map (offset_list image) (map (λ p. offsets p w.count) x)
-      at w none = refl
-      at w (some p) = refl
+      at : (w : Vector) (x : Option ℕ) → and_then x (λ o. Some (u32s w.count (take (4 * w.count) (drop o image))))
+          ≡ option_map (offset_list image) (option_map (λ p. offsets p w.count) x)
+      at w None = refl
+      at w (Some p) = refl
 
       go : (x : Option Vector) → run image segments (needing x (λ v. bytes v.address (4 * v.count) (λ h. done (u32s v.count h))))
-          ≡ map (offset_list image) (and_then x (λ w. map (λ p. offsets p w.count) (bytes_place image segments w.address (4 * w.count))))
-      go none = refl
-      go (some w) = at w (bytes_place image segments w.address (4 * w.count))
+          ≡ option_map (offset_list image) (and_then x (λ w. option_map (λ p. offsets p w.count) (bytes_place image segments w.address (4 * w.count))))
+      go None = refl
+      go (Some w) = at w (bytes_place image segments w.address (4 * w.count))
 
-  pub static_run : (a flags : ℕ) → run image segments (static_offsets a flags) ≡ map (offset_list image) (static_place image segments a flags)
+  pub static_run : (a flags : ℕ) → run image segments (static_offsets a flags) ≡ option_map (offset_list image) (static_place image segments a flags)
   unfolding static_offsets static_place
   static_run a flags = run_bind image segments _ (body a flags) ∙ go (run image segments (body a flags))
     where
-      at : (b : Body) (x : Option ℕ) → and_then x (λ m. run image segments (field_offsets b m)) ≡ map (offset_list image) (and_then x (offsets_place image segments (some b)))
-      at b none = refl
-      at b (some m) = offsets_run b m
+      at : (b : Body) (x : Option ℕ) → and_then x (λ m. run image segments (field_offsets b m)) ≡ option_map (offset_list image) (and_then x (offsets_place image segments (Some b)))
+      at b None = refl
+      at b (Some m) = offsets_run b m
 
       go : (x : Option Body) → and_then x (λ b. run image segments (bind (metadata_at (blocks_start a flags b)) (field_offsets b)))
-          ≡ map (offset_list image) (and_then x (λ b. and_then (run image segments (metadata_at (blocks_start a flags b))) (offsets_place image segments (some b))))
-      go none = refl
-      go (some b) = run_bind image segments (field_offsets b) (metadata_at (blocks_start a flags b)) ∙ at b (run image segments (metadata_at (blocks_start a flags b)))
+          ≡ option_map (offset_list image) (and_then x (λ b. and_then (run image segments (metadata_at (blocks_start a flags b))) (offsets_place image segments (Some b))))
+      go None = refl
+      go (Some b) = run_bind image segments (field_offsets b) (metadata_at (blocks_start a flags b)) ∙ at b (run image segments (metadata_at (blocks_start a flags b)))
 
   -- what `static_field_offsets` finds lies in the image too
-  pub static_within : (a flags : ℕ) (v : Offsets) → static_place image segments a flags ≡ some v → v.place + 4 * v.count ≤ length image
+  pub static_within : (a flags : ℕ) (v : Offsets) → static_place image segments a flags ≡ Some v → v.place + 4 * v.count ≤ length image
   unfolding static_place
   static_within a flags v e = go (run image segments (body a flags)) e
     where
-      at : (b : Body) (x : Option ℕ) → and_then x (offsets_place image segments (some b)) ≡ some v → v.place + 4 * v.count ≤ length image
-      at b none f = let z : ◌≡◌ {A = ℕ} 0 1 = cc in absurd (omega arith)
-      at b (some m) f = offsets_within (some b) m v f
+      at : (b : Body) (x : Option ℕ) → and_then x (offsets_place image segments (Some b)) ≡ Some v → v.place + 4 * v.count ≤ length image
+      at b None f = let z : ◌≡◌ {A = ℕ} 0 1 = cc in absurd (omega arith)
+      at b (Some m) f = offsets_within (Some b) m v f
 
-      go : (x : Option Body) → and_then x (λ b. and_then (run image segments (metadata_at (blocks_start a flags b))) (offsets_place image segments (some b))) ≡ some v
+      go : (x : Option Body) → and_then x (λ b. and_then (run image segments (metadata_at (blocks_start a flags b))) (offsets_place image segments (Some b))) ≡ Some v
           → v.place + 4 * v.count ≤ length image
-      go none f = let z : ◌≡◌ {A = ℕ} 0 1 = cc in absurd (omega arith)
-      go (some b) f = at b (run image segments (metadata_at (blocks_start a flags b))) f
+      go None f = let z : ◌≡◌ {A = ℕ} 0 1 = cc in absurd (omega arith)
+      go (Some b) f = at b (run image segments (metadata_at (blocks_start a flags b))) f
 
   -- what `field_offset` answers for what was found is the number in the program's list
-  listed : (k : ℕ) (x : Option (List ℕ)) (y : Option Offsets) → x ≡ map (offset_list image) y
-      → ((v : Offsets) → y ≡ some v → v.place + 4 * v.count ≤ length image) → and_then x (λ l. get_elem? l k) ≡ and_then y (λ v. offset_in image v k)
-  listed k x none e w = rw e
-  listed k x (some v) e w = rw e (offset_nth image v (w v refl) k)
+  listed : (k : ℕ) (x : Option (List ℕ)) (y : Option Offsets) → x ≡ option_map (offset_list image) y
+      → ((v : Offsets) → y ≡ Some v → v.place + 4 * v.count ≤ length image) → and_then x (λ l. get_elem? l k) ≡ and_then y (λ v. offset_in image v k)
+  listed k x None e w = rw e
+  listed k x (Some v) e w = rw e (offset_nth image v (w v refl) k)
 
   pub offset_listed : (b : Body) (m k : ℕ)
-      → and_then (run image segments (field_offsets b m)) (λ l. get_elem? l k) ≡ and_then (offsets_place image segments (some b) m) (λ v. offset_in image v k)
-  offset_listed b m k = listed k _ _ (offsets_run b m) (offsets_within (some b) m)
+      → and_then (run image segments (field_offsets b m)) (λ l. get_elem? l k) ≡ and_then (offsets_place image segments (Some b) m) (λ v. offset_in image v k)
+  offset_listed b m k = listed k _ _ (offsets_run b m) (offsets_within (Some b) m)
 
   pub static_listed : (a flags k : ℕ)
       → and_then (run image segments (static_offsets a flags)) (λ l. get_elem? l k) ≡ and_then (static_place image segments a flags) (λ v. offset_in image v k)
@@ -262,27 +261,27 @@ module _ (image segments : List ℕ) where
 pub record OffsetsRead (image segments : List ℕ) (p : Reads Body) (m : ℕ) : Type 0 where
   pub fields : ℕ
   pub word : ℕ
-  pub there : run image segments p ≡ some (of_struct fields word)
+  pub there : run image segments p ≡ Some (of_struct fields word)
   pub wants : Wants fields word m
 
 module _ (image segments types : List ℕ) (start i m : ℕ) where
-  pub no_body_no_offsets : run image segments (slot_body types start i) ≡ none → run image segments (slot_offsets types start i m) ≡ none
+  pub no_body_no_offsets : run image segments (slot_body types start i) ≡ None → run image segments (slot_offsets types start i m) ≡ None
   unfolding slot_offsets
   no_body_no_offsets e = run_bind image segments (λ b. field_offsets b m) (slot_body types start i) ∙ rw e
 
-  pub slot_offsets_lem : (b : Body) → run image segments (slot_body types start i) ≡ some b
+  pub slot_offsets_lem : (b : Body) → run image segments (slot_body types start i) ≡ Some b
       → run image segments (slot_offsets types start i m) ≡ run image segments (field_offsets b m)
   unfolding slot_offsets
   slot_offsets_lem b e = run_bind image segments (λ b. field_offsets b m) (slot_body types start i) ∙ rw e
 
   module _ (l : List ℕ) where
-    wanted : (f v : ℕ) → run image segments (field_offsets (of_struct f v) m) ≡ some l → Wants f v m
+    wanted : (f v : ℕ) → run image segments (field_offsets (of_struct f v) m) ≡ Some l → Wants f v m
     unfolding field_offsets run
     wanted f v e = go (dec_lt 0 f) (dec_lt 0 v) (dec_lt 0 m) (dec_lt (m + 8 * v) (2 ^ 64))
       where
         never : (Wants f v m → ⊥) → Wants f v m
         never n =
-            let g : ◌≡◌ {A = Option (List ℕ)} none (some l) = simp (vector_none f v m n) at e in
+            let g : ◌≡◌ {A = Option (List ℕ)} None (Some l) = simp (vector_none f v m n) at e in
             let z : ◌≡◌ {A = ℕ} 0 1 = cc in
             absurd (omega arith)
 
@@ -294,33 +293,33 @@ module _ (image segments types : List ℕ) (start i m : ℕ) where
         go (no a) b c d = never (λ w. a w.count)
 
     -- a slot with offsets has such a body
-    pub offsets_body : run image segments (slot_offsets types start i m) ≡ some l → OffsetsRead image segments (slot_body types start i) m
+    pub offsets_body : run image segments (slot_offsets types start i m) ≡ Some l → OffsetsRead image segments (slot_body types start i) m
     unfolding slot_offsets field_offsets vector run
     offsets_body e =
         let w = both_read image segments (slot_body types start i) (λ b. field_offsets b m) l e in
         go w.first w.there w.goes
       where
-        never : ◌≡◌ {A = Option (List ℕ)} none (some l) → ⊥
+        never : ◌≡◌ {A = Option (List ℕ)} None (Some l) → ⊥
         never f = let z : ◌≡◌ {A = ℕ} 0 1 = cc in omega arith
 
-        go : (b : Body) → run image segments (slot_body types start i) ≡ some b → run image segments (field_offsets b m) ≡ some l
+        go : (b : Body) → run image segments (slot_body types start i) ≡ Some b → run image segments (field_offsets b m) ≡ Some l
             → OffsetsRead image segments (slot_body types start i) m
         go (of_class s z n f v) t g = absurd (never g)
         go (of_struct f v) t g = record { fields = f; word = v; there = t; wants = wanted f v g }
         go (of_enum p w e) t g = absurd (never g)
 
     -- the body's path, and the vector's bytes
-    pub offsets_path : (f v q : ℕ) → run image segments (slot_body types start i) ≡ some (of_struct f v) → run image segments (slot_offsets types start i m) ≡ some l
-        → file_offset (segments_of segments) (m + 8 * v) ≡ some q
+    pub offsets_path : (f v q : ℕ) → run image segments (slot_body types start i) ≡ Some (of_struct f v) → run image segments (slot_offsets types start i m) ≡ Some l
+        → file_offset (segments_of segments) (m + 8 * v) ≡ Some q
         → path image segments (slot_offsets types start i m) ≡ path image segments (slot_body types start i) ++ (bytes_range q (4 * f) ∷ [])
     unfolding slot_offsets field_offsets path
     offsets_path f v q e el at =
         let r = sym (slot_offsets_lem (of_struct f v) e) ∙ el in
         let vs = vector_at f v m (wanted f v r) in
         let k : List ℕ → Reads (List ℕ) = λ h. done (u32s f h) in
-        let g : run image segments (bytes (m + 8 * v) (4 * f) k) ≡ some l = rw vs at r in
+        let g : run image segments (bytes (m + 8 * v) (4 * f) k) ≡ Some l = rw vs at r in
         let w = bytes_read_lem image segments (m + 8 * v) l (4 * f) k g in
-        let h : some w.offset ≡ some q = sym w.at ∙ at in
+        let h : Some w.offset ≡ Some q = sym w.at ∙ at in
         let s : w.offset ≡ q = cc in
         path_bind image segments (λ b. field_offsets b m) (slot_body types start i)
         ∙ rw (e, vs)

@@ -1,7 +1,6 @@
 -- Field offsets: docs/SPECIFICATION.md, "Field offsets"; Metadata.h, `TargetStructMetadata` (`getFieldOffsets`: numbers of four bytes) and
 -- `TargetStructDescriptor` (`FieldOffsetVectorOffset`, in words of the metadata).
-use Rattle.std.specs.Prelude.{ℕ, zero, suc, ◌+◌, ◌*◌, ◌^◌, List, [], ◌∷◌, cond, ◌&&◌, length, take, drop, leb, ltb}
-use Rattle.std.proofs.Math.Option.{Option, some, none, map}
+use Rattle.std.specs.Prelude.{ℕ, zero, suc, ◌+◌, ◌*◌, ◌^◌, List, [], ◌∷◌, cond, ◌&&◌, length, take, drop, leb, ltb, Option, Some, None, option_map}
 use Rattle.util.specs.LittleEndian.{little_endian, little_at}
 use Rattle.runtime.specs.Reads.{Reads, done, bytes, bind, and_then, bytes_place, run}
 use Rattle.classtrailers.specs.Blocks.{block}
@@ -19,10 +18,10 @@ pub record Vector : Type 0 where
 
 -- the offset vector of metadata at `m`: for structs only, words of 8, none if a number is 0 or its address reaches 2^64
 unfoldable pub vector : Body → ℕ → Option Vector
-vector (of_class s z i f v) m = none
+vector (of_class s z i f v) m = None
 vector (of_struct f v) m =
-    cond (ltb 0 f && ltb 0 v && ltb 0 m && ltb (m + 8 * v) (2 ^ 64)) (some (record { address = m + 8 * v; count = f })) none
-vector (of_enum p w e) m = none
+    cond (ltb 0 f && ltb 0 v && ltb 0 m && ltb (m + 8 * v) (2 ^ 64)) (Some (record { address = m + 8 * v; count = f })) None
+vector (of_enum p w e) m = None
 
 -- the first `n` numbers of four bytes each
 unfoldable pub u32s : ℕ → List ℕ → List ℕ
@@ -50,12 +49,12 @@ offsets o n = record { place = o; count = n }
 unfoldable pub offsets_place : List ℕ → List ℕ → Option Body → ℕ → Option Offsets
 offsets_place image segments o m =
     and_then (and_then o (λ b. vector b m))
-    (λ v. map (λ p. offsets p v.count) (bytes_place image segments v.address (4 * v.count)))
+    (λ v. option_map (λ p. offsets p v.count) (bytes_place image segments v.address (4 * v.count)))
 
 -- number `k`; nothing unless the whole vector lies in the image
 unfoldable pub offset_in : List ℕ → Offsets → ℕ → Option ℕ
 offset_in image v k =
-    cond (ltb k v.count && leb (v.place + 4 * v.count) (length image)) (little_at 4 image (v.place + 4 * k)) none
+    cond (ltb k v.count && leb (v.place + 4 * v.count) (length image)) (little_at 4 image (v.place + 4 * k)) None
 
 -- ---- by the metadata that a descriptor's own singleton pointer refers to
 
@@ -70,18 +69,18 @@ blocks_start a flags b = record { trailing = trailing flags b; start = trailing_
 unfoldable pub static_place : List ℕ → List ℕ → ℕ → ℕ → Option Offsets
 static_place image segments a flags =
     and_then (run image segments (body a flags))
-    (λ b. and_then (run image segments (metadata_at (blocks_start a flags b))) (offsets_place image segments (some b)))
+    (λ b. and_then (run image segments (metadata_at (blocks_start a flags b))) (offsets_place image segments (Some b)))
 
 -- ---- what the calls' answers say
 
 abbrev pub metadata_after : List ℕ → List ℕ → Option Start → Option ℕ
-metadata_after image segments none = none
-metadata_after image segments (some s) = run image segments (metadata_at s)
+metadata_after image segments None = None
+metadata_after image segments (Some s) = run image segments (metadata_at s)
 
 abbrev pub offsets_of : FieldOffsets → Option Offsets
-offsets_of (FieldOffsets.At o n) = some (offsets o n)
-offsets_of FieldOffsets.Nothing = none
+offsets_of (FieldOffsets.At o n) = Some (offsets o n)
+offsets_of FieldOffsets.Nothing = None
 
 abbrev pub field_offset_of : FieldOffset → Option ℕ
-field_offset_of (FieldOffset.At n) = some n
-field_offset_of FieldOffset.Nothing = none
+field_offset_of (FieldOffset.At n) = Some n
+field_offset_of FieldOffset.Nothing = None

@@ -1,6 +1,5 @@
 // The byte offsets of a struct's fields, by the vector in its metadata.
-ghost use Rattle.std.specs.Prelude.{◌≡◌};
-ghost use Rattle.std.proofs.Math.Option.{some};
+ghost use Rattle.std.specs.Prelude.{◌≡◌, Some};
 ghost use Rattle.runtime.specs.Reads.{and_then, run};
 ghost use Rattle.type_body.specs.Body.{of_struct, body_of};
 ghost use Rattle.type_body.specs.Items.{pointer_of_block, trailers};
@@ -34,7 +33,7 @@ fn struct_offsets(
     word: u32,
     metadata_va: u64,
 ) -> FieldOffsets
-    ensures { offsets_of result ≡ offsets_place image.now segments.now (some (of_struct count word)) metadata_va }
+    ensures { offsets_of result ≡ offsets_place image.now segments.now (Some (of_struct count word)) metadata_va }
 {
     if count == 0 {
         return FieldOffsets::Nothing;

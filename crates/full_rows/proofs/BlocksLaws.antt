@@ -3,10 +3,9 @@ use Prim.Native.Nat.{ℕ, zero, suc, ◌+◌, ◌-◌, ◌*◌, ◌≤◌, ◌<�
 use native.Mathlib.Omega.{arith}
 use Rattle.std.proofs.Math.Nat.{mul-suc}
 use Rattle.std.proofs.Common.{add-zero, add-one, ◌∙◌, ne_eqb}
-use Rattle.std.specs.Prelude.{◌≡◌, Bool, true, false, cond, length, set, replicate, eqb}
+use Rattle.std.specs.Prelude.{◌≡◌, Bool, true, false, cond, length, set, replicate, eqb, Option, Some, None}
 use Rattle.std.proofs.Math.Path.{refl, sym, ap}
 use mathlib.Core.List.{List, [], ◌∷◌, ◌++◌, append_assoc, append-nil}
-use Rattle.std.proofs.Math.Option.{Option, some, none}
 use Rattle.std.proofs.Math.ListN.{length-append}
 use Rattle.std.proofs.lemmas.List.{length-replicate, replicate-append-replicate}
 use Rattle.util.specs.Buffer.{pasted}
@@ -59,8 +58,8 @@ zeros_all b b' at n m e q = e ∙ ap (λ (k : ℕ). pasted b at (zeros k)) q
 -- ---- a block's numbers
 
 pub block_long : (x : Option Block) → length (block_four x) ≡ 4
-block_long none = refl
-block_long (some b) = ap suc (go b.body)
+block_long None = refl
+block_long (Some b) = ap suc (go b.body)
   where
     table : (c : Bool) (o n a : ℕ) → length (cond c (o ∷ (n ∷ (a ∷ []))) (n ∷ (a ∷ (0 ∷ [])))) ≡ 3
     table true o n a = refl
@@ -84,7 +83,7 @@ module _ (k : BlockKind) (r o n a : ℕ) (e : r ≡ row_number k) where
   other_numbers f = simp (ne_eqb (row_number k) 4 (λ q. f (e ∙ q)))
 
 -- if nothing follows, all are 0
-pub none_follow : (image segments : List ℕ) → zeros 44 ≡ block_fours image segments none
+pub none_follow : (image segments : List ℕ) → zeros 44 ≡ block_fours image segments None
 unfolding block_fours
 none_follow image segments = refl
 
@@ -100,7 +99,7 @@ module _ (image segments : List ℕ) (t : Trailing) (start : ℕ) where
   upto zero = []
   upto (suc n) = upto n ++ block_four (run image segments (block_in t start n))
 
-  all_from : block_fours image segments (some (record { trailing = t; start = start })) ≡ from 11 0
+  all_from : block_fours image segments (Some (record { trailing = t; start = start })) ≡ from 11 0
   unfolding block_fours block from
   all_from = refl
 
@@ -119,20 +118,20 @@ module _ (image segments : List ℕ) (t : Trailing) (start : ℕ) where
   upto_long (suc n) = length-append (upto n) _ ∙ omega (arith, upto_long n, block_long (run image segments (block_in t start n)), mul-suc 4 n)
 
   -- the whole, with the first `n` rows written
-  split : (n : ℕ) → n ≤ 11 → upto n ++ from (11 - n) n ≡ block_fours image segments (some (record { trailing = t; start = start }))
+  split : (n : ℕ) → n ≤ 11 → upto n ++ from (11 - n) n ≡ block_fours image segments (Some (record { trailing = t; start = start }))
   unfolding upto
   split n h =
       let sum : n + (11 - n) ≡ 0 + 11 = omega arith in
       upto_from (11 - n) n ∙ ap upto sum ∙ sym (upto_from 11 0) ∙ sym all_from
 
   -- past a walk that stopped all are 0
-  from_stopped : (m i : ℕ) → none ≡ run image segments (reached t start i) → from m i ≡ zeros (4 * m)
+  from_stopped : (m i : ℕ) → None ≡ run image segments (reached t start i) → from m i ≡ zeros (4 * m)
   unfolding from
   from_stopped zero i e = refl
   from_stopped (suc m) i e =
-      let f : none ≡ run image segments (reached t start (i + 1)) = stopped image segments t start (i + 1) i e (omega arith) in
+      let f : None ≡ run image segments (reached t start (i + 1)) = stopped image segments t start (i + 1) i e (omega arith) in
       ap (λ (x : Option Block). block_four x ++ from m (i + 1)) (sym (kind_stops image segments t start i i e (omega arith)))
-      ∙ ap (λ (l : List ℕ). block_four none ++ l) (from_stopped m (i + 1) f) ∙ zeros_append 4 (4 * m) (4 * suc m) (omega (arith, mul-suc 4 m))
+      ∙ ap (λ (l : List ℕ). block_four None ++ l) (from_stopped m (i + 1) f) ∙ zeros_append 4 (4 * m) (4 * suc m) (omega (arith, mul-suc 4 m))
 
   rest_count : (i n : ℕ) → i < 11 → n ≡ 40 - 4 * i → n ≡ 4 * (10 - i)
   rest_count i n h e = omega arith
@@ -149,7 +148,7 @@ module _ (image segments : List ℕ) (t : Trailing) (start : ℕ) where
     pub record Putting (i a : ℕ) (b : List ℕ) : Type 0 where
       pub few : i ≤ 11
       pub long : length b ≡ length b₀
-      pub here : some a ≡ run image segments (reached t start i)
+      pub here : Some a ≡ run image segments (reached t start i)
       pub holds : b ≡ pasted b₀ at (upto i)
 
     pub start_putting : Putting 0 start b₀
@@ -157,14 +156,14 @@ module _ (image segments : List ℕ) (t : Trailing) (start : ℕ) where
     start_putting = record { few = omega arith; long = refl; here = reached_start image segments t start; holds = (put_none b₀ at).holds }
 
     abbrev Whole : List ℕ → Type 0
-    Whole b = b ≡ pasted b₀ at (block_fours image segments (some (record { trailing = t; start = start })))
+    Whole b = b ≡ pasted b₀ at (block_fours image segments (Some (record { trailing = t; start = start })))
 
     module _ (fits : at + 44 ≤ length b₀) (i a : ℕ) (b : List ℕ) (g : Putting i a b) where
       pub all_put : 11 ≤ i → Whole b
       unfolding from
       all_put h =
           let e : 0 ≡ 11 - i = omega arith in
-          let s : upto i ≡ block_fours image segments (some (record { trailing = t; start = start })) =
+          let s : upto i ≡ block_fours image segments (Some (record { trailing = t; start = start })) =
           sym (append-nil (upto i)) ∙ ap (λ (k : ℕ). upto i ++ from k i) e ∙ split i g.few in
           g.holds ∙ ap (pasted b₀ at) s
 
@@ -175,7 +174,7 @@ module _ (image segments : List ℕ) (t : Trailing) (start : ℕ) where
           ∙ ap (pasted b₀ at) (ap (λ (r : List ℕ). upto i ++ r) e ∙ split i g.few)
 
       module _ (h : i < 11) where
-        next_put : (c : ℕ) (x : Option Block) (b' : List ℕ) → x ≡ run image segments (block_in t start i) → some c ≡ run image segments (reached t start (i + 1))
+        next_put : (c : ℕ) (x : Option Block) (b' : List ℕ) → x ≡ run image segments (block_in t start i) → Some c ≡ run image segments (reached t start (i + 1))
             → b' ≡ pasted b (at + 4 * i) (block_four x) → Putting (i + 1) c b'
         unfolding upto
         next_put c x b' e f eb =
@@ -188,39 +187,39 @@ module _ (image segments : List ℕ) (t : Trailing) (start : ℕ) where
                   ∙ ap (pasted b₀ at) (ap (λ (o : Option Block). upto i ++ block_four o) e ∙ ap upto (sym (add-one i)));
             }
 
-        pub absent_put : none ≡ kind_there t i → (b' : List ℕ) → b' ≡ pasted b (at + 4 * i) (block_four none) → Putting (i + 1) a b'
+        pub absent_put : None ≡ kind_there t i → (b' : List ℕ) → b' ≡ pasted b (at + 4 * i) (block_four None) → Putting (i + 1) a b'
         absent_put y b' eb =
             let w = row_absent image segments t start i a h g.here (is_absent t i y) in
-            next_put a none b' w.1 w.0 eb
+            next_put a None b' w.1 w.0 eb
 
         -- a row with a block, of kind `j`
-        module _ (j : BlockKind) (y : some j ≡ kind_there t i) where
+        module _ (j : BlockKind) (y : Some j ≡ kind_there t i) where
           there : (row_at i).there t ≡ true
           there = (is_there_lem t i j y).0
 
           here_says : (x : Option Ended) → x ≡ run image segments (block_at (row_at (row_number j)) a) → x ≡ run image segments (block_at (row_at i) a)
           here_says x f = rw (is_there_lem t i j y).1 f
 
-          pub there_put : (k : Block) (e : ℕ) (b' : List ℕ) → some (record { block = k; end = some e }) ≡ run image segments (block_at (row_at (row_number j)) a) → b' ≡ pasted b (at + 4 * i) (block_four (some k))
+          pub there_put : (k : Block) (e : ℕ) (b' : List ℕ) → Some (record { block = k; end = Some e }) ≡ run image segments (block_at (row_at (row_number j)) a) → b' ≡ pasted b (at + 4 * i) (block_four (Some k))
               → Putting (i + 1) e b'
           there_put k e b' s eb =
               let w = row_read image segments t start i a h g.here there _ (here_says _ s) in
-              next_put e (some k) b' w.0 w.2 eb
+              next_put e (Some k) b' w.0 w.2 eb
 
-          pub last_put : (k : Block) (b' b'' : List ℕ) (n m : ℕ) → some (record { block = k; end = none }) ≡ run image segments (block_at (row_at (row_number j)) a) → b' ≡ pasted b (at + 4 * i) (block_four (some k))
+          pub last_put : (k : Block) (b' b'' : List ℕ) (n m : ℕ) → Some (record { block = k; end = None }) ≡ run image segments (block_at (row_at (row_number j)) a) → b' ≡ pasted b (at + 4 * i) (block_four (Some k))
               → n ≡ 40 - 4 * i → m ≡ at + 4 * i + 4 → b'' ≡ pasted b' m (zeros n) → Whole b''
           unfolding from
           last_put k b' b'' n m s eb en em eb'' =
               let w = row_read image segments t start i a h g.here there _ (here_says _ s) in
               let rest : zeros n ≡ from (10 - i) (i + 1) = ap zeros (rest_count i n h en) ∙ sym (from_stopped (10 - i) (i + 1) w.2) in
-              let q : block_four (some k) ++ zeros n ≡ from (11 - i) i = one_more i (some k) (zeros n) h w.0 rest in
+              let q : block_four (Some k) ++ zeros n ≡ from (11 - i) i = one_more i (Some k) (zeros n) h w.0 rest in
               rest_put b'' _ q
-              (pasted_then b (block_four (some k)) (zeros n) b' b'' (at + 4 * i) 4 eb (block_long (some k)) (eb'' ∙ ap (λ (j : ℕ). pasted b' j (zeros n)) em) (omega (arith, g.long)))
+              (pasted_then b (block_four (Some k)) (zeros n) b' b'' (at + 4 * i) 4 eb (block_long (Some k)) (eb'' ∙ ap (λ (j : ℕ). pasted b' j (zeros n)) em) (omega (arith, g.long)))
 
-          pub fails_put : (b' : List ℕ) (n : ℕ) → none ≡ run image segments (block_at (row_at (row_number j)) a) → n ≡ 44 - 4 * i → b' ≡ pasted b (at + 4 * i) (zeros n) → Whole b'
+          pub fails_put : (b' : List ℕ) (n : ℕ) → None ≡ run image segments (block_at (row_at (row_number j)) a) → n ≡ 44 - 4 * i → b' ≡ pasted b (at + 4 * i) (zeros n) → Whole b'
           fails_put b' n s en eb =
               let w = row_fails image segments t start i a h g.here there (here_says _ s) in
               let count : 4 + (n - 4) ≡ n = omega arith in
               let rest : zeros (n - 4) ≡ from (10 - i) (i + 1) = ap zeros (rest_count i (n - 4) h (omega arith)) ∙ sym (from_stopped (10 - i) (i + 1) w.0) in
-              let q : block_four none ++ zeros (n - 4) ≡ from (11 - i) i = one_more i none (zeros (n - 4)) h w.1 rest in
+              let q : block_four None ++ zeros (n - 4) ≡ from (11 - i) i = one_more i None (zeros (n - 4)) h w.1 rest in
               rest_put b' _ (sym (zeros_append 4 (n - 4) n count) ∙ q) eb

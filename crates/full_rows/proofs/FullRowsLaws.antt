@@ -5,10 +5,9 @@ use Prim.Native.Nat.{ℕ, suc, ◌+◌, ◌-◌, ◌*◌, ◌/◌, ◌≤◌, ma
 use Rattle.std.proofs.Math.Decide.{dec_lt}
 use native.Mathlib.Omega.{arith}
 use Rattle.std.proofs.Common.{mul-suc, sym, ◌∙◌}
-use Rattle.std.specs.Prelude.{◌≡◌, Bool, take, drop}
+use Rattle.std.specs.Prelude.{◌≡◌, Bool, take, drop, Option, Some, None}
 use Rattle.std.proofs.Math.Path.{refl, ap}
 use mathlib.Core.List.{List, [], ◌∷◌, ◌++◌, map, append_assoc, append-nil}
-use Rattle.std.proofs.Math.Option.{Option, some, none}
 use Rattle.std.proofs.Math.ListN.{length, length-append}
 use Rattle.std.proofs.Math.Seq.{take-nil, drop-length}
 use Rattle.util.specs.Buffer.{pasted, at_start}
@@ -37,11 +36,11 @@ use Rattle.full_rows.proofs.BlocksLaws.{block_long}
 -- ---- a record
 
 pub body_long : (b : Option Body) → length (body_numbers b) ≡ 8
-body_long none = refl
-body_long (some (of_class s (fixed n p) m f v)) = refl
-body_long (some (of_class s (resilient b e) m f v)) = refl
-body_long (some (of_struct f v)) = refl
-body_long (some (of_enum p w e)) = refl
+body_long None = refl
+body_long (Some (of_class s (fixed n p) m f v)) = refl
+body_long (Some (of_class s (resilient b e) m f v)) = refl
+body_long (Some (of_struct f v)) = refl
+body_long (Some (of_enum p w e)) = refl
 
 -- a body's numbers in an array of their own
 pub body_alone : (b b' : List ℕ) (x : Option Body) → length b ≡ 8 → b' ≡ pasted b 0 (body_numbers x) → b' ≡ body_numbers x
@@ -84,16 +83,16 @@ pub body_known : (x y : TypeBody) → x ≡ y → body_numbers (body_of y) ≡ b
 body_known x y e = ap (λ (b : TypeBody). body_numbers (body_of b)) (sym e)
 
 pub class_known : (class : ClassBody) (s : ClassSizes) → class.sizes ≡ s
-    → body_numbers (some (of_class class.superclass_va (sizes_of s) class.num_immediate_members class.num_fields class.field_offset_vector_offset))
-    ≡ body_numbers (some (class_of class))
+    → body_numbers (Some (of_class class.superclass_va (sizes_of s) class.num_immediate_members class.num_fields class.field_offset_vector_offset))
+    ≡ body_numbers (Some (class_of class))
 class_known class s e = rw e
 
 -- a true mapping changes no record
 module _ (image segments : List ℕ) (m : Mapping) (w : TrueMapping segments m) where
   kinds_mapped : (s : Option Start) (ks : List BlockKind) → kind_fours image (with_mapping m segments) s ks ≡ kind_fours image segments s ks
   kinds_mapped s [] = refl
-  kinds_mapped none (k ∷ ks) = ap (λ (l : List ℕ). block_four none ++ l) (kinds_mapped none ks)
-  kinds_mapped (some s) (k ∷ ks) = rw (run_mapped image segments m w (blocks.block s.trailing s.start k), kinds_mapped (some s) ks)
+  kinds_mapped None (k ∷ ks) = ap (λ (l : List ℕ). block_four None ++ l) (kinds_mapped None ks)
+  kinds_mapped (Some s) (k ∷ ks) = rw (run_mapped image segments m w (blocks.block s.trailing s.start k), kinds_mapped (Some s) ks)
 
   pub row_mapped : (slot : ℕ) (r : TypeRow) → full_row image (with_mapping m segments) slot r ≡ full_row image segments slot r
   unfolding full_row block_fours

@@ -1,7 +1,6 @@
 -- The rows of a types section with body and all trailing blocks, as records of a fixed number of numbers in the caller's list:
 -- docs/SPECIFICATION.md, "Full rows".
-use Rattle.std.specs.Prelude.{ℕ, ◌/◌, List, [], ◌∷◌, ◌++◌, map, cond, length, eqb}
-use Rattle.std.proofs.Math.Option.{Option, some, none}
+use Rattle.std.specs.Prelude.{ℕ, ◌/◌, List, [], ◌∷◌, ◌++◌, map, cond, length, eqb, Option, Some, None}
 use Rattle.refusal.specs.Refusal.{Guarded, answered, refused, refusal_number}
 use Rattle.runtime.specs.Reads.{run}
 use Rattle.classtrailers.specs.Blocks as blocks
@@ -25,11 +24,11 @@ record_row slot r = slot ∷ (r.address ∷ (r.flags ∷ (r.parent ∷ (r.name.s
 
 -- the body: 1 for a class, 2 for a struct, 3 for an enum, and what it says; all are 0 if there is none
 abbrev pub body_numbers : Option Body → List ℕ
-body_numbers none = 0 ∷ (0 ∷ (0 ∷ (0 ∷ (0 ∷ (0 ∷ (0 ∷ (0 ∷ [])))))))
-body_numbers (some (of_class s (fixed n p) m f v)) = 1 ∷ (s ∷ (0 ∷ (n ∷ (p ∷ (m ∷ (f ∷ (v ∷ [])))))))
-body_numbers (some (of_class s (resilient b e) m f v)) = 1 ∷ (s ∷ (1 ∷ (b ∷ (e ∷ (m ∷ (f ∷ (v ∷ [])))))))
-body_numbers (some (of_struct f v)) = 2 ∷ (f ∷ (v ∷ (0 ∷ (0 ∷ (0 ∷ (0 ∷ (0 ∷ [])))))))
-body_numbers (some (of_enum p w e)) = 3 ∷ (p ∷ (w ∷ (e ∷ (0 ∷ (0 ∷ (0 ∷ (0 ∷ [])))))))
+body_numbers None = 0 ∷ (0 ∷ (0 ∷ (0 ∷ (0 ∷ (0 ∷ (0 ∷ (0 ∷ [])))))))
+body_numbers (Some (of_class s (fixed n p) m f v)) = 1 ∷ (s ∷ (0 ∷ (n ∷ (p ∷ (m ∷ (f ∷ (v ∷ [])))))))
+body_numbers (Some (of_class s (resilient b e) m f v)) = 1 ∷ (s ∷ (1 ∷ (b ∷ (e ∷ (m ∷ (f ∷ (v ∷ [])))))))
+body_numbers (Some (of_struct f v)) = 2 ∷ (f ∷ (v ∷ (0 ∷ (0 ∷ (0 ∷ (0 ∷ (0 ∷ [])))))))
+body_numbers (Some (of_enum p w e)) = 3 ∷ (p ∷ (w ∷ (e ∷ (0 ∷ (0 ∷ (0 ∷ (0 ∷ [])))))))
 
 -- what is recorded of a block, filled up with zeros to three numbers: an address; for a table the number of entries and their address, and
 -- a vtable's offset before them; the set and the number of its protocols
@@ -46,8 +45,8 @@ recorded_numbers b = recorded_in b.kind b.body
 
 -- a block of a kind: 1 and what is recorded; all are 0 if there is none
 abbrev pub block_four : Option Block → List ℕ
-block_four none = 0 ∷ (0 ∷ (0 ∷ (0 ∷ [])))
-block_four (some b) = 1 ∷ recorded_numbers b
+block_four None = 0 ∷ (0 ∷ (0 ∷ (0 ∷ [])))
+block_four (Some b) = 1 ∷ recorded_numbers b
 
 -- the blocks of these kinds, of what follows a body
 abbrev pub kind_fours : List ℕ → List ℕ → Option Start → List BlockKind → List ℕ

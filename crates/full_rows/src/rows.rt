@@ -1,6 +1,5 @@
 // The records of a section's rows, one after the other.
-ghost use Rattle.std.specs.Prelude.{◌≡◌, [], ◌∷◌, ◌+◌, ◌≤◌, ◌*◌, ◌/◌, length, replicate};
-ghost use Rattle.std.proofs.Math.Option.{some};
+ghost use Rattle.std.specs.Prelude.{◌≡◌, [], ◌∷◌, ◌+◌, ◌≤◌, ◌*◌, ◌/◌, length, replicate, Some};
 ghost use Rattle.util.specs.Buffer.{pasted, at_start};
 ghost use Rattle.type_body.specs.Body.{body_of, class_of};
 ghost use Rattle.full_rows.specs.FullRows.{body_numbers, table_recorded, recorded_numbers, recorded_of, block_four, block_fours, full_row, full_rows_in, numbers_of, given_of};
@@ -85,7 +84,7 @@ fn put_row(slot: usize, row: Row, buffer: &mut [u64], at: usize)
 
 fn put_class(class: ClassBody, buffer: &mut [u64], at: usize)
     requires { at + 8 ≤ length buffer.old }
-    ensures { buffer.new ≡ pasted buffer.old at (body_numbers (some (class_of class))) }
+    ensures { buffer.new ≡ pasted buffer.old at (body_numbers (Some (class_of class))) }
 {
     let sizes = class.sizes;
     match sizes {
@@ -233,7 +232,7 @@ pub fn numbers_of(block: Block) -> Recorded
 
 fn put_block(block: Block, buffer: &mut [u64], at: usize)
     requires { at + 4 ≤ length buffer.old }
-    ensures { buffer.new ≡ pasted buffer.old at (block_four (some block)) }
+    ensures { buffer.new ≡ pasted buffer.old at (block_four (Some block)) }
 {
     let n = numbers_of(block);
     put_four(THERE, n.first, n.second, n.third, buffer, at);
@@ -250,7 +249,7 @@ fn put_blocks(
     at: usize,
 )
     requires { at + 44 ≤ length buffer.old }
-    ensures { buffer.new ≡ pasted buffer.old at (block_fours image.now (with_mapping mapping segments.now) (some (record { trailing = trailing_of trailing; start = start }))) }
+    ensures { buffer.new ≡ pasted buffer.old at (block_fours image.now (with_mapping mapping segments.now) (Some (record { trailing = trailing_of trailing; start = start }))) }
 {
     let mut address = start;
     let mut row: u32 = 0;

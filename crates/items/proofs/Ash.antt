@@ -1,7 +1,6 @@
 -- A fourth image worked through: the items of a generic class with prespecializations, an invertible set and default overrides, the blocks
 -- that `Oak` and `Elm` do not have. The numbers are worked out by hand from docs/SPECIFICATION.md, as for `Elm`.
-use Rattle.std.specs.Prelude.{ℕ, refl, List, [], ◌∷◌, ◌++◌}
-use Rattle.std.proofs.Math.Option.{Option, some, none}
+use Rattle.std.specs.Prelude.{ℕ, refl, List, [], ◌∷◌, ◌++◌, Option, Some, None}
 use Rattle.utf8.specs.Table.{table}
 use Rattle.utf8.specs.Text.{following, goes_on, until_nul, text_length}
 use Rattle.util.specs.Letters.{letters}
@@ -89,26 +88,26 @@ pub record AshWorked : Type 0 where
       ∷ [])
   -- what they say
   pub says : Table told
-      ((Key.body 0, some (Answer.body (of_class 0 (fixed 2 13) 3 0 10)))
-      ∷ (Key.block 0 BlockKind.Generic, some (Answer.block (generic_at 0x1030)))
-      ∷ (Key.block 0 BlockKind.Prespecializations, some (Answer.block (prespecializations_from 2 0x1054)))
-      ∷ (Key.block 0 BlockKind.InvertibleProtocolSet, some (Answer.block (invertible_set 5 2)))
-      ∷ (Key.block 0 BlockKind.DefaultOverrideTable, some (Answer.block (default_overrides_from 2 0x106c)))
-      ∷ (Key.entry 0 EntryKind.prespecializations 1, some (Answer.entry (record { address = 0x1058; words = 0x1110 ∷ [] })))
-      ∷ (Key.entry 0 EntryKind.default_overrides 1, some (Answer.entry (record { address = 0x1074; words = 0x1100 ∷ 0x1110 ∷ [] })))
+      ((Key.body 0, Some (Answer.body (of_class 0 (fixed 2 13) 3 0 10)))
+      ∷ (Key.block 0 BlockKind.Generic, Some (Answer.block (generic_at 0x1030)))
+      ∷ (Key.block 0 BlockKind.Prespecializations, Some (Answer.block (prespecializations_from 2 0x1054)))
+      ∷ (Key.block 0 BlockKind.InvertibleProtocolSet, Some (Answer.block (invertible_set 5 2)))
+      ∷ (Key.block 0 BlockKind.DefaultOverrideTable, Some (Answer.block (default_overrides_from 2 0x106c)))
+      ∷ (Key.entry 0 EntryKind.prespecializations 1, Some (Answer.entry (record { address = 0x1058; words = 0x1110 ∷ [] })))
+      ∷ (Key.entry 0 EntryKind.default_overrides 1, Some (Answer.entry (record { address = 0x1074; words = 0x1100 ∷ 0x1110 ∷ [] })))
       -- what it does not have: a third entry, a vtable, singleton records (bit 3 of its type flags is the prespecializations'), offsets,
       -- which are a struct's
-      ∷ (Key.entry 0 EntryKind.prespecializations 2, none)
-      ∷ (Key.block 0 BlockKind.VTable, none)
-      ∷ (Key.initialization 0, none)
-      ∷ (Key.pointer 0, none)
-      ∷ (Key.offsets 0 0x1000, none)
+      ∷ (Key.entry 0 EntryKind.prespecializations 2, None)
+      ∷ (Key.block 0 BlockKind.VTable, None)
+      ∷ (Key.initialization 0, None)
+      ∷ (Key.pointer 0, None)
+      ∷ (Key.offsets 0 0x1000, None)
       ∷ [])
   -- a cut where an entry's last range ends keeps it, and one a byte before does not
   pub cuts : Table (cut_to image segments sections)
       (((92, Key.entry 0 EntryKind.prespecializations 1), told (Key.entry 0 EntryKind.prespecializations 1))
-      ∷ ((91, Key.entry 0 EntryKind.prespecializations 1), none)
-      ∷ ((123, Key.entry 0 EntryKind.default_overrides 1), none)
+      ∷ ((91, Key.entry 0 EntryKind.prespecializations 1), None)
+      ∷ ((123, Key.entry 0 EntryKind.default_overrides 1), None)
       ∷ [])
 
 pub ash_worked : AshWorked

@@ -1,7 +1,6 @@
 -- The image of docs/SPECIFICATION.md, "Items, paths and the cut", worked through: 33 bytes, one struct, its name at offset 28.
-use Rattle.std.specs.Prelude.{ℕ, ◌≤◌, ◌<◌, ◌≡◌, refl, List, [], ◌∷◌, ◌++◌, take}
+use Rattle.std.specs.Prelude.{ℕ, ◌≤◌, ◌<◌, ◌≡◌, refl, List, [], ◌∷◌, ◌++◌, take, Option, Some, None}
 use Rattle.std.proofs.Common.{arith, inl, inr, ⊎_elim}
-use Rattle.std.proofs.Math.Option.{Option, some, none}
 use Rattle.utf8.specs.Table.{table}
 use Rattle.utf8.specs.Text.{following, goes_on, until_nul, text_length}
 use Rattle.util.specs.Letters.{letters}
@@ -44,7 +43,7 @@ row_reads = read_by clue_image clue_segments clue_sections (Key.row 0)
 
 -- a struct at 0x1000 whose name has these bytes, at offset 28
 abbrev named : List ℕ → ℕ → Option Answer
-named t n = some (Answer.row (record { address = 0x1000; flags = 17; parent = 0; name = place 28 n; name_bytes = t }))
+named t n = Some (Answer.row (record { address = 0x1000; flags = 17; parent = 0; name = place 28 n; name_bytes = t }))
 
 pub record ClueWorked : Type 0 where
   -- 20 bytes, and five of the name with its NUL
@@ -52,14 +51,14 @@ pub record ClueWorked : Type 0 where
   pub says : Table told
       ((clue_image, named (letters "Clue") 4)
       -- cut before the name starts, the row is gone
-      ∷ (take 27 clue_image, none)
+      ∷ (take 27 clue_image, None)
       -- cut where it starts, there is a row with an empty name; then one with a piece of the name; the whole name without its NUL is a text
       -- too
       ∷ (take 28 clue_image, named [] 0)
       ∷ (take 30 clue_image, named (letters "Cl") 2)
       ∷ (take 32 clue_image, named (letters "Clue") 4)
       -- a name that is not well-formed makes no row, and a piece of it may: texts that are looked up and not found count too
-      ∷ (broken, none)
+      ∷ (broken, None)
       ∷ (take 29 broken, named (67 ∷ []) 1)
       ∷ [])
   -- the premise leaves out exactly the cuts from 28 to 32

@@ -2,10 +2,9 @@
 use Prim.Native.Nat.{ℕ, zero, suc, ◌≤◌, min}
 use Rattle.std.proofs.Math.Decide.{dec_le}
 use Rattle.std.proofs.Common.{arith, sym, ap, ◌∙◌, inr, length-take, take_all, take-take}
-use Rattle.std.specs.Prelude.{◌≡◌, List, [], ◌∷◌, true, false, length, take}
+use Rattle.std.specs.Prelude.{◌≡◌, List, [], ◌∷◌, true, false, length, take, Option, Some, None}
 use Rattle.std.proofs.Math.Path.{refl}
 use Rattle.std.proofs.Math.Bool.{Bool, cond, and-eq-true_iff}
-use Rattle.std.proofs.Math.Option.{Option, some, none}
 use Rattle.runtime.specs.Reads.{Reads, and_then, run, Range, bytes_range, path, All, every, Clear, ends_by}
 use Rattle.runtime.proofs.ReadsLaws.{cut, local, range_bytes}
 use Rattle.runtime.proofs.PathLaws.{bytes_clear, by_ends}
@@ -42,7 +41,7 @@ module _ (image segments : List ℕ) (s : Sections) (c : ℕ) where
 
   -- the only one of which is its row's name: the premise for that text alone
   abbrev pub OwnClear : Key → Type 0
-  OwnClear k = (i : ℕ) → slot_of k ≡ some i → ClearOf image segments s c (NameKey.descriptor i)
+  OwnClear k = (i : ℕ) → slot_of k ≡ Some i → ClearOf image segments s c (NameKey.descriptor i)
 
   pub own_clear : (k : Key) → OwnClear k → All (Clear c) (path image segments (item s k))
   own_clear k clear =
@@ -54,12 +53,12 @@ module _ (image segments : List ℕ) (s : Sections) (c : ℕ) where
   -- ---- what follows
 
   -- what the cut image still gives, the whole image gives, word for word, from bytes before the cut
-  pub survives : (k : Key) (x : Answer) → All (Clear c) (path image segments (item s k)) → run (take c image) segments (item s k) ≡ some x
-      → (run image segments (item s k) ≡ some x) × (every (ends_by c) (path image segments (item s k)) ≡ true)
+  pub survives : (k : Key) (x : Answer) → All (Clear c) (path image segments (item s k)) → run (take c image) segments (item s k) ≡ Some x
+      → (run image segments (item s k) ≡ Some x) × (every (ends_by c) (path image segments (item s k)) ≡ true)
   survives k x clear e = go (every (ends_by c) (path image segments (item s k))) refl (sym (cut_item k clear) ∙ e)
     where
-      go : (b : Bool) → every (ends_by c) (path image segments (item s k)) ≡ b → cond b (run image segments (item s k)) none ≡ some x
-          → (run image segments (item s k) ≡ some x) × (every (ends_by c) (path image segments (item s k)) ≡ true)
+      go : (b : Bool) → every (ends_by c) (path image segments (item s k)) ≡ b → cond b (run image segments (item s k)) None ≡ Some x
+          → (run image segments (item s k) ≡ Some x) × (every (ends_by c) (path image segments (item s k)) ≡ true)
       go true t f = (f, t)
       go false t f = let z : ◌≡◌ {A = ℕ} 0 1 = cc in absurd (omega arith)
 
@@ -91,7 +90,7 @@ module _ (image segments : List ℕ) (s : Sections) (c : ℕ) where
 pub record Cut (image segments strings : List ℕ) (start : ℕ) (s : Sections) (c : ℕ) : Type 0 where
   pub items : (k : Key) → Claim image segments s c k
   pub places : (i m : ℕ)
-      → offsets_told (take c image) segments s i m ≡ cond (every (ends_by c) (path image segments (item s (Key.offsets i m)))) (offsets_told image segments s i m) none
+      → offsets_told (take c image) segments s i m ≡ cond (every (ends_by c) (path image segments (item s (Key.offsets i m)))) (offsets_told image segments s i m) None
   pub texts : (n : NameKey) → ClearOf image segments s c n → TextClaim image segments strings start s c n
 
 module _ (image segments strings : List ℕ) (start : ℕ) (s : Sections) (c : ℕ) where
@@ -126,7 +125,7 @@ module _ (image segments strings : List ℕ) (start : ℕ) (s : Sections) (c : �
   -- address
   pub data Became (n : NameKey) : Type 0 where
     same : beside_of (take c image) segments strings start s n ≡ beside_of image segments strings start s n → Became n
-    missing : beside_of (take c image) segments strings start s n ≡ none → Became n
+    missing : beside_of (take c image) segments strings start s n ≡ None → Became n
     section : is_field n ≡ true → beside_of (take c image) segments strings start s n ≡ section_of image segments strings start s n → Became n
 
   pub becomes : (n : NameKey) → TextClaim image segments strings start s c n → Became n
@@ -134,11 +133,11 @@ module _ (image segments strings : List ℕ) (start : ℕ) (s : Sections) (c : �
   becomes n e = go (every (ends_by c) (path image segments (read_name s n))) (every (ends_by c) (path image segments (name_of s n))) e
     where
       at : Bool → Option Beside
-      at b = and_then (run image segments (name_of s n)) (λ a. cond b (section_beside strings start a) none)
+      at b = and_then (run image segments (name_of s n)) (λ a. cond b (section_beside strings start a) None)
 
-      none_of : (x : Option ℕ) → and_then {B = Beside} x (λ _. none) ≡ none
-      none_of none = refl
-      none_of (some a) = refl
+      none_of : (x : Option ℕ) → and_then {B = Beside} x (λ _. None) ≡ None
+      none_of None = refl
+      none_of (Some a) = refl
 
       of_section : (b : Bool) → is_field n ≡ b → beside_of (take c image) segments strings start s n ≡ at b → Became n
       of_section true t f = section t (f ∙ ap at (sym t))
@@ -146,7 +145,7 @@ module _ (image segments strings : List ℕ) (start : ℕ) (s : Sections) (c : �
 
       go : (a b : Bool)
           → beside_of (take c image) segments strings start s n
-          ≡ cond a (beside_of image segments strings start s n) (cond b (section_of image segments strings start s n) none) → Became n
+          ≡ cond a (beside_of image segments strings start s n) (cond b (section_of image segments strings start s n) None) → Became n
       go true b f = same f
       go false true f = of_section (is_field n) refl f
       go false false f = missing f
@@ -179,19 +178,19 @@ module _ (image segments : List ℕ) (s : Sections) (c : ℕ) (clear : (i : ℕ)
   rows_from_lem (suc n) i = go (rows_from_lem n (suc i)) (run image segments (row_of_slot s i)) refl (every (ends_by c) (path image segments (row_of_slot s i))) refl
     where
       in_cut : run (take c image) segments (row_of_slot s i)
-          ≡ cond (every (ends_by c) (path image segments (row_of_slot s i))) (run image segments (row_of_slot s i)) none
+          ≡ cond (every (ends_by c) (path image segments (row_of_slot s i))) (run image segments (row_of_slot s i)) None
       in_cut = cut image segments c (row_of_slot s i) (row_clear image segments c s i (clear i))
 
       go : rows_from (take c image) segments s.types s.types_start n (suc i) ≡ keep (row_ends_by image segments s c) (rows_from image segments s.types s.types_start n (suc i))
           → (x : Option TypeRow) → run image segments (row_of_slot s i) ≡ x
           → (b : Bool) → every (ends_by c) (path image segments (row_of_slot s i)) ≡ b
           → rows_from (take c image) segments s.types s.types_start (suc n) i ≡ keep (row_ends_by image segments s c) (rows_from image segments s.types s.types_start (suc n) i)
-      go further none e true t = let f : run (take c image) segments (row_of_slot s i) ≡ none = in_cut ∙ rw (t, e) in rw (rows_from, f, e) further
-      go further none e false t = let f : run (take c image) segments (row_of_slot s i) ≡ none = in_cut ∙ rw t in rw (rows_from, f, e) further
-      go further (some r) e true t =
-          let f : run (take c image) segments (row_of_slot s i) ≡ some r = in_cut ∙ rw (t, e) in
+      go further None e true t = let f : run (take c image) segments (row_of_slot s i) ≡ None = in_cut ∙ rw (t, e) in rw (rows_from, f, e) further
+      go further None e false t = let f : run (take c image) segments (row_of_slot s i) ≡ None = in_cut ∙ rw t in rw (rows_from, f, e) further
+      go further (Some r) e true t =
+          let f : run (take c image) segments (row_of_slot s i) ≡ Some r = in_cut ∙ rw (t, e) in
           rw (rows_from, f, e, t) (ap (λ (l : List Found). found i r ∷ l) further)
-      go further (some r) e false t = let f : run (take c image) segments (row_of_slot s i) ≡ none = in_cut ∙ rw t in rw (rows_from, f, e, t) further
+      go further (Some r) e false t = let f : run (take c image) segments (row_of_slot s i) ≡ None = in_cut ∙ rw t in rw (rows_from, f, e, t) further
 
   -- the cut image's rows are, in order, those of the whole one whose paths lie before the cut: the same slots, addresses, flags and names
   pub cut_rows : rows (take c image) segments s.types s.types_start ≡ kept_rows image segments s c

@@ -1,9 +1,8 @@
 -- A small image worked through: the premise for the names of descriptors, contexts and field records does not cover other texts. The image
 -- has 51 bytes, a class `A` whose superclass is `Su`: the cut to 49 is clear of every such name, the body is present, and the name of its
 -- superclass is returned as `S`.
-use Rattle.std.specs.Prelude.{ℕ, zero, suc, ◌≤◌, ◌<◌, ◌≡◌, refl, List, [], ◌∷◌, ◌++◌, Bool, true, false, cond, take, ltb}
+use Rattle.std.specs.Prelude.{ℕ, zero, suc, ◌≤◌, ◌<◌, ◌≡◌, refl, List, [], ◌∷◌, ◌++◌, Bool, true, false, cond, take, ltb, Option, Some, None}
 use Rattle.std.proofs.Common.{arith, inl, inr, ⊎_elim}
-use Rattle.std.proofs.Math.Option.{Option, some, none}
 use Rattle.utf8.specs.Table.{table}
 use Rattle.utf8.specs.Text.{following, goes_on, until_nul, text_length}
 use Rattle.util.specs.Letters.{letters}
@@ -54,10 +53,10 @@ superclass i = beside_of i elder_segments [] 0 elder_sections (NameKey.superclas
 
 -- these bytes at offset 48
 abbrev named : List ℕ → ℕ → Option Beside
-named t n = some (record { place = in_image (place 48 n); bytes = t })
+named t n = Some (record { place = in_image (place 48 n); bytes = t })
 
 pub record ElderWorked : Type 0 where
-  pub whole_body : told_by elder_image elder_segments elder_sections (Key.body 0) ≡ some (Answer.body (of_class 0x1030 (fixed 0 0) 0 0 0))
+  pub whole_body : told_by elder_image elder_segments elder_sections (Key.body 0) ≡ Some (Answer.body (of_class 0x1030 (fixed 0 0) 0 0 0))
   pub whole_name : superclass elder_image ≡ named (letters "Su") 2
   -- the cut to 49 does not fall into the name of a descriptor, a context or a field record
   pub descriptors : (i : ℕ) → ClearOf elder_image elder_segments elder_sections 49 (NameKey.descriptor i)
@@ -72,20 +71,20 @@ pub record ElderWorked : Type 0 where
   pub not_clear : (c : ℕ) → 48 ≤ c → c < 51 → ClearOf elder_image elder_segments elder_sections c (NameKey.superclass 0) → ⊥
 
 -- one slot
-no_slots : (i : ℕ) → run elder_image elder_segments (item elder_sections (Key.row (suc i))) ≡ none
+no_slots : (i : ℕ) → run elder_image elder_segments (item elder_sections (Key.row (suc i))) ≡ None
 no_slots i = no_slot elder_image elder_segments elder_sections (suc i) (omega arith)
 
-no_contexts : (i k : ℕ) → run elder_image elder_segments (item elder_sections (Key.context i k)) ≡ none
+no_contexts : (i k : ℕ) → run elder_image elder_segments (item elder_sections (Key.context i k)) ≡ None
 unfolding run bind bytes_place within text_offset segments_of file_offset decides in_file table following goes_on text_at text_length until_nul unsigned_in signed_in little_at signed_at bytes_at little_endian twos_complement relative_address relative_pointer descriptor row_name slot_row map_reads item header header_in header_at context_of_slot
 no_contexts (suc i) k = no_row elder_image elder_segments elder_sections (Key.context (suc i) k) (suc i) refl (no_slots i)
 no_contexts zero zero = refl
 no_contexts zero (suc k) = go (ltb (suc k) contexts_most)
   where
-    go : (b : Bool) → run elder_image elder_segments (map_reads Answer.context (cond b (bind (row_of_slot elder_sections 0) (λ r. header_at (suc k) r.parent)) nothing)) ≡ none
+    go : (b : Bool) → run elder_image elder_segments (map_reads Answer.context (cond b (bind (row_of_slot elder_sections 0) (λ r. header_at (suc k) r.parent)) nothing)) ≡ None
     go true = refl
     go false = refl
 
-no_fields : (j : ℕ) → run elder_image elder_segments (item elder_sections (Key.field_descriptor j)) ≡ none
+no_fields : (j : ℕ) → run elder_image elder_segments (item elder_sections (Key.field_descriptor j)) ≡ None
 unfolding run bind map_reads item field_step descriptor_from descriptor_at
 no_fields zero = refl
 no_fields (suc j) = refl

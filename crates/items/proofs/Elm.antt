@@ -1,8 +1,7 @@
 -- A third image worked through: the items of a struct. It has singleton records, an offset list, fields, and a context without a name in a
 -- module. Each item's path and what it says are here as numbers, worked out by hand from docs/SPECIFICATION.md (offset + 0x1000 is the
 -- address), and are computed from the definitions.
-use Rattle.std.specs.Prelude.{ℕ, refl, List, [], ◌∷◌, ◌++◌}
-use Rattle.std.proofs.Math.Option.{Option, some, none}
+use Rattle.std.specs.Prelude.{ℕ, refl, List, [], ◌∷◌, ◌++◌, Option, Some, None}
 use Rattle.utf8.specs.Table.{table}
 use Rattle.utf8.specs.Text.{following, goes_on, until_nul, text_length}
 use Rattle.util.specs.Letters.{letters}
@@ -108,31 +107,31 @@ pub record ElmWorked : Type 0 where
       ∷ [])
   -- what they say; nothing past the last
   pub says : Table told
-      ((Key.row 0, some (Answer.row (record { address = 0x1004; flags = 0x90011; parent = 0x1078; name = place 0 3; name_bytes = letters "Elm" })))
-      ∷ (Key.body 0, some (Answer.body (of_struct 2 2)))
-      ∷ (Key.block 0 BlockKind.SingletonMetadataInit, some (Answer.block (initialization_at 0x1020)))
-      ∷ (Key.block 0 BlockKind.SingletonMetadataPointer, some (Answer.block (pointer_at 0x102c)))
-      ∷ (Key.initialization 0, some (Answer.initialization (record { cache = 0; incomplete = 0x1030; completion = 0x1100 })))
-      ∷ (Key.pointer 0, some (Answer.pointer 0x1030))
-      ∷ (Key.offsets 0 0x1030, some (Answer.offsets (0 ∷ 8 ∷ [])))
-      ∷ (Key.context 0 0, some (Answer.context (record { address = 0x1078; flags = 2; parent = 0x1084 })))
-      ∷ (Key.context 0 1, some (Answer.context (record { address = 0x1084; flags = 0; parent = 0 })))
-      ∷ (Key.context 0 2, none)
-      ∷ (Key.field_descriptor 0, some (Answer.field_descriptor (record { address = 0x1048; mangled_type_name_va = 0; superclass_va = 0; kind = FieldDescriptorKind.Struct; field_record_size = 16; num_fields = 2 })))
-      ∷ (Key.field_descriptor 1, none)
-      ∷ (Key.field_record 0 1, some (Answer.field_record (record { address = 0x1068; words = 2 ∷ 0x10a0 ∷ 0x109d ∷ [] })))
-      ∷ (Key.field_record 0 2, none)
+      ((Key.row 0, Some (Answer.row (record { address = 0x1004; flags = 0x90011; parent = 0x1078; name = place 0 3; name_bytes = letters "Elm" })))
+      ∷ (Key.body 0, Some (Answer.body (of_struct 2 2)))
+      ∷ (Key.block 0 BlockKind.SingletonMetadataInit, Some (Answer.block (initialization_at 0x1020)))
+      ∷ (Key.block 0 BlockKind.SingletonMetadataPointer, Some (Answer.block (pointer_at 0x102c)))
+      ∷ (Key.initialization 0, Some (Answer.initialization (record { cache = 0; incomplete = 0x1030; completion = 0x1100 })))
+      ∷ (Key.pointer 0, Some (Answer.pointer 0x1030))
+      ∷ (Key.offsets 0 0x1030, Some (Answer.offsets (0 ∷ 8 ∷ [])))
+      ∷ (Key.context 0 0, Some (Answer.context (record { address = 0x1078; flags = 2; parent = 0x1084 })))
+      ∷ (Key.context 0 1, Some (Answer.context (record { address = 0x1084; flags = 0; parent = 0 })))
+      ∷ (Key.context 0 2, None)
+      ∷ (Key.field_descriptor 0, Some (Answer.field_descriptor (record { address = 0x1048; mangled_type_name_va = 0; superclass_va = 0; kind = FieldDescriptorKind.Struct; field_record_size = 16; num_fields = 2 })))
+      ∷ (Key.field_descriptor 1, None)
+      ∷ (Key.field_record 0 1, Some (Answer.field_record (record { address = 0x1068; words = 2 ∷ 0x10a0 ∷ 0x109d ∷ [] })))
+      ∷ (Key.field_record 0 2, None)
       ∷ [])
   -- each ends where its last range does: a cut there keeps it, and one a byte before does not
   pub cuts : Table (cut_to elm_image elm_segments elm_sections)
       (((44, Key.initialization 0), told (Key.initialization 0))
-      ∷ ((43, Key.initialization 0), none)
+      ∷ ((43, Key.initialization 0), None)
       ∷ ((48, Key.pointer 0), told (Key.pointer 0))
-      ∷ ((47, Key.pointer 0), none)
+      ∷ ((47, Key.pointer 0), None)
       ∷ ((72, Key.offsets 0 0x1030), told (Key.offsets 0 0x1030))
-      ∷ ((71, Key.offsets 0 0x1030), none)
+      ∷ ((71, Key.offsets 0 0x1030), None)
       ∷ ((116, Key.field_record 0 1), told (Key.field_record 0 1))
-      ∷ ((115, Key.field_record 0 1), none)
+      ∷ ((115, Key.field_record 0 1), None)
       ∷ [])
 
 pub elm_worked : ElmWorked

@@ -1,9 +1,8 @@
 -- The texts of the image `Elm`, worked through: what the calls return for each, place and bytes, and what becomes of them in cuts. The cut
 -- to 152 does not fall into a text that the listing looks up: the premise over all texts holds there, though a text that nothing refers to
 -- lies across the cut.
-use Rattle.std.specs.Prelude.{ℕ, zero, suc, ◌≡◌, refl, List, [], ◌∷◌, ◌++◌, take, drop}
+use Rattle.std.specs.Prelude.{ℕ, zero, suc, ◌≡◌, refl, List, [], ◌∷◌, ◌++◌, take, drop, Option, Some, None}
 use Rattle.std.proofs.Common.{arith, ap, ◌∙◌, inl, inr, le-ltb}
-use Rattle.std.proofs.Math.Option.{Option, some, none}
 use Rattle.utf8.specs.Table.{table}
 use Rattle.utf8.specs.Text.{following, goes_on, until_nul, text_length}
 use Rattle.util.specs.Letters.{letters}
@@ -54,7 +53,7 @@ told i n = beside_of i elm_segments strings 0x1099 named n
 
 -- these bytes at an offset of the image
 abbrev text : ℕ → ℕ → List ℕ → Option Beside
-text o n t = some (record { place = in_image (place o n); bytes = t })
+text o n t = Some (record { place = in_image (place o n); bytes = t })
 
 abbrev Clears : NameKey → Type 0
 Clears n = ClearOf elm_image elm_segments Elm.elm_sections 152 n
@@ -63,7 +62,7 @@ pub record ElmBesideWorked : Type 0 where
   pub says : Table (told elm_image)
       -- the names of a row, of a module (an anonymous context has none) and of two fields
       ((NameKey.descriptor 0, text 0 3 (letters "Elm"))
-      ∷ (NameKey.context 0 0, none)
+      ∷ (NameKey.context 0 0, None)
       ∷ (NameKey.context 0 1, text 144 4 (letters "Park"))
       ∷ (NameKey.field 0 0, text 153 3 (letters "age"))
       ∷ (NameKey.field 0 1, text 157 2 (letters "id"))
@@ -71,31 +70,31 @@ pub record ElmBesideWorked : Type 0 where
       ∷ (NameKey.field_type 0 1, text 160 2 (letters "Si"))
       ∷ (NameKey.descriptor_type 0, text 0 3 (letters "Elm"))
       ∷ (NameKey.descriptor_superclass 0, text 160 2 (letters "Si"))
-      ∷ (NameKey.superclass 0, none)
+      ∷ (NameKey.superclass 0, None)
       ∷ [])
   -- cut to 152: the module's name is whole; the names of fields and types are lost, but the string section has one of them
   pub cut_152 : Table (told (take 152 elm_image))
       ((NameKey.context 0 1, told elm_image (NameKey.context 0 1))
-      ∷ (NameKey.field 0 0, some (record { place = in_strings (place 0 3); bytes = letters "old" }))
-      ∷ (NameKey.field 0 1, none)
-      ∷ (NameKey.field_type 0 1, none)
+      ∷ (NameKey.field 0 0, Some (record { place = in_strings (place 0 3); bytes = letters "old" }))
+      ∷ (NameKey.field 0 1, None)
+      ∷ (NameKey.field_type 0 1, None)
       ∷ [])
   -- cut to 143: the module is present without its name, though its offset arrived; cut to 115: field 1 and its name are lost
-  pub lost_name : told (take 143 elm_image) (NameKey.context 0 1) ≡ none
-  pub lost_field : told (take 115 elm_image) (NameKey.field 0 1) ≡ none
+  pub lost_name : told (take 143 elm_image) (NameKey.context 0 1) ≡ None
+  pub lost_field : told (take 115 elm_image) (NameKey.field 0 1) ≡ None
   -- the premise over all texts
   pub clear : (n : NameKey) → Clears n
 
 -- ---- texts beside items that do not exist
 
-lost : (n : NameKey) (k : Key) → beside_key n ≡ some k → run elm_image elm_segments (item Elm.elm_sections k) ≡ none → Clears n
+lost : (n : NameKey) (k : Key) → beside_key n ≡ Some k → run elm_image elm_segments (item Elm.elm_sections k) ≡ None → Clears n
 lost n k e f = nowhere elm_image elm_segments Elm.elm_sections 152 n (no_item elm_image elm_segments Elm.elm_sections n k e f)
 
-no_records : (k : ℕ) → run elm_image elm_segments (item Elm.elm_sections (Key.field_record 0 (suc (suc k)))) ≡ none
+no_records : (k : ℕ) → run elm_image elm_segments (item Elm.elm_sections (Key.field_record 0 (suc (suc k)))) ≡ None
 unfolding run bind unsigned_in signed_in little_at signed_at bytes_at little_endian twos_complement relative_address relative_pointer entry field_step descriptor_from descriptor_at descriptor_record field_kind map_reads item
 no_records k = rw (le-ltb (suc (suc k)) 2 (omega arith)) refl
 
-no_descriptors : (j : ℕ) → run elm_image elm_segments (item Elm.elm_sections (Key.field_descriptor (suc j))) ≡ none
+no_descriptors : (j : ℕ) → run elm_image elm_segments (item Elm.elm_sections (Key.field_descriptor (suc j))) ≡ None
 unfolding run bind unsigned_in signed_in little_at signed_at bytes_at little_endian twos_complement relative_address relative_pointer field_step descriptor_from descriptor_at field_kind map_reads item
 no_descriptors zero = refl
 no_descriptors (suc j) = refl
@@ -104,14 +103,14 @@ pub elm_beside_worked : ElmBesideWorked
 unfolding run bind bytes_place within text_offset text_place extent segments_of file_offset decides in_file table following goes_on text_at part_of text_length until_nul unsigned_in signed_in little_at signed_at bytes_at little_endian twos_complement relative_address relative_pointer descriptor row_name slot_row header_in header name name_at slot_name context_name header_at context_of_slot kind_of context_name_at struct_body body_bytes body slot_body entry_at up_to entry field_step descriptor_from descriptor_at descriptor_record field_kind map_reads name_of section_text field_name told_at beside_of
 elm_beside_worked = record { says = refl; cut_152 = refl; lost_name = refl; lost_field = refl; clear = all }
   where
-    type_at : (k : ℕ) → run elm_image elm_segments (name_of Elm.elm_sections (NameKey.field_type 0 k)) ≡ some 0x10a0 → Clears (NameKey.field_type 0 k)
+    type_at : (k : ℕ) → run elm_image elm_segments (name_of Elm.elm_sections (NameKey.field_type 0 k)) ≡ Some 0x10a0 → Clears (NameKey.field_type 0 k)
     type_at k e = there elm_image elm_segments Elm.elm_sections 152 (NameKey.field_type 0 k) 0x10a0 160 e refl (inl (omega arith))
 
     -- no text is looked up at address 0
-    at_zero : (n : NameKey) → run elm_image elm_segments (name_of Elm.elm_sections n) ≡ some 0 → Clears n
+    at_zero : (n : NameKey) → run elm_image elm_segments (name_of Elm.elm_sections n) ≡ Some 0 → Clears n
     at_zero n e a f o g =
         let q : 0 ≡ a = cc in
-        let u : ◌≡◌ {A = Option ℕ} none (some o) = ap (text_offset elm_segments) q ∙ g in
+        let u : ◌≡◌ {A = Option ℕ} None (Some o) = ap (text_offset elm_segments) q ∙ g in
         let z : ◌≡◌ {A = ℕ} 0 1 = cc in
         absurd (omega arith)
 

@@ -1,9 +1,8 @@
 -- The premise on texts, worked through for all cuts of the image `Elm`: at which cuts it holds for the names of slots' descriptors, of
 -- contexts and of field records, and at which it does not. A text that no name refers to has no premise (`ivy`, 149 to 152), though the
 -- word after a context without a name refers to it; nor has the name of a field's type (`Si`, 160 to 162).
-use Rattle.std.specs.Prelude.{ℕ, zero, suc, ◌≤◌, ◌<◌, ◌≡◌, refl, [], ◌∷◌, Bool, true, false, cond, ltb}
+use Rattle.std.specs.Prelude.{ℕ, zero, suc, ◌≤◌, ◌<◌, ◌≡◌, refl, [], ◌∷◌, Bool, true, false, cond, ltb, Option, Some, None}
 use Rattle.std.proofs.Common.{arith, inl, inr, ⊎_elim, le-ltb}
-use Rattle.std.proofs.Math.Option.{Option, some, none}
 use Rattle.utf8.specs.Table.{table}
 use Rattle.utf8.specs.Text.{following, goes_on, until_nul, text_length}
 use Rattle.util.specs.LittleEndian.{little_endian, bytes_at, little_at, twos_complement, signed_at, unsigned_in, signed_in}
@@ -35,40 +34,40 @@ named n = run elm_image elm_segments (name_of elm_sections n)
 
 -- ---- names that are looked up nowhere
 
-no_row : (i : ℕ) → named (NameKey.descriptor (suc i)) ≡ none
+no_row : (i : ℕ) → named (NameKey.descriptor (suc i)) ≡ None
 unfolding run name_of slot_name_address
 no_row i = rw (le-ltb (suc i) 1 (omega arith)) refl
 
 -- the anonymous context, at 0x1078, has none; the module is the last context; a slot that does not exist has no context
-anonymous : named (NameKey.context 0 0) ≡ none
+anonymous : named (NameKey.context 0 0) ≡ None
 unfolding run bind bytes_place within text_offset segments_of file_offset decides in_file table following goes_on text_at text_length until_nul unsigned_in signed_in little_at signed_at bytes_at little_endian twos_complement relative_address relative_pointer descriptor row_name slot_row header_in header header_at context_of_slot kind_of context_name_at name_of
 anonymous = refl
 
-no_context : (k : ℕ) → named (NameKey.context 0 (suc (suc k))) ≡ none
+no_context : (k : ℕ) → named (NameKey.context 0 (suc (suc k))) ≡ None
 unfolding run bind bytes_place within text_offset segments_of file_offset decides in_file table following goes_on text_at text_length until_nul unsigned_in signed_in little_at signed_at bytes_at little_endian twos_complement relative_address relative_pointer descriptor row_name slot_row header_in header header_at context_of_slot kind_of context_name_at name_of
 no_context k = go (ltb (suc (suc k)) contexts_most) k
   where
-    go : (b : Bool) (k : ℕ) → run elm_image elm_segments (bind (cond b (bind (row_of_slot elm_sections 0) (λ r. header_at (suc (suc k)) r.parent)) nothing) context_name_at) ≡ none
+    go : (b : Bool) (k : ℕ) → run elm_image elm_segments (bind (cond b (bind (row_of_slot elm_sections 0) (λ r. header_at (suc (suc k)) r.parent)) nothing) context_name_at) ≡ None
     go true zero = refl
     go true (suc k) = refl
     go false k = refl
 
-no_slot : (i k : ℕ) → named (NameKey.context (suc i) k) ≡ none
+no_slot : (i k : ℕ) → named (NameKey.context (suc i) k) ≡ None
 unfolding run bind slot_row context_of_slot name_of
 no_slot i k = rw (le-ltb (suc i) 1 (omega arith)) (go (ltb k contexts_most))
   where
     lost : Reads Header
     lost = nothing
 
-    go : (b : Bool) → run elm_image elm_segments (bind (cond b nothing lost) context_name_at) ≡ none
+    go : (b : Bool) → run elm_image elm_segments (bind (cond b nothing lost) context_name_at) ≡ None
     go true = refl
     go false = refl
 
-no_record : (k : ℕ) → named (NameKey.field 0 (suc (suc k))) ≡ none
+no_record : (k : ℕ) → named (NameKey.field 0 (suc (suc k))) ≡ None
 unfolding run bind unsigned_in signed_in little_at signed_at bytes_at little_endian twos_complement relative_address relative_pointer entry field_step descriptor_from descriptor_at descriptor_record field_kind map_reads name_of
 no_record k = rw (le-ltb (suc (suc k)) 2 (omega arith)) refl
 
-no_descriptor : (j k : ℕ) → named (NameKey.field (suc j) k) ≡ none
+no_descriptor : (j k : ℕ) → named (NameKey.field (suc j) k) ≡ None
 unfolding run bind unsigned_in signed_in little_at signed_at bytes_at little_endian twos_complement relative_address relative_pointer entry field_step descriptor_from descriptor_at descriptor_record field_kind map_reads name_of
 no_descriptor zero k = refl
 no_descriptor (suc j) k = refl
@@ -86,7 +85,7 @@ of_field k = NameKey.field 0 k
 
 pub record ElmTextsWorked : Type 0 where
   -- `Elm`, `Park`, `age` and `id`, by their addresses
-  pub places : Table named ((of_row, some 0x1000) ∷ (of_module, some 0x1090) ∷ (of_field 0, some 0x1099) ∷ (of_field 1, some 0x109d) ∷ [])
+  pub places : Table named ((of_row, Some 0x1000) ∷ (of_module, Some 0x1090) ∷ (of_field 0, Some 0x1099) ∷ (of_field 1, Some 0x109d) ∷ [])
   -- the cuts at which the names are clear: of all rows, of all contexts, of all records
   pub rows_clear : (c : ℕ) → 4 ≤ c → (i : ℕ) → Clears c (NameKey.descriptor i)
   pub contexts_clear : (c : ℕ) → Outside 144 149 c → (i k : ℕ) → Clears c (NameKey.context i k)

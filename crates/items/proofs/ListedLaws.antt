@@ -8,10 +8,8 @@ use Rattle.std.proofs.Math.Decide.{dec_lt}
 use Rattle.std.proofs.Common.{arith, ◌∙◌, lt-ltb, le-ltb}
 use Rattle.std.proofs.Math.Path.{◌≡◌, refl, sym, ap}
 use mathlib.Core.List.{List, [], ◌∷◌, map}
-use Rattle.std.specs.Prelude.{Bool, cond, length, take, drop, leb, ltb}
+use Rattle.std.specs.Prelude.{Bool, cond, length, take, drop, leb, ltb, Option, Some, None, option_map}
 use Rattle.std.proofs.Math.Bool.{true, false}
-use Rattle.std.proofs.Math.Option
-use Rattle.std.proofs.Math.Option.{Option, some, none}
 use Rattle.std.proofs.Math.ListN.{get_elem?}
 use Rattle.runtime.specs.Reads.{Reads, done, nothing, and_then, run, bind}
 use Rattle.runtime.proofs.ReadsLaws.{run_bind}
@@ -59,8 +57,8 @@ pub record Item : Type 0 where
   pub answer : Answer
 
 abbrev pub with_item : Key → Option Answer → List Item → List Item
-with_item k none l = l
-with_item k (some a) l = record { key = k; answer = a } ∷ l
+with_item k None l = l
+with_item k (Some a) l = record { key = k; answer = a } ∷ l
 
 -- those of the keys that have an answer, in order
 abbrev pub items_of : List ℕ → List ℕ → Sections → List Key → List Item
@@ -86,8 +84,8 @@ module _ (image segments : List ℕ) (s : Sections) where
       go : map row_item (rows_from image segments s.types s.types_start n (suc i)) ≡ items_of image segments s (row_keys n (suc i))
           → (x : Option TypeRow) → run image segments (row_of_slot s i) ≡ x
           → map row_item (rows_from image segments s.types s.types_start (suc n) i) ≡ items_of image segments s (row_keys (suc n) i)
-      go further none e = rw (rows_from, run_map image segments Answer.row (row_of_slot s i), e) further
-      go further (some r) e = rw (rows_from, run_map image segments Answer.row (row_of_slot s i), e) (ap (λ (l : List Item). row_item (found i r) ∷ l) further)
+      go further None e = rw (rows_from, run_map image segments Answer.row (row_of_slot s i), e) further
+      go further (Some r) e = rw (rows_from, run_map image segments Answer.row (row_of_slot s i), e) (ap (λ (l : List Item). row_item (found i r) ∷ l) further)
 
   -- as many steps as there are slots, or more, give the rows of all slots
   pub rows_listed : (n : ℕ) → slots s.types ≤ n
@@ -96,13 +94,13 @@ module _ (image segments : List ℕ) (s : Sections) where
   rows_listed n h = rw (stepped_rows_lem image segments s.types s.types_start n h) (rows_items (slots s.types) 0)
 
   -- and past the last slot there is none
-  pub no_slot : (i : ℕ) → slots s.types ≤ i → run image segments (item s (Key.row i)) ≡ none
+  pub no_slot : (i : ℕ) → slots s.types ≤ i → run image segments (item s (Key.row i)) ≡ None
   unfolding item
   no_slot i h = run_map image segments Answer.row (row_of_slot s i) ∙ rw (← refers_nowhere image segments s.types s.types_start i (past_slots s.types s.types_start i h))
 
   -- ---- what belongs to a row
 
-  no_row_no_item : (k : Key) (i : ℕ) → slot_of k ≡ some i → ((j : ℕ) → slot_of k ≡ some j → run image segments (row_of_slot s j) ≡ none) → run image segments (item s k) ≡ none
+  no_row_no_item : (k : Key) (i : ℕ) → slot_of k ≡ Some i → ((j : ℕ) → slot_of k ≡ Some j → run image segments (row_of_slot s j) ≡ None) → run image segments (item s k) ≡ None
   unfolding item entry_of_slot context_of_slot run
   no_row_no_item (Key.row i) _ _ e = map_none image segments _ (e i refl) _
   no_row_no_item (Key.body i) _ _ e = map_none image segments _ (Hung.no_row_no_body image segments _ _ i (e i refl)) _
@@ -113,14 +111,14 @@ module _ (image segments : List ℕ) (s : Sections) where
   no_row_no_item (Key.offsets i m) _ _ e = map_none image segments _ (Vector.no_body_no_offsets image segments _ _ i m (Hung.no_row_no_body image segments _ _ i (e i refl))) _
   no_row_no_item (Key.context i k) _ _ e = map_none image segments _ (go (ltb k contexts_most)) _
     where
-      go : (b : Bool) → run image segments (cond b (bind (row_of_slot s i) (λ r. header_at k r.parent)) nothing) ≡ none
+      go : (b : Bool) → run image segments (cond b (bind (row_of_slot s i) (λ r. header_at k r.parent)) nothing) ≡ None
       go true = bind_none image segments (row_of_slot s i) (e i refl) _
       go false = refl
   no_row_no_item (Key.field_descriptor j) i t e = let z : ◌≡◌ {A = ℕ} 0 1 = cc in absurd (omega arith)
   no_row_no_item (Key.field_record j k) i t e = let z : ◌≡◌ {A = ℕ} 0 1 = cc in absurd (omega arith)
 
   -- a slot without a row has no item
-  pub no_row : (k : Key) (i : ℕ) → slot_of k ≡ some i → run image segments (item s (Key.row i)) ≡ none → run image segments (item s k) ≡ none
+  pub no_row : (k : Key) (i : ℕ) → slot_of k ≡ Some i → run image segments (item s (Key.row i)) ≡ None → run image segments (item s k) ≡ None
   unfolding item
   no_row k i t e = no_row_no_item k i t (λ j u. let q : i ≡ j = cc in rw q at (un_map_none image segments Answer.row (row_of_slot s i) e))
 
@@ -135,7 +133,7 @@ abbrev pub block_kinds : List BlockKind
 block_kinds = map (λ (r : BlockRow). r.kind) block_table
 
 -- each kind is one of them
-pub kind_in : (k : BlockKind) → get_elem? block_kinds (row_number k) ≡ some k
+pub kind_in : (k : BlockKind) → get_elem? block_kinds (row_number k) ≡ Some k
 kind_in BlockKind.Generic = refl
 kind_in BlockKind.ResilientSuperclass = refl
 kind_in BlockKind.ForeignMetadataInit = refl
@@ -151,35 +149,35 @@ kind_in BlockKind.DefaultOverrideTable = refl
 abbrev pub block_item : ℕ → Block → Item
 block_item i x = record { key = Key.block i x.kind; answer = Answer.block x }
 
-module _ (image segments : List ℕ) (s : Sections) (i : ℕ) (r : TypeRow) (is_row : run image segments (item s (Key.row i)) ≡ some (Answer.row r)) where
-  the_row : run image segments (row_of_slot s i) ≡ some r
+module _ (image segments : List ℕ) (s : Sections) (i : ℕ) (r : TypeRow) (is_row : run image segments (item s (Key.row i)) ≡ Some (Answer.row r)) where
+  the_row : run image segments (row_of_slot s i) ≡ Some r
   unfolding item
   the_row = un_map image segments Answer.row (row_of_slot s i) r (λ a e. cc) is_row
 
   -- the body that is decoded at a row's address with its flags
-  pub body_listed : run image segments (item s (Key.body i)) ≡ Option.map Answer.body (run image segments (body r.address r.flags))
+  pub body_listed : run image segments (item s (Key.body i)) ≡ option_map Answer.body (run image segments (body r.address r.flags))
   unfolding item
-  body_listed = run_map image segments Answer.body (body_of_slot s i) ∙ ap (Option.map Answer.body) (Hung.slot_body_lem image segments s.types s.types_start i r the_row)
+  body_listed = run_map image segments Answer.body (body_of_slot s i) ∙ ap (option_map Answer.body) (Hung.slot_body_lem image segments s.types s.types_start i r the_row)
 
   -- and without one there are no blocks
-  pub no_body : (k : BlockKind) → run image segments (item s (Key.body i)) ≡ none → run image segments (item s (Key.block i k)) ≡ none
+  pub no_body : (k : BlockKind) → run image segments (item s (Key.body i)) ≡ None → run image segments (item s (Key.block i k)) ≡ None
   unfolding item
   no_body k e =
       map_none image segments _
       (Hung.no_body_no_block image segments s.types s.types_start i r the_row k (un_map_none image segments Answer.body (body_of_slot s i) e)) _
 
-  module _ (b : Body) (is_IsBody : run image segments (item s (Key.body i)) ≡ some (Answer.body b)) where
-    the_body : run image segments (body_of_slot s i) ≡ some b
+  module _ (b : Body) (is_IsBody : run image segments (item s (Key.body i)) ≡ Some (Answer.body b)) where
+    the_body : run image segments (body_of_slot s i) ≡ Some b
     unfolding item
     the_body = un_map image segments Answer.body (body_of_slot s i) b (λ a e. cc) is_IsBody
 
     -- the block of a kind
     pub block_listed : (k : BlockKind)
-        → run image segments (item s (Key.block i k)) ≡ Option.map Answer.block (run image segments (block (trailing r.flags b) (trailing_start r.address b) k))
+        → run image segments (item s (Key.block i k)) ≡ option_map Answer.block (run image segments (block (trailing r.flags b) (trailing_start r.address b) k))
     unfolding item
     block_listed k =
         run_map image segments Answer.block (block_of_slot s i k)
-        ∙ ap (Option.map Answer.block) (Hung.slot_block_lem image segments s.types s.types_start i r the_row b the_body k)
+        ∙ ap (option_map Answer.block) (Hung.slot_block_lem image segments s.types s.types_start i r the_row b the_body k)
 
     blocks_items : (ks : List BlockKind)
         → map (block_item i) (blocks_of image segments (trailing r.flags b) (trailing_start r.address b) ks) ≡ items_of image segments s (block_keys i ks)
@@ -193,8 +191,8 @@ module _ (image segments : List ℕ) (s : Sections) (i : ℕ) (r : TypeRow) (is_
             → (x : Option Block) → run image segments (block (trailing r.flags b) (trailing_start r.address b) k) ≡ x
             → map (block_item i) (with_block (run image segments (block (trailing r.flags b) (trailing_start r.address b) k)) rest)
             ≡ with_item (Key.block i k) (run image segments (item s (Key.block i k))) (items_of image segments s (block_keys i ks))
-        go further none e = rw (block_listed k, e) further
-        go further (some x) e =
+        go further None e = rw (block_listed k, e) further
+        go further (Some x) e =
             let q : x.kind ≡ k = ap (λ (y : Block). y.kind) (block_recorded image segments k (trailing r.flags b) (trailing_start r.address b) x e).is in
             rw (block_listed k, e)
             (ap (λ (j : BlockKind). record { key = Key.block i j; answer = Answer.block x } ∷ map (block_item i) rest) q
@@ -209,69 +207,69 @@ module _ (image segments : List ℕ) (s : Sections) (i : ℕ) (r : TypeRow) (is_
 
     -- the offsets from the descriptor's own singleton pointer are those for the metadata address that it gives, and without one there are
     -- none
-    static_by : static_place image segments r.address r.flags ≡ and_then (run image segments (pointer_of_slot s i)) (offsets_place image segments (some b))
+    static_by : static_place image segments r.address r.flags ≡ and_then (run image segments (pointer_of_slot s i)) (offsets_place image segments (Some b))
     unfolding static_place metadata_at slot_pointer
     static_by =
-        let its : run image segments (body r.address r.flags) ≡ some b = sym (Hung.slot_body_lem image segments s.types s.types_start i r the_row) ∙ the_body in
+        let its : run image segments (body r.address r.flags) ≡ Some b = sym (Hung.slot_body_lem image segments s.types s.types_start i r the_row) ∙ the_body in
         let metadata : run image segments (metadata_at (blocks_start r.address r.flags b)) ≡ run image segments (pointer_of_slot s i)
         = run_bind image segments pointer_of_block (block (trailing r.flags b) (trailing_start r.address b) BlockKind.SingletonMetadataPointer)
         ∙ rw (sym (Hung.slot_block_lem image segments s.types s.types_start i r the_row b the_body BlockKind.SingletonMetadataPointer))
         (sym (run_bind image segments pointer_of_block (block_of_slot s i BlockKind.SingletonMetadataPointer))) in
         rw (its, metadata)
 
-    pub static_offsets_listed : (m : ℕ) → run image segments (item s (Key.pointer i)) ≡ some (Answer.pointer m)
-        → static_place image segments r.address r.flags ≡ offsets_place image segments (some b) m
+    pub static_offsets_listed : (m : ℕ) → run image segments (item s (Key.pointer i)) ≡ Some (Answer.pointer m)
+        → static_place image segments r.address r.flags ≡ offsets_place image segments (Some b) m
     unfolding item
     static_offsets_listed m is_pointer = static_by ∙ rw (un_map image segments Answer.pointer (pointer_of_slot s i) m (λ a e. cc) is_pointer)
 
-    pub no_static : run image segments (item s (Key.pointer i)) ≡ none → static_place image segments r.address r.flags ≡ none
+    pub no_static : run image segments (item s (Key.pointer i)) ≡ None → static_place image segments r.address r.flags ≡ None
     unfolding item
     no_static e = static_by ∙ rw (un_map_none image segments Answer.pointer (pointer_of_slot s i) e)
 
   -- ---- contexts
 
-  past_end : (l : List Context) (k : ℕ) → length l ≤ k → get_elem? l k ≡ none
+  past_end : (l : List Context) (k : ℕ) → length l ≤ k → get_elem? l k ≡ None
   past_end [] k h = refl
   past_end (c ∷ l) zero h = absurd (omega arith)
   past_end (c ∷ l) (suc k) h = past_end l k (omega arith)
 
   -- a walk that starts at the row's parent: 256 steps or more give a list whose context `k` is item `k`, for every `k`
   pub contexts_listed : (n k : ℕ) → contexts_most ≤ n
-      → Option.map (λ (c : Context). Answer.context c.header) (get_elem? (steppedContexts image segments n r.parent 0) k) ≡ run image segments (item s (Key.context i k))
+      → option_map (λ (c : Context). Answer.context c.header) (get_elem? (steppedContexts image segments n r.parent 0) k) ≡ run image segments (item s (Key.context i k))
   unfolding item context_of_slot run context_at with_name
   contexts_listed n k h =
       rw (stepped_chain_all image segments n r.parent h) (go (dec_lt k contexts_most) ∙ sym (run_map image segments Answer.context (context_of_slot s i k)))
     where
-      header : (x : Option Header) → Option.map (λ (c : Context). Answer.context c.header) (Option.map (with_name image segments) x) ≡ Option.map Answer.context x
-      header none = refl
-      header (some h) = refl
+      header : (x : Option Header) → option_map (λ (c : Context). Answer.context c.header) (option_map (with_name image segments) x) ≡ option_map Answer.context x
+      header None = refl
+      header (Some h) = refl
 
       go : Dec (k < contexts_most)
-          → Option.map (λ (c : Context). Answer.context c.header) (get_elem? (chain image segments contexts_most r.parent) k)
-          ≡ Option.map Answer.context (run image segments (context_of_slot s i k))
+          → option_map (λ (c : Context). Answer.context c.header) (get_elem? (chain image segments contexts_most r.parent) k)
+          ≡ option_map Answer.context (run image segments (context_of_slot s i k))
       go (yes l) =
           let its : run image segments (context_of_slot s i k) ≡ run image segments (header_at k r.parent)
           = simp (lt-ltb k contexts_most l) (run_bind image segments (λ r. header_at k r.parent) (row_of_slot s i) ∙ rw the_row) in
-          rw (chain_at image segments contexts_most k r.parent l) (header (run image segments (header_at k r.parent)) ∙ ap (Option.map Answer.context) (sym its))
+          rw (chain_at image segments contexts_most k r.parent l) (header (run image segments (header_at k r.parent)) ∙ ap (option_map Answer.context) (sym its))
       go (no l) =
           rw (past_end (chain image segments contexts_most r.parent) k (omega (arith, chain_length image segments contexts_most r.parent)))
           (simp (le-ltb k contexts_most (omega arith)))
 
   -- and its name is the text beside that item, place and bytes
   pub contexts_named : (strings : List ℕ) (start n k : ℕ) → contexts_most ≤ n
-      → Option.map of_name (and_then (get_elem? (steppedContexts image segments n r.parent 0) k) (λ c. c.name)) ≡ beside_of image segments strings start s (NameKey.context i k)
+      → option_map of_name (and_then (get_elem? (steppedContexts image segments n r.parent 0) k) (λ c. c.name)) ≡ beside_of image segments strings start s (NameKey.context i k)
   unfolding context_of_slot run context_at with_name context_name
   contexts_named strings start n k h =
       rw (stepped_chain_all image segments n r.parent h)
-      (ap (Option.map of_name) (go (dec_lt k contexts_most))
-      ∙ sym (beside_read image segments strings start s (NameKey.context i k) refl ∙ ap (Option.map of_name) its_run))
+      (ap (option_map of_name) (go (dec_lt k contexts_most))
+      ∙ sym (beside_read image segments strings start s (NameKey.context i k) refl ∙ ap (option_map of_name) its_run))
     where
       its_run : run image segments (read_name s (NameKey.context i k)) ≡ and_then (run image segments (context_of_slot s i k)) (λ h. run image segments (name h.address h.flags))
       its_run = ap (run image segments) (context_text s i k) ∙ run_bind image segments (λ h. name h.address h.flags) (context_of_slot s i k)
 
-      named : (x : Option Header) → and_then (Option.map (with_name image segments) x) (λ c. c.name) ≡ and_then x (λ h. run image segments (name h.address h.flags))
-      named none = refl
-      named (some h) = refl
+      named : (x : Option Header) → and_then (option_map (with_name image segments) x) (λ c. c.name) ≡ and_then x (λ h. run image segments (name h.address h.flags))
+      named None = refl
+      named (Some h) = refl
 
       go : Dec (k < contexts_most)
           → and_then (get_elem? (chain image segments contexts_most r.parent) k) (λ c. c.name)
@@ -287,31 +285,31 @@ module _ (image segments : List ℕ) (s : Sections) (i : ℕ) (r : TypeRow) (is_
 -- ---- what belongs to a body
 
 module _ (image segments : List ℕ) (s : Sections) (i m : ℕ) where
-  pub no_offsets : run image segments (item s (Key.body i)) ≡ none → run image segments (item s (Key.offsets i m)) ≡ none
+  pub no_offsets : run image segments (item s (Key.body i)) ≡ None → run image segments (item s (Key.offsets i m)) ≡ None
   unfolding item
   no_offsets e = map_none image segments _ (Vector.no_body_no_offsets image segments _ _ i m (un_map_none image segments Answer.body (body_of_slot s i) e)) _
 
-  module _ (b : Body) (is_IsBody : run image segments (item s (Key.body i)) ≡ some (Answer.body b)) where
-    its_offsets : run image segments (item s (Key.offsets i m)) ≡ Option.map Answer.offsets (run image segments (field_offsets b m))
+  module _ (b : Body) (is_IsBody : run image segments (item s (Key.body i)) ≡ Some (Answer.body b)) where
+    its_offsets : run image segments (item s (Key.offsets i m)) ≡ option_map Answer.offsets (run image segments (field_offsets b m))
     unfolding item
     its_offsets =
         run_map image segments Answer.offsets (offsets_of_slot s i m)
-        ∙ ap (Option.map Answer.offsets) (Vector.slot_offsets_lem image segments s.types s.types_start i m b (un_map image segments Answer.body (body_of_slot s i) b (λ a e. cc) is_IsBody))
+        ∙ ap (option_map Answer.offsets) (Vector.slot_offsets_lem image segments s.types s.types_start i m b (un_map image segments Answer.body (body_of_slot s i) b (λ a e. cc) is_IsBody))
 
     -- the offsets for a metadata address: the numbers of the vector whose place and length the call returns (`offset-nth` has them by their
     -- number)
-    pub offsets_listed : run image segments (item s (Key.offsets i m)) ≡ Option.map (λ v. Answer.offsets (offset_list image v)) (offsets_place image segments (some b) m)
-    offsets_listed = its_offsets ∙ rw (Vector.offsets_run image segments b m) (go (offsets_place image segments (some b) m))
+    pub offsets_listed : run image segments (item s (Key.offsets i m)) ≡ option_map (λ v. Answer.offsets (offset_list image v)) (offsets_place image segments (Some b) m)
+    offsets_listed = its_offsets ∙ rw (Vector.offsets_run image segments b m) (go (offsets_place image segments (Some b) m))
       where
-        go : (x : Option Offsets) → Option.map Answer.offsets (Option.map (offset_list image) x) ≡ Option.map (λ v. Answer.offsets (offset_list image v)) x
-        go none = refl
-        go (some v) = refl
+        go : (x : Option Offsets) → option_map Answer.offsets (option_map (offset_list image) x) ≡ option_map (λ v. Answer.offsets (offset_list image v)) x
+        go None = refl
+        go (Some v) = refl
 
 -- ---- what belongs to a block
 
 pub record TableIn (x : Block) : Type 0 where
   pub table : Table
-  pub is : table_of x ≡ some table
+  pub is : table_of x ≡ Some table
 
 table_in_lem : (e : EntryKind) (x : Block) → RecordedAs (table_kind e) x → TableIn x
 unfolding row_at
@@ -323,12 +321,12 @@ table_in_lem EntryKind.prespecializations x w = record { table = _; is = ap tabl
 module _ (image segments : List ℕ) (s : Sections) (i : ℕ) where
   module _ (e : EntryKind) where
     -- no entries without their block
-    pub no_entry : (k : ℕ) → run image segments (item s (Key.block i (table_kind e))) ≡ none → run image segments (item s (Key.entry i e k)) ≡ none
+    pub no_entry : (k : ℕ) → run image segments (item s (Key.block i (table_kind e))) ≡ None → run image segments (item s (Key.entry i e k)) ≡ None
     unfolding item entry_of_slot
     no_entry k f = map_none image segments _ (bind_none image segments (block_of_slot s i (table_kind e)) (un_map_none image segments Answer.block (block_of_slot s i (table_kind e)) f) _) _
 
-    module _ (x : Block) (is_Block : run image segments (item s (Key.block i (table_kind e))) ≡ some (Answer.block x)) where
-      entries_block : run image segments (block_of_slot s i (table_kind e)) ≡ some x
+    module _ (x : Block) (is_Block : run image segments (item s (Key.block i (table_kind e))) ≡ Some (Answer.block x)) where
+      entries_block : run image segments (block_of_slot s i (table_kind e)) ≡ Some x
       unfolding item
       entries_block = un_map image segments Answer.block (block_of_slot s i (table_kind e)) x (λ a f. cc) is_Block
 
@@ -337,61 +335,61 @@ module _ (image segments : List ℕ) (s : Sections) (i : ℕ) where
       has_entries = table_in_lem e x (Hung.slot_block_recorded image segments _ _ i (table_kind e) x entries_block)
 
       -- a walk that starts at them: as many steps as there are entries, or more, give a list whose entry `k` is item `k`, for every `k`
-      pub entries_listed : (t : Table) → table_of x ≡ some t → (n k : ℕ) → t.count ≤ n
-          → Option.map Answer.entry (get_elem? (listed_entries image segments (entry_layout e) n (start t.base t.count)) k) ≡ run image segments (item s (Key.entry i e k))
+      pub entries_listed : (t : Table) → table_of x ≡ Some t → (n k : ℕ) → t.count ≤ n
+          → option_map Answer.entry (get_elem? (listed_entries image segments (entry_layout e) n (start t.base t.count)) k) ≡ run image segments (item s (Key.entry i e k))
       unfolding item entry_of_slot
       entries_listed t is-table n k h =
           let p : Block → Reads Entry = λ b. needing (table_of b) (λ t. entry (entry_layout e) t.base t.count k) in
           let its : run image segments (entry_of_slot s i e k) ≡ run image segments (entry (entry_layout e) t.base t.count k)
           = run_bind image segments p (block_of_slot s i (table_kind e)) ∙ rw (entries_block, is-table) in
-          ap (Option.map Answer.entry) (entries_listed_all image segments (entry_layout e) t.base t.count n k h ∙ sym its)
+          ap (option_map Answer.entry) (entries_listed_all image segments (entry_layout e) t.base t.count n k h ∙ sym its)
           ∙ sym (run_map image segments Answer.entry (entry_of_slot s i e k))
 
   -- for the four kinds: the calls that step, and their arguments
   module _ (count base n k : ℕ) (h : count ≤ n) where
     -- the entries that a walk from a table's start gives
     abbrev steps : Layout → Option Answer
-    steps layout = Option.map Answer.entry (get_elem? (listed_entries image segments layout n (start base count)) k)
+    steps layout = option_map Answer.entry (get_elem? (listed_entries image segments layout n (start base count)) k)
 
-    pub methods_listed : (offset : ℕ) → run image segments (item s (Key.block i BlockKind.VTable)) ≡ some (Answer.block (table_block BlockKind.VTable offset count base))
+    pub methods_listed : (offset : ℕ) → run image segments (item s (Key.block i BlockKind.VTable)) ≡ Some (Answer.block (table_block BlockKind.VTable offset count base))
         → steps method ≡ run image segments (item s (Key.entry i EntryKind.methods k))
     methods_listed offset e = entries_listed EntryKind.methods (table_block BlockKind.VTable offset count base) e (record { count = count; base = base }) refl n k h
 
-    pub overrides_listed : run image segments (item s (Key.block i BlockKind.OverrideTable)) ≡ some (Answer.block (table_block BlockKind.OverrideTable 0 count base))
+    pub overrides_listed : run image segments (item s (Key.block i BlockKind.OverrideTable)) ≡ Some (Answer.block (table_block BlockKind.OverrideTable 0 count base))
         → steps override ≡ run image segments (item s (Key.entry i EntryKind.overrides k))
     overrides_listed e = entries_listed EntryKind.overrides (table_block BlockKind.OverrideTable 0 count base) e (record { count = count; base = base }) refl n k h
 
-    pub default_overrides_listed : run image segments (item s (Key.block i BlockKind.DefaultOverrideTable)) ≡ some (Answer.block (table_block BlockKind.DefaultOverrideTable 0 count base))
+    pub default_overrides_listed : run image segments (item s (Key.block i BlockKind.DefaultOverrideTable)) ≡ Some (Answer.block (table_block BlockKind.DefaultOverrideTable 0 count base))
         → steps default_override ≡ run image segments (item s (Key.entry i EntryKind.default_overrides k))
     default_overrides_listed e = entries_listed EntryKind.default_overrides (table_block BlockKind.DefaultOverrideTable 0 count base) e (record { count = count; base = base }) refl n k h
 
-    pub prespecializations_listed : run image segments (item s (Key.block i BlockKind.Prespecializations)) ≡ some (Answer.block (table_block BlockKind.Prespecializations 0 count base))
+    pub prespecializations_listed : run image segments (item s (Key.block i BlockKind.Prespecializations)) ≡ Some (Answer.block (table_block BlockKind.Prespecializations 0 count base))
         → steps prespecialization ≡ run image segments (item s (Key.entry i EntryKind.prespecializations k))
     prespecializations_listed e = entries_listed EntryKind.prespecializations (table_block BlockKind.Prespecializations 0 count base) e (record { count = count; base = base }) refl n k h
 
   -- the singleton records, each at its block's address
-  pub no_init : run image segments (item s (Key.block i BlockKind.SingletonMetadataInit)) ≡ none → run image segments (item s (Key.initialization i)) ≡ none
+  pub no_init : run image segments (item s (Key.block i BlockKind.SingletonMetadataInit)) ≡ None → run image segments (item s (Key.initialization i)) ≡ None
   unfolding item
   no_init f = map_none image segments _ (Hung.no_block_no_init image segments _ _ i (un_map_none image segments Answer.block (block_of_slot s i BlockKind.SingletonMetadataInit) f)) _
 
-  pub init_listed : (v : ℕ) → run image segments (item s (Key.block i BlockKind.SingletonMetadataInit)) ≡ some (Answer.block (placed_block BlockKind.SingletonMetadataInit v))
-      → run image segments (item s (Key.initialization i)) ≡ Option.map Answer.initialization (run image segments (singleton_init v))
+  pub init_listed : (v : ℕ) → run image segments (item s (Key.block i BlockKind.SingletonMetadataInit)) ≡ Some (Answer.block (placed_block BlockKind.SingletonMetadataInit v))
+      → run image segments (item s (Key.initialization i)) ≡ option_map Answer.initialization (run image segments (singleton_init v))
   unfolding item
   init_listed v f =
       run_map image segments Answer.initialization (init_of_slot s i)
-      ∙ ap (Option.map Answer.initialization)
+      ∙ ap (option_map Answer.initialization)
       (Hung.slot_init_lem image segments s.types s.types_start i v (un_map image segments Answer.block (block_of_slot s i BlockKind.SingletonMetadataInit) (placed_block BlockKind.SingletonMetadataInit v) (λ a e. cc) f))
 
-  pub no_pointer : run image segments (item s (Key.block i BlockKind.SingletonMetadataPointer)) ≡ none → run image segments (item s (Key.pointer i)) ≡ none
+  pub no_pointer : run image segments (item s (Key.block i BlockKind.SingletonMetadataPointer)) ≡ None → run image segments (item s (Key.pointer i)) ≡ None
   unfolding item
   no_pointer f = map_none image segments _ (Hung.no_block_no_pointer image segments _ _ i (un_map_none image segments Answer.block (block_of_slot s i BlockKind.SingletonMetadataPointer) f)) _
 
-  pub pointer_listed : (v : ℕ) → run image segments (item s (Key.block i BlockKind.SingletonMetadataPointer)) ≡ some (Answer.block (placed_block BlockKind.SingletonMetadataPointer v))
-      → run image segments (item s (Key.pointer i)) ≡ Option.map Answer.pointer (run image segments (singleton_pointer v))
+  pub pointer_listed : (v : ℕ) → run image segments (item s (Key.block i BlockKind.SingletonMetadataPointer)) ≡ Some (Answer.block (placed_block BlockKind.SingletonMetadataPointer v))
+      → run image segments (item s (Key.pointer i)) ≡ option_map Answer.pointer (run image segments (singleton_pointer v))
   unfolding item
   pointer_listed v f =
       run_map image segments Answer.pointer (pointer_of_slot s i)
-      ∙ ap (Option.map Answer.pointer)
+      ∙ ap (option_map Answer.pointer)
       (Hung.slot_pointer_lem image segments s.types s.types_start i v (un_map image segments Answer.block (block_of_slot s i BlockKind.SingletonMetadataPointer) (placed_block BlockKind.SingletonMetadataPointer v) (λ a e. cc) f))
 
 -- ---- fields
@@ -399,15 +397,15 @@ module _ (image segments : List ℕ) (s : Sections) (i : ℕ) where
 module _ (image segments : List ℕ) (s : Sections) where
   -- a walk over the fields section: as many steps as it has room for headers give a list whose descriptor `k` is item `k`, for every `k`
   pub descriptors_listed : (n k : ℕ) → length s.fields < 16 * (n + 1)
-      → Option.map Answer.field_descriptor (get_elem? (listed_descriptors s.fields s.fields_start n 0) k) ≡ run image segments (item s (Key.field_descriptor k))
+      → option_map Answer.field_descriptor (get_elem? (listed_descriptors s.fields s.fields_start n 0) k) ≡ run image segments (item s (Key.field_descriptor k))
   unfolding item
   descriptors_listed n k h =
-      ap (Option.map Answer.field_descriptor) (descriptors-all s.fields s.fields_start image segments n k h)
+      ap (option_map Answer.field_descriptor) (descriptors-all s.fields s.fields_start image segments n k h)
       ∙ sym (run_map image segments Answer.field_descriptor (descriptor_at s.fields s.fields_start k))
 
   module _ (j : ℕ) where
     -- no records without their descriptor
-    pub no_record : (k : ℕ) → run image segments (item s (Key.field_descriptor j)) ≡ none → run image segments (item s (Key.field_record j k)) ≡ none
+    pub no_record : (k : ℕ) → run image segments (item s (Key.field_descriptor j)) ≡ None → run image segments (item s (Key.field_record j k)) ≡ None
     unfolding item descriptor_record
     no_record k e =
         map_none image segments _
@@ -415,12 +413,12 @@ module _ (image segments : List ℕ) (s : Sections) where
         (un_map_none image segments Answer.field_descriptor (descriptor_at s.fields s.fields_start j) e) _) _
 
     -- a walk over a descriptor's records: as many steps as it has records, or more, give a list whose record `k` is item `k`, for every `k`
-    pub records_listed : (d : FieldDescriptor) → run image segments (item s (Key.field_descriptor j)) ≡ some (Answer.field_descriptor d)
+    pub records_listed : (d : FieldDescriptor) → run image segments (item s (Key.field_descriptor j)) ≡ Some (Answer.field_descriptor d)
         → (n k : ℕ) → d.num_fields ≤ n
-        → Option.map Answer.field_record (get_elem? (steppedRecords image segments n (records_of d)) k) ≡ run image segments (item s (Key.field_record j k))
+        → option_map Answer.field_record (get_elem? (steppedRecords image segments n (records_of d)) k) ≡ run image segments (item s (Key.field_record j k))
     unfolding item
     records_listed d is-descriptor n k h =
-        ap (Option.map Answer.field_record)
+        ap (option_map Answer.field_record)
         (listed_records_lem image segments d s.fields s.fields_start j
         (un_map image segments Answer.field_descriptor (descriptor_at s.fields s.fields_start j) d (λ a f. cc) is-descriptor) n k h)
         ∙ sym (run_map image segments Answer.field_record (descriptor_record s.fields s.fields_start j k))

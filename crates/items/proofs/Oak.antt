@@ -1,8 +1,7 @@
 -- A second image worked through, with the items of a row: a class of two methods and one override, in a context without a name, in a
 -- module. The paths are those of docs/SPECIFICATION.md, "Items, paths and the cut", written out as numbers.
-use Rattle.std.specs.Prelude.{ℕ, ◌≤◌, ◌≡◌, refl, List, [], ◌∷◌, ◌++◌}
+use Rattle.std.specs.Prelude.{ℕ, ◌≤◌, ◌≡◌, refl, List, [], ◌∷◌, ◌++◌, Option, Some, None}
 use Rattle.std.proofs.Common.{arith, inr}
-use Rattle.std.proofs.Math.Option.{Option, some, none}
 use Rattle.utf8.specs.Table.{table}
 use Rattle.utf8.specs.Text.{following, goes_on, until_nul, text_length}
 use Rattle.util.specs.Letters.{letters}
@@ -74,10 +73,10 @@ pub record OakWorked : Type 0 where
       ∷ [])
   -- what they say
   pub says : Table told
-      ((Key.block 0 BlockKind.VTable, some (Answer.block (table_block BlockKind.VTable 0 2 0x1038)))
-      ∷ (Key.block 0 BlockKind.OverrideTable, some (Answer.block (table_block BlockKind.OverrideTable 0 1 0x104c)))
-      ∷ (Key.entry 0 EntryKind.methods 1, some (Answer.entry (record { address = 0x1040; words = 17 ∷ 0 ∷ [] })))
-      ∷ (Key.context 0 1, some (Answer.context (record { address = 0x1060; flags = 0; parent = 0 })))
+      ((Key.block 0 BlockKind.VTable, Some (Answer.block (table_block BlockKind.VTable 0 2 0x1038)))
+      ∷ (Key.block 0 BlockKind.OverrideTable, Some (Answer.block (table_block BlockKind.OverrideTable 0 1 0x104c)))
+      ∷ (Key.entry 0 EntryKind.methods 1, Some (Answer.entry (record { address = 0x1040; words = 17 ∷ 0 ∷ [] })))
+      ∷ (Key.context 0 1, Some (Answer.context (record { address = 0x1060; flags = 0; parent = 0 })))
       ∷ [])
   -- the name is the only text, and comes first
   pub clear : (c : ℕ) → 4 ≤ c → All (Clear c) (read_by oak_image oak_segments oak_sections (Key.row 0))
@@ -85,8 +84,8 @@ pub record OakWorked : Type 0 where
   -- after it
   pub cuts : Table (cut_to oak_image oak_segments oak_sections)
       (((72, Key.entry 0 EntryKind.methods 1), told (Key.entry 0 EntryKind.methods 1))
-      ∷ ((71, Key.entry 0 EntryKind.methods 1), none)
-      ∷ ((75, Key.block 0 BlockKind.OverrideTable), none)
+      ∷ ((71, Key.entry 0 EntryKind.methods 1), None)
+      ∷ ((75, Key.block 0 BlockKind.OverrideTable), None)
       ∷ [])
   pub claim_72 : Claim oak_image oak_segments oak_sections 72 (Key.entry 0 EntryKind.methods 1)
   pub claim_71 : Claim oak_image oak_segments oak_sections 71 (Key.entry 0 EntryKind.methods 1)

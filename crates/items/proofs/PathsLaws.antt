@@ -1,11 +1,10 @@
 -- The paths of the items are those of docs/SPECIFICATION.md, "Items, paths and the cut": an equation for each kind of item, each with the
 -- path of the item that it belongs to.
-use Rattle.std.specs.Prelude.{ℕ, suc, ◌+◌, ◌*◌, ◌<◌, ◌≡◌}
+use Rattle.std.specs.Prelude.{ℕ, suc, ◌+◌, ◌*◌, ◌<◌, ◌≡◌, Option, Some, None, unwrap_or}
 use Rattle.std.proofs.Math.Decide.{dec_lt}
 use Rattle.std.proofs.Common.{arith, ◌∙◌, lt-ltb, le-ltb}
 use Rattle.std.proofs.Math.Path.{sym, ap}
 use mathlib.Core.List.{List, [], ◌∷◌, ◌++◌}
-use Rattle.std.proofs.Math.Option.{Option, some, none, get_or}
 use Rattle.util.specs.LittleEndian.{signed_in}
 use Rattle.util.specs.Pointer.{relative_address}
 use Rattle.segment.specs.Segments.{segments_of, file_offset}
@@ -42,11 +41,11 @@ abbrev pub range_at : List ℕ → ℕ → ℕ → Range
 range_at segments a n = bytes_range (offset_or_zero segments a) n
 
 -- the offset of an address, if it has one, is the offset that ranges are counted from
-placed : (segments : List ℕ) (a o : ℕ) → file_offset (segments_of segments) a ≡ some o → file_offset (segments_of segments) a ≡ some (offset_or_zero segments a)
-placed segments a o e = e ∙ ap some (sym (ap (λ (x : Option ℕ). get_or x 0) e))
+placed : (segments : List ℕ) (a o : ℕ) → file_offset (segments_of segments) a ≡ Some o → file_offset (segments_of segments) a ≡ Some (offset_or_zero segments a)
+placed segments a o e = e ∙ ap Some (sym (ap (λ (x : Option ℕ). unwrap_or x 0) e))
 
 -- a context's number is below 256
-context_numbered : (image segments : List ℕ) (s : Sections) (i k : ℕ) (h : Header) → run image segments (context_of_slot s i k) ≡ some h
+context_numbered : (image segments : List ℕ) (s : Sections) (i k : ℕ) (h : Header) → run image segments (context_of_slot s i k) ≡ Some h
     → context_of_slot s i k ≡ bind (row_of_slot s i) (λ r. header_at k r.parent)
 unfolding context_of_slot run
 context_numbered image segments s i k h e = go (dec_lt k contexts_most)
@@ -54,15 +53,15 @@ context_numbered image segments s i k h e = go (dec_lt k contexts_most)
     go : Dec (k < contexts_most) → context_of_slot s i k ≡ bind (row_of_slot s i) (λ r. header_at k r.parent)
     go (yes l) = simp (lt-ltb k contexts_most l)
     go (no l) =
-        let f : ◌≡◌ {A = Option Header} none (some h) = simp (le-ltb k contexts_most (omega arith)) at e in
+        let f : ◌≡◌ {A = Option Header} None (Some h) = simp (le-ltb k contexts_most (omega arith)) at e in
         let z : ◌≡◌ {A = ℕ} 0 1 = cc in
         absurd (omega arith)
 
-module _ (image segments : List ℕ) (s : Sections) (i : ℕ) (r : TypeRow) (er : run image segments (row_of_slot s i) ≡ some r) (k : ℕ) (h : Header) where
-  context_run : run image segments (bind (row_of_slot s i) (λ r. header_at k r.parent)) ≡ some h → run image segments (header_at k r.parent) ≡ some h
+module _ (image segments : List ℕ) (s : Sections) (i : ℕ) (r : TypeRow) (er : run image segments (row_of_slot s i) ≡ Some r) (k : ℕ) (h : Header) where
+  context_run : run image segments (bind (row_of_slot s i) (λ r. header_at k r.parent)) ≡ Some h → run image segments (header_at k r.parent) ≡ Some h
   context_run e = rw er at (sym (run_bind image segments (λ r. header_at k r.parent) (row_of_slot s i)) ∙ e)
 
-  context_reads : run image segments (context_of_slot s i k) ≡ some h
+  context_reads : run image segments (context_of_slot s i k) ≡ Some h
       → path image segments (context_of_slot s i k) ≡ path image segments (row_of_slot s i) ++ context_ranges segments (chain image segments (suc k) r.parent)
   context_reads e =
       ap (path image segments) (context_numbered image segments s i k h e)
@@ -77,12 +76,12 @@ module _ (image segments : List ℕ) where
 
     -- ---- rows
 
-    module _ (r : TypeRow) (is_row : run image segments (item s (Key.row i)) ≡ some (Answer.row r)) where
-      the_row : run image segments (row_of_slot s i) ≡ some r
+    module _ (r : TypeRow) (is_row : run image segments (item s (Key.row i)) ≡ Some (Answer.row r)) where
+      the_row : run image segments (row_of_slot s i) ≡ Some r
       unfolding item
       the_row = un_map image segments Answer.row (row_of_slot s i) r (λ a e. cc) is_row
 
-      row_placed : file_offset (segments_of segments) address ≡ some (offset_or_zero segments address)
+      row_placed : file_offset (segments_of segments) address ≡ Some (offset_or_zero segments address)
       unfolding descriptor
       row_placed =
           let p = Slot.slot_program image segments s.types s.types_start i r the_row in
@@ -98,12 +97,12 @@ module _ (image segments : List ℕ) where
 
       -- ---- bodies
 
-      module _ (b : Body) (is_IsBody : run image segments (item s (Key.body i)) ≡ some (Answer.body b)) where
-        the_body : run image segments (body_of_slot s i) ≡ some b
+      module _ (b : Body) (is_IsBody : run image segments (item s (Key.body i)) ≡ Some (Answer.body b)) where
+        the_body : run image segments (body_of_slot s i) ≡ Some b
         unfolding item
         the_body = un_map image segments Answer.body (body_of_slot s i) b (λ a e. cc) is_IsBody
 
-        body_placed : file_offset (segments_of segments) (address + 20) ≡ some (offset_or_zero segments (address + 20))
+        body_placed : file_offset (segments_of segments) (address + 20) ≡ Some (offset_or_zero segments (address + 20))
         body_placed =
             let q = Hung.slot_row_address image segments s.types s.types_start i r the_row in
             let w = Hung.body_read image segments r.address b r.flags (sym (Hung.slot_body_lem image segments s.types s.types_start i r the_row) ∙ the_body) in
@@ -120,12 +119,12 @@ module _ (image segments : List ℕ) where
         -- ---- blocks
 
         -- the body's path, the headers of the earlier blocks that are present, and its own if it has one
-        pub item_block_path : (k : BlockKind) (x : Block) → run image segments (item s (Key.block i k)) ≡ some (Answer.block x)
+        pub item_block_path : (k : BlockKind) (x : Block) → run image segments (item s (Key.block i k)) ≡ Some (Answer.block x)
             → path image segments (item s (Key.block i k))
             ≡ path image segments (item s (Key.body i)) ++ headers image segments (trailing r.flags b) (trailing_start r.address b) (suc (row_number k))
         unfolding item
         item_block_path k x is_Block =
-            let there : run image segments (block_of_slot s i k) ≡ some x = un_map image segments Answer.block (block_of_slot s i k) x (λ a e. cc) is_Block in
+            let there : run image segments (block_of_slot s i k) ≡ Some x = un_map image segments Answer.block (block_of_slot s i k) x (λ a e. cc) is_Block in
             let its = Hung.slot_block_lem image segments s.types s.types_start i r the_row b the_body k in
             path_map image segments Answer.block (block_of_slot s i k)
             ∙ Hung.slot_block_path image segments s.types s.types_start i r the_row b the_body k
@@ -134,7 +133,7 @@ module _ (image segments : List ℕ) where
       -- ---- contexts
 
       -- the row's path, and 8 bytes of each context up to it
-      pub item_context_path : (k : ℕ) (h : Header) → run image segments (item s (Key.context i k)) ≡ some (Answer.context h)
+      pub item_context_path : (k : ℕ) (h : Header) → run image segments (item s (Key.context i k)) ≡ Some (Answer.context h)
           → path image segments (item s (Key.context i k)) ≡ path image segments (item s (Key.row i)) ++ context_ranges segments (chain image segments (suc k) r.parent)
       unfolding item
       item_context_path k h is-context =
@@ -145,15 +144,15 @@ module _ (image segments : List ℕ) where
     -- ---- what belongs to a body
 
     -- an offset list for a metadata address: the body's path, and the vector's bytes
-    pub item_offsets_path : (f v m : ℕ) (l : List ℕ) → run image segments (item s (Key.body i)) ≡ some (Answer.body (of_struct f v))
-        → run image segments (item s (Key.offsets i m)) ≡ some (Answer.offsets l)
+    pub item_offsets_path : (f v m : ℕ) (l : List ℕ) → run image segments (item s (Key.body i)) ≡ Some (Answer.body (of_struct f v))
+        → run image segments (item s (Key.offsets i m)) ≡ Some (Answer.offsets l)
         → path image segments (item s (Key.offsets i m)) ≡ path image segments (item s (Key.body i)) ++ (range_at segments (m + 8 * v) (4 * f) ∷ [])
     unfolding item field_offsets
     item_offsets_path f v m l is_IsBody is-offsets =
-        let b : run image segments (body_of_slot s i) ≡ some (of_struct f v) = un_map image segments Answer.body (body_of_slot s i) (of_struct f v) (λ a e. cc) is_IsBody in
-        let there : run image segments (offsets_of_slot s i m) ≡ some l = un_map image segments Answer.offsets (offsets_of_slot s i m) l (λ a e. cc) is-offsets in
+        let b : run image segments (body_of_slot s i) ≡ Some (of_struct f v) = un_map image segments Answer.body (body_of_slot s i) (of_struct f v) (λ a e. cc) is_IsBody in
+        let there : run image segments (offsets_of_slot s i m) ≡ Some l = un_map image segments Answer.offsets (offsets_of_slot s i m) l (λ a e. cc) is-offsets in
         let o = Vector.offsets_body image segments s.types s.types_start i m l there in
-        let t : some (of_struct o.fields o.word) ≡ some (of_struct f v) = sym o.there ∙ b in
+        let t : Some (of_struct o.fields o.word) ≡ Some (of_struct f v) = sym o.there ∙ b in
         let ef : o.fields ≡ f = cc in
         let ev : o.word ≡ v = cc in
         let wants : Vector.Wants f v m
@@ -163,7 +162,7 @@ module _ (image segments : List ℕ) where
           metadata = o.wants.metadata;
           below = omega (arith, o.wants.below);
         } in
-        let its : run image segments (bytes (m + 8 * v) (4 * f) (λ h. done (u32s f h))) ≡ some l
+        let its : run image segments (bytes (m + 8 * v) (4 * f) (λ h. done (u32s f h))) ≡ Some l
         = rw (Vector.vector_at f v m wants) at (sym (Vector.slot_offsets_lem image segments s.types s.types_start i m (of_struct f v) b) ∙ there) in
         let w = bytes_read_lem image segments (m + 8 * v) l (4 * f) (λ h. done (u32s f h)) its in
         path_map image segments Answer.offsets (offsets_of_slot s i m)
@@ -172,8 +171,8 @@ module _ (image segments : List ℕ) where
 
     -- ---- what belongs to a block
 
-    module _ (k : BlockKind) (x : Block) (is_Block : run image segments (item s (Key.block i k)) ≡ some (Answer.block x)) where
-      the_block : run image segments (block_of_slot s i k) ≡ some x
+    module _ (k : BlockKind) (x : Block) (is_Block : run image segments (item s (Key.block i k)) ≡ Some (Answer.block x)) where
+      the_block : run image segments (block_of_slot s i k) ≡ Some x
       unfolding item
       the_block = un_map image segments Answer.block (block_of_slot s i k) x (λ a e. cc) is_Block
 
@@ -182,13 +181,13 @@ module _ (image segments : List ℕ) where
       block_reads = path_map image segments Answer.block (block_of_slot s i k)
 
     -- an entry: its block's path, and all entries up to it
-    pub item_entry_path : (e : EntryKind) (k : ℕ) (x : Block) (t : Table) (y : Entry) → run image segments (item s (Key.block i (table_kind e))) ≡ some (Answer.block x)
-        → table_of x ≡ some t → run image segments (item s (Key.entry i e k)) ≡ some (Answer.entry y)
+    pub item_entry_path : (e : EntryKind) (k : ℕ) (x : Block) (t : Table) (y : Entry) → run image segments (item s (Key.block i (table_kind e))) ≡ Some (Answer.block x)
+        → table_of x ≡ Some t → run image segments (item s (Key.entry i e k)) ≡ Some (Answer.entry y)
         → path image segments (item s (Key.entry i e k)) ≡ path image segments (item s (Key.block i (table_kind e))) ++ ranges segments (entry_layout e) t.base k
     unfolding item entry_of_slot
     item_entry_path e k x t y is_Block is-table is-entry =
         let p : Block → Reads Entry = λ b. needing (table_of b) (λ t. entry (entry_layout e) t.base t.count k) in
-        let there : run image segments (entry_of_slot s i e k) ≡ some y = un_map image segments Answer.entry (entry_of_slot s i e k) y (λ a e. cc) is-entry in
+        let there : run image segments (entry_of_slot s i e k) ≡ Some y = un_map image segments Answer.entry (entry_of_slot s i e k) y (λ a e. cc) is-entry in
         let its : run image segments (entry_of_slot s i e k) ≡ run image segments (entry (entry_layout e) t.base t.count k)
         = run_bind image segments p (block_of_slot s i (table_kind e)) ∙ rw (the_block (table_kind e) x is_Block, is-table) in
         path_map image segments Answer.entry (entry_of_slot s i e k)
@@ -197,25 +196,25 @@ module _ (image segments : List ℕ) where
         (ap (λ (l : List Range). l ++ ranges segments (entry_layout e) t.base k) (sym (block_reads (table_kind e) x is_Block)))
 
     -- singleton records: their block's path, and the 12 or 4 bytes that they read
-    pub item_init_path : (v : ℕ) (y : Initialization) → run image segments (item s (Key.block i BlockKind.SingletonMetadataInit)) ≡ some (Answer.block (placed_block BlockKind.SingletonMetadataInit v))
-        → run image segments (item s (Key.initialization i)) ≡ some (Answer.initialization y)
+    pub item_init_path : (v : ℕ) (y : Initialization) → run image segments (item s (Key.block i BlockKind.SingletonMetadataInit)) ≡ Some (Answer.block (placed_block BlockKind.SingletonMetadataInit v))
+        → run image segments (item s (Key.initialization i)) ≡ Some (Answer.initialization y)
         → path image segments (item s (Key.initialization i)) ≡ path image segments (item s (Key.block i BlockKind.SingletonMetadataInit)) ++ (range_at segments v 12 ∷ [])
     unfolding item singleton_init
     item_init_path v y is_Block is-init =
         let b = the_block BlockKind.SingletonMetadataInit (placed_block BlockKind.SingletonMetadataInit v) is_Block in
-        let there : run image segments (init_of_slot s i) ≡ some y = un_map image segments Answer.initialization (init_of_slot s i) y (λ a e. cc) is-init in
+        let there : run image segments (init_of_slot s i) ≡ Some y = un_map image segments Answer.initialization (init_of_slot s i) y (λ a e. cc) is-init in
         let w = bytes_read_lem image segments v y 12 (targets v) (sym (Hung.slot_init_lem image segments s.types s.types_start i v b) ∙ there) in
         path_map image segments Answer.initialization (init_of_slot s i)
         ∙ Hung.init_path image segments s.types s.types_start i v b y (offset_or_zero segments v) there (placed segments v w.offset w.at)
         ∙ ap (λ (l : List Range). l ++ (range_at segments v 12 ∷ [])) (sym (block_reads BlockKind.SingletonMetadataInit (placed_block BlockKind.SingletonMetadataInit v) is_Block))
 
-    pub item_pointer_path : (v y : ℕ) → run image segments (item s (Key.block i BlockKind.SingletonMetadataPointer)) ≡ some (Answer.block (placed_block BlockKind.SingletonMetadataPointer v))
-        → run image segments (item s (Key.pointer i)) ≡ some (Answer.pointer y)
+    pub item_pointer_path : (v y : ℕ) → run image segments (item s (Key.block i BlockKind.SingletonMetadataPointer)) ≡ Some (Answer.block (placed_block BlockKind.SingletonMetadataPointer v))
+        → run image segments (item s (Key.pointer i)) ≡ Some (Answer.pointer y)
         → path image segments (item s (Key.pointer i)) ≡ path image segments (item s (Key.block i BlockKind.SingletonMetadataPointer)) ++ (range_at segments v 4 ∷ [])
     unfolding item singleton_pointer
     item_pointer_path v y is_Block is_pointer =
         let b = the_block BlockKind.SingletonMetadataPointer (placed_block BlockKind.SingletonMetadataPointer v) is_Block in
-        let there : run image segments (pointer_of_slot s i) ≡ some y = un_map image segments Answer.pointer (pointer_of_slot s i) y (λ a e. cc) is_pointer in
+        let there : run image segments (pointer_of_slot s i) ≡ Some y = un_map image segments Answer.pointer (pointer_of_slot s i) y (λ a e. cc) is_pointer in
         let w = bytes_read_lem image segments v y 4 (λ h. done (relative_address v (signed_in 4 h 0))) (sym (Hung.slot_pointer_lem image segments s.types s.types_start i v b) ∙ there) in
         path_map image segments Answer.pointer (pointer_of_slot s i)
         ∙ Hung.pointer_path image segments s.types s.types_start i v b y (offset_or_zero segments v) there (placed segments v w.offset w.at)
@@ -232,8 +231,8 @@ module _ (image segments : List ℕ) where
         ∙ no_bytes image segments s.fields s.fields_start j
 
     -- a field record: the 12 bytes of each record up to it
-    pub item_record_path : (k : ℕ) (d : FieldDescriptor) (e : Entry) → run image segments (item s (Key.field_descriptor j)) ≡ some (Answer.field_descriptor d)
-        → run image segments (item s (Key.field_record j k)) ≡ some (Answer.field_record e)
+    pub item_record_path : (k : ℕ) (d : FieldDescriptor) (e : Entry) → run image segments (item s (Key.field_descriptor j)) ≡ Some (Answer.field_descriptor d)
+        → run image segments (item s (Key.field_record j k)) ≡ Some (Answer.field_record e)
         → path image segments (item s (Key.field_record j k)) ≡ ranges segments (record_layout d.field_record_size) (records_base d.address) k
     unfolding item
     item_record_path k d e is-descriptor is-record =

@@ -6,8 +6,7 @@ use Prim.Native.Nat.{ℕ, ◌+◌, ◌*◌, ◌^◌, ◌≤◌}
 use Rattle.std.proofs.Common.{arith, sym, ap, ◌∙◌, le-ltb}
 use Rattle.std.proofs.Math.Path.{◌≡◌, refl, fun_ext}
 use mathlib.Core.List.{List, [], ◌∷◌, ◌++◌}
-use Rattle.std.specs.Prelude.{Bool, true, false, cond, drop, leb, ltb, eqb}
-use Rattle.std.proofs.Math.Option.{Option, some, none, map}
+use Rattle.std.specs.Prelude.{Bool, true, false, cond, drop, leb, ltb, eqb, Option, Some, None, option_map}
 use Rattle.utf8.specs.Text.{until_nul}
 use Rattle.util.specs.LittleEndian.{unsigned_in, signed_in}
 use Rattle.util.specs.Pointer.{relative_pointer}
@@ -54,8 +53,8 @@ unfolding read_name name_of slot_name_address slot_row map_reads bind
 row_text s i = go (slot_descriptor s.types s.types_start i)
   where
     go : (t : Option ℕ) → bind (read_at t descriptor_name) lookup ≡ bind (read_at t descriptor) (λ r. done (row_named r))
-    go none = refl
-    go (some a) = descriptor_text a
+    go None = refl
+    go (Some a) = descriptor_text a
 
 -- a context's
 pub header_text : (h : Header) → bind (context_name_at h) lookup ≡ name h.address h.flags
@@ -89,13 +88,13 @@ module _ (image segments : List ℕ) (c : ℕ) where
       named p t = record { place = p; bytes = t }
 
       after : (o : ℕ) (y : Option Place) → All (Clear c) (also y (λ p. path image segments (done (named p (until_nul (drop o image))))))
-      after o none = tt
-      after o (some p) = tt
+      after o None = tt
+      after o (Some p) = tt
 
       go : (x : Option ℕ) → text_offset segments a ≡ x
           → All (Clear c) (also x (λ o. text_range image o ∷ also (text_at image o) (λ p. path image segments (done (named p (until_nul (drop o image)))))))
-      go none e = tt
-      go (some o) e = (h o e, after o (text_at image o))
+      go None e = tt
+      go (Some o) e = (h o e, after o (text_at image o))
 
   pub clear_lookup : (a : ℕ) → All (Clear c) (path image segments (lookup a)) → ClearAt image segments c a
   unfolding path lookup
@@ -104,14 +103,14 @@ module _ (image segments : List ℕ) (c : ℕ) where
   -- ---- at the address that a program gives
 
   abbrev pub ClearBy : Reads ℕ → Type 0
-  ClearBy p = (v : ℕ) → run image segments p ≡ some v → ClearAt image segments c v
+  ClearBy p = (v : ℕ) → run image segments p ≡ Some v → ClearAt image segments c v
 
   pub text_clear : (p : Reads ℕ) → All (Clear c) (path image segments p) → ClearBy p → All (Clear c) (path image segments (bind p lookup))
   text_clear p h f = rw (path_bind image segments lookup p) (all_append (Clear c) (path image segments p) _ h (go (run image segments p) refl))
     where
       go : (x : Option ℕ) → run image segments p ≡ x → All (Clear c) (also x (λ a. path image segments (lookup a)))
-      go none e = tt
-      go (some a) e = lookup_clear a (f a e)
+      go None e = tt
+      go (Some a) e = lookup_clear a (f a e)
 
   all_second : (l m : List Range) → All (Clear c) (l ++ m) → All (Clear c) m
   all_second [] m h = h
@@ -132,7 +131,7 @@ module _ (image segments : List ℕ) (c : ℕ) where
         rw (row_text s i, path_map image segments row_named (row_of_slot s i)) at w
 
     -- the path of a name is clear if the name is, and the name of the row that it belongs to
-    pub name_clear : (n : NameKey) → ((i : ℕ) → beside_row n ≡ some i → ClearOf image segments s c (NameKey.descriptor i)) → ClearOf image segments s c n
+    pub name_clear : (n : NameKey) → ((i : ℕ) → beside_row n ≡ Some i → ClearOf image segments s c (NameKey.descriptor i)) → ClearOf image segments s c n
         → All (Clear c) (path image segments (read_name s n))
     unfolding read_name
     name_clear n rows h =
@@ -158,12 +157,12 @@ module _ (image segments : List ℕ) (c : ℕ) where
     clear_context i k h = clear_name (NameKey.context i k) (rw (context_text s i k) h)
 
     pub clear_field : (j k : ℕ)
-        → ((e : Entry) → run image segments (descriptor_record s.fields s.fields_start j k) ≡ some e → All (Clear c) (path image segments (lookup (record_name e))))
+        → ((e : Entry) → run image segments (descriptor_record s.fields s.fields_start j k) ≡ Some e → All (Clear c) (path image segments (lookup (record_name e))))
         → ClearOf image segments s c (NameKey.field j k)
     unfolding name_of
     clear_field j k h a e = go (run image segments (descriptor_record s.fields s.fields_start j k)) refl (sym (run_map image segments record_name (descriptor_record s.fields s.fields_start j k)) ∙ e)
       where
         go : (x : Option Entry) → run image segments (descriptor_record s.fields s.fields_start j k) ≡ x
-            → map record_name x ≡ some a → ClearAt image segments c a
-        go none t f = let z : ◌≡◌ {A = ℕ} 0 1 = cc in absurd (omega arith)
-        go (some y) t f = let q : record_name y ≡ a = cc in rw q at (clear_lookup (record_name y) (h y t))
+            → option_map record_name x ≡ Some a → ClearAt image segments c a
+        go None t f = let z : ◌≡◌ {A = ℕ} 0 1 = cc in absurd (omega arith)
+        go (Some y) t f = let q : record_name y ≡ a = cc in rw q at (clear_lookup (record_name y) (h y t))

@@ -3,11 +3,10 @@
 -- name's address (`on-name`).
 use Prim.Native.Nat.{ℕ, zero, suc, ◌+◌, ◌-◌, ◌*◌, ◌^◌}
 use Rattle.std.proofs.Common.{arith, sym, ap, ◌∙◌}
-use Rattle.std.specs.Prelude.{◌≡◌, Bool, cond, ◌&&◌, take, drop, leb, ltb, eqb}
+use Rattle.std.specs.Prelude.{◌≡◌, Bool, cond, ◌&&◌, take, drop, leb, ltb, eqb, Option, Some, None, option_map}
 use Rattle.std.proofs.Math.Path.{refl}
 use mathlib.Core.List.{List, [], ◌∷◌, ◌++◌, append-nil}
 use Rattle.std.proofs.Math.Bool.{true, false, and_assoc}
-use Rattle.std.proofs.Math.Option.{Option, some, none, map}
 use Rattle.runtime.specs.Reads.{Reads, done, nothing, bytes, and_then, bytes_place, run, Range, bytes_range, also, path, bind, All, every}
 use Rattle.runtime.proofs.ReadsLaws.{run_bind, path_bind}
 use Rattle.util.specs.LittleEndian.{unsigned_in}
@@ -33,45 +32,45 @@ use Rattle.items.specs.Texts.{NameKey, descriptor_name, slot_name_address, conte
 -- ---- an answer under another name
 
 module _ (image segments : List ℕ) {A B : Type 0} (f : A → B) (p : Reads A) where
-  pub run_map : run image segments (map_reads f p) ≡ map f (run image segments p)
+  pub run_map : run image segments (map_reads f p) ≡ option_map f (run image segments p)
   unfolding map_reads run
   run_map = run_bind image segments (λ a. done (f a)) p ∙ go (run image segments p)
     where
-      go : (x : Option A) → and_then x (λ a. some (f a)) ≡ map f x
-      go none = refl
-      go (some a) = refl
+      go : (x : Option A) → and_then x (λ a. Some (f a)) ≡ option_map f x
+      go None = refl
+      go (Some a) = refl
 
   pub path_map : path image segments (map_reads f p) ≡ path image segments p
   unfolding map_reads path
   path_map = path_bind image segments (λ a. done (f a)) p ∙ go (run image segments p)
     where
       go : (x : Option A) → path image segments p ++ also x (λ _. []) ≡ path image segments p
-      go none = append-nil _
-      go (some a) = append-nil _
+      go None = append-nil _
+      go (Some a) = append-nil _
 
 -- what depends on something that does not exist does not exist
-module _ (image segments : List ℕ) {A B : Type 0} (p : Reads A) (e : run image segments p ≡ none) where
-  pub map_none : (f : A → B) → run image segments (map_reads f p) ≡ none
+module _ (image segments : List ℕ) {A B : Type 0} (p : Reads A) (e : run image segments p ≡ None) where
+  pub map_none : (f : A → B) → run image segments (map_reads f p) ≡ None
   map_none f = run_map image segments f p ∙ rw e
 
-  pub bind_none : (f : A → Reads B) → run image segments (bind p f) ≡ none
+  pub bind_none : (f : A → Reads B) → run image segments (bind p f) ≡ None
   bind_none f = run_bind image segments f p ∙ rw e
 
 -- a program whose renamed answer is known has the answer under its own name
 pub un_map : (image segments : List ℕ) {A B : Type 0} (f : A → B) (p : Reads A) (x : A) → ((a : A) → f a ≡ f x → a ≡ x)
-    → run image segments (map_reads f p) ≡ some (f x) → run image segments p ≡ some x
+    → run image segments (map_reads f p) ≡ Some (f x) → run image segments p ≡ Some x
 un_map image segments {A} f p x same e = go (run image segments p) (sym (run_map image segments f p) ∙ e)
   where
-    go : (y : Option A) → map f y ≡ some (f x) → y ≡ some x
-    go none g = let z : ◌≡◌ {A = ℕ} 0 1 = cc in absurd (omega arith)
-    go (some a) g = ap some (same a (let h : f a ≡ f x = cc in h))
+    go : (y : Option A) → option_map f y ≡ Some (f x) → y ≡ Some x
+    go None g = let z : ◌≡◌ {A = ℕ} 0 1 = cc in absurd (omega arith)
+    go (Some a) g = ap Some (same a (let h : f a ≡ f x = cc in h))
 
-pub un_map_none : (image segments : List ℕ) {A B : Type 0} (f : A → B) (p : Reads A) → run image segments (map_reads f p) ≡ none → run image segments p ≡ none
+pub un_map_none : (image segments : List ℕ) {A B : Type 0} (f : A → B) (p : Reads A) → run image segments (map_reads f p) ≡ None → run image segments p ≡ None
 un_map_none image segments {A} {B} f p e = go (run image segments p) (sym (run_map image segments f p) ∙ e)
   where
-    go : (y : Option A) → ◌≡◌ {A = Option B} (map f y) none → y ≡ none
-    go none g = refl
-    go (some a) g = let z : ◌≡◌ {A = ℕ} 0 1 = cc in absurd (omega arith)
+    go : (y : Option A) → ◌≡◌ {A = Option B} (option_map f y) None → y ≡ None
+    go None g = refl
+    go (Some a) g = let z : ◌≡◌ {A = ℕ} 0 1 = cc in absurd (omega arith)
 
 -- ---- what holds of every range of bytes
 
@@ -85,13 +84,13 @@ every_append t (r ∷ l) m = ap (λ (b : Bool). t r && b) (every_append t l m) �
 
 -- the slot of the row that a text beside an item belongs to; a row's own name has none
 abbrev pub beside_row : NameKey → Option ℕ
-beside_row (NameKey.descriptor i) = none
-beside_row (NameKey.context i k) = some i
-beside_row (NameKey.field j k) = none
-beside_row (NameKey.superclass i) = some i
-beside_row (NameKey.field_type j k) = none
-beside_row (NameKey.descriptor_type j) = none
-beside_row (NameKey.descriptor_superclass j) = none
+beside_row (NameKey.descriptor i) = None
+beside_row (NameKey.context i k) = Some i
+beside_row (NameKey.field j k) = None
+beside_row (NameKey.superclass i) = Some i
+beside_row (NameKey.field_type j k) = None
+beside_row (NameKey.descriptor_type j) = None
+beside_row (NameKey.descriptor_superclass j) = None
 
 -- P holds of each range of the path
 pub record Each (image segments : List ℕ) (P : Range → Type 0) {A : Type 0} (p : Reads A) : Type 0 where
@@ -119,20 +118,20 @@ module _ (image segments : List ℕ) (P : Range → Type 0) (onBytes : (o n : �
     on_bytes a n {k} h = record { all = go (bytes_place image segments a n) }
       where
         go : (x : Option ℕ) → All P (also x (λ o. bytes_range o n ∷ path image segments (k (take n (drop o image)))))
-        go none = tt
-        go (some o) = (onBytes o n, (h _).all)
+        go None = tt
+        go (Some o) = (onBytes o n, (h _).all)
 
     on_needing : {B : Type 0} (x : Option B) {f : B → Reads A} → ((b : B) → On (f b)) → On (needing x f)
-    on_needing none h = on_nothing
-    on_needing (some b) h = h b
+    on_needing None h = on_nothing
+    on_needing (Some b) h = h b
 
     on_bind : {B : Type 0} {p : Reads B} {f : B → Reads A} → On p → ((b : B) → On (f b)) → On (bind p f)
     on_bind {B} {p} {f} h g =
         record { all = rw (path_bind image segments f p) (all_append P (path image segments p) _ h.all (go (run image segments p))) }
       where
         go : (x : Option B) → All P (also x (λ b. path image segments (f b)))
-        go none = tt
-        go (some b) = (g b).all
+        go None = tt
+        go (Some b) = (g b).all
 
     on_header : (a n : ℕ) {k : List ℕ → Reads A} → ((h : List ℕ) → On (k h)) → On (read_header a n k)
     on_header a zero h = h []
@@ -163,13 +162,13 @@ module _ (image segments : List ℕ) (P : Range → Type 0) (onBytes : (o n : �
   on_block_at r a = on_header a r.header (λ h. go r.bounded (record { kind = r.kind; body = r.recorded a h }) (below (a + r.size h)))
     where
       go : (c : Bool) (b : Block) (e : Option ℕ) → On (ended c b e)
-      go true b none = on_nothing
-      go true b (some e) = on_done _
+      go true b None = on_nothing
+      go true b (Some e) = on_done _
       go false b e = on_done _
 
   on_somewhere : (e : Option ℕ) → On (somewhere e)
-  on_somewhere none = on_nothing
-  on_somewhere (some e) = on_done e
+  on_somewhere None = on_nothing
+  on_somewhere (Some e) = on_done e
 
   on_reached : (t : Trailing) (start n : ℕ) → On (reached t start n)
   unfolding reached passed end_at
@@ -260,8 +259,8 @@ module _ (image segments : List ℕ) (P : Range → Type 0) (onBytes : (o n : �
 
   -- field descriptors and records
   on_given : {A : Type 0} (x : Option A) → On (given x)
-  on_given none = on_nothing
-  on_given (some a) = on_done a
+  on_given None = on_nothing
+  on_given (Some a) = on_done a
 
   pub on_descriptor : (fields : List ℕ) (start j : ℕ) → On (descriptor_at fields start j)
   unfolding descriptor_at
@@ -282,8 +281,8 @@ module _ (image segments : List ℕ) (P : Range → Type 0) (onBytes : (o n : �
   on_slot_name s i = go (slot_descriptor s.types s.types_start i)
     where
       go : (t : Option ℕ) → On (read_at t descriptor_name)
-      go none = on_nothing
-      go (some a) = on_bytes a 20 (λ h. on_cond (leb (2 ^ 64) (a + 8)) on_nothing (on_done _))
+      go None = on_nothing
+      go (Some a) = on_bytes a 20 (λ h. on_cond (leb (2 ^ 64) (a + 8)) on_nothing (on_done _))
 
   pub on_context_name : (h : Header) → On (context_name_at h)
   unfolding context_name_at
@@ -298,7 +297,7 @@ module _ (image segments : List ℕ) (P : Range → Type 0) (onBytes : (o n : �
   on_superclass (of_enum p w e) = on_nothing
 
   -- what is read for the address of a name, besides the row of its slot, is bytes
-  pub on_name : (s : Sections) (n : NameKey) → ((i : ℕ) → beside_row n ≡ some i → On (row_of_slot s i)) → On (name_of s n)
+  pub on_name : (s : Sections) (n : NameKey) → ((i : ℕ) → beside_row n ≡ Some i → On (row_of_slot s i)) → On (name_of s n)
   unfolding name_of
   on_name s (NameKey.descriptor i) row = on_slot_name s i
   on_name s (NameKey.context i k) row = on_bind (on_slot_context s i (row i refl) k) on_context_name
@@ -309,7 +308,7 @@ module _ (image segments : List ℕ) (P : Range → Type 0) (onBytes : (o n : �
   on_name s (NameKey.descriptor_superclass j) row = on_map _ (on_descriptor s.fields s.fields_start j)
 
   -- what an item reads besides the row of its slot is bytes
-  pub on_item : (s : Sections) (k : Key) → ((i : ℕ) → slot_of k ≡ some i → On (row_of_slot s i)) → All P (path image segments (item s k))
+  pub on_item : (s : Sections) (k : Key) → ((i : ℕ) → slot_of k ≡ Some i → On (row_of_slot s i)) → All P (path image segments (item s k))
   unfolding item
   on_item s (Key.row i) row = rw path_map (row i refl).all
   on_item s (Key.body i) row = rw path_map (on_slot_body s i (row i refl)).all

@@ -1,6 +1,5 @@
 -- How the worked images are written down: an image at 0x1000, and tables of what its items read and say.
-use Rattle.std.specs.Prelude.{ℕ, ◌≡◌, List, [], ◌∷◌, map, true, false, take}
-use Rattle.std.proofs.Math.Option.{Option}
+use Rattle.std.specs.Prelude.{ℕ, ◌≡◌, List, [], ◌∷◌, map, true, false, take, Option}
 use Rattle.runtime.specs.Reads.{Range, run, path}
 use Rattle.items.specs.Keys.{Sections, Key, Answer}
 use Rattle.items.specs.Items.{item}

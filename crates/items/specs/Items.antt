@@ -1,7 +1,6 @@
 -- The items of a listing: docs/SPECIFICATION.md, "Items, paths and the cut". An item is the program of reads for a key. It depends on the
 -- sections, and never on the image: the listing of an image is what `run` gives for it, over all keys.
-use Rattle.std.specs.Prelude.{ℕ, List, cond, ltb}
-use Rattle.std.proofs.Math.Option.{Option, some, none}
+use Rattle.std.specs.Prelude.{ℕ, List, cond, ltb, Option, Some, None}
 use Rattle.runtime.specs.Reads.{Reads, done, nothing, bind}
 use Rattle.classtrailers.specs.declared.block.Block.{Block}
 use Rattle.classtrailers.specs.declared.block.BlockBody.{BlockBody}
@@ -65,9 +64,9 @@ pub record Table : Type 0 where
   pub base : ℕ
 
 abbrev pub body_table : BlockBody → Option Table
-body_table (BlockBody.Table o n a) = some (record { count = n; base = a })
-body_table (BlockBody.At a) = none
-body_table (BlockBody.Set s n) = none
+body_table (BlockBody.Table o n a) = Some (record { count = n; base = a })
+body_table (BlockBody.At a) = None
+body_table (BlockBody.Set s n) = None
 
 abbrev pub table_of : Block → Option Table
 table_of b = body_table b.body

@@ -1,6 +1,5 @@
 -- What identifies the items of a listing, and what they say: docs/SPECIFICATION.md, "Items, paths and the cut".
-use Rattle.std.specs.Prelude.{ℕ, List}
-use Rattle.std.proofs.Math.Option.{Option, some, none}
+use Rattle.std.specs.Prelude.{ℕ, List, Option, Some, None}
 use Rattle.classtrailers.specs.declared.block.Block.{Block}
 use Rattle.classtrailers.specs.declared.block.BlockKind.{BlockKind}
 use Rattle.typedescriptor.specs.Row.{TypeRow}
@@ -59,13 +58,13 @@ pub data Answer : Type 0 where
 
 -- the slot that an item belongs to; items of the fields section belong to none
 abbrev pub slot_of : Key → Option ℕ
-slot_of (Key.row i) = some i
-slot_of (Key.body i) = some i
-slot_of (Key.block i k) = some i
-slot_of (Key.entry i e k) = some i
-slot_of (Key.initialization i) = some i
-slot_of (Key.pointer i) = some i
-slot_of (Key.offsets i m) = some i
-slot_of (Key.context i k) = some i
-slot_of (Key.field_descriptor j) = none
-slot_of (Key.field_record j k) = none
+slot_of (Key.row i) = Some i
+slot_of (Key.body i) = Some i
+slot_of (Key.block i k) = Some i
+slot_of (Key.entry i e k) = Some i
+slot_of (Key.initialization i) = Some i
+slot_of (Key.pointer i) = Some i
+slot_of (Key.offsets i m) = Some i
+slot_of (Key.context i k) = Some i
+slot_of (Key.field_descriptor j) = None
+slot_of (Key.field_record j k) = None

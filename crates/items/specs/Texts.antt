@@ -1,7 +1,6 @@
 -- The texts that a listing looks up, by the addresses of names: docs/SPECIFICATION.md, "Items, paths and the cut". The premise of the cut
 -- speaks of them (`ClearOf`); what the calls return for them is `Beside`.
-use Rattle.std.specs.Prelude.{ℕ, ◌+◌, ◌^◌, List, ◌≡◌, cond, get_or, leb, eqb}
-use Rattle.std.proofs.Math.Option.{some}
+use Rattle.std.specs.Prelude.{ℕ, ◌+◌, ◌^◌, List, ◌≡◌, cond, get_or, leb, eqb, Some}
 use Rattle.util.specs.LittleEndian.{unsigned_in, signed_in}
 use Rattle.util.specs.Pointer.{relative_pointer}
 use Rattle.runtime.specs.Reads.{Reads, done, nothing, bytes, text, bind, text_offset, text_range, run, Clear}
@@ -75,8 +74,8 @@ read_name s n = bind (name_of s n) lookup
 
 -- the cut does not fall into a text that is looked up at an address: it falls before its start, or at or after the end of its range
 abbrev pub ClearAt : List ℕ → List ℕ → ℕ → ℕ → Type 0
-ClearAt image segments c a = (o : ℕ) → text_offset segments a ≡ some o → Clear c (text_range image o)
+ClearAt image segments c a = (o : ℕ) → text_offset segments a ≡ Some o → Clear c (text_range image o)
 
 -- nor into the name of a key
 abbrev pub ClearOf : List ℕ → List ℕ → Sections → ℕ → NameKey → Type 0
-ClearOf image segments s c n = (a : ℕ) → run image segments (name_of s n) ≡ some a → ClearAt image segments c a
+ClearOf image segments s c n = (a : ℕ) → run image segments (name_of s n) ≡ Some a → ClearAt image segments c a

@@ -1,10 +1,9 @@
 -- Encodings byte by byte, and what the readers make of them.
-use Rattle.std.specs.Prelude.{ℕ, zero, suc, ◌+◌, ◌-◌, ◌*◌, ◌%◌, ◌^◌, ◌≤◌, ◌<◌, min, ◌≡◌, List, [], ◌∷◌, ◌++◌, true, length, take, get_or, ℤ, negsuc, leb}
+use Rattle.std.specs.Prelude.{ℕ, zero, suc, ◌+◌, ◌-◌, ◌*◌, ◌%◌, ◌^◌, ◌≤◌, ◌<◌, min, ◌≡◌, List, [], ◌∷◌, ◌++◌, true, length, take, get_or, ℤ, negsuc, leb, Option, Some, None, option_map}
 use Rattle.std.proofs.Common.{pow-suc, mul_assoc, mul-le-mul_left, add-one, arith, ◌∙◌, ap, pow-add, take-suc, get_or-take, length-take-le, below_more}
 use Rattle.std.proofs.Math.Nat.{pow-succ', pow-le-pow_right}
 use Rattle.std.proofs.Math.Decide.{dec_lt}
 use Rattle.std.proofs.Math.Path.{refl, sym}
-use Rattle.std.proofs.Math.Option.{Option, some, none, map}
 use Rattle.std.proofs.Math.ListN.{get_or-eq_default}
 use borrow.Author.Tests.{le-leb, lt-leb, lt-ltb, le-ltb, eq-eqb, ne_eqb}
 use Rattle.util.specs.LittleEndian.{twos_complement}
@@ -15,48 +14,48 @@ use Rattle.leb128.specs.Leb128Walk.{Running, Chunk}
 -- ---- encodings
 
 -- one byte more
-one_more : (b : ℕ) (x : Option (List ℕ)) (e : List ℕ) → map (λ (f : List ℕ). b ∷ f) x ≡ some e → (f : List ℕ) × ((x ≡ some f) × (e ≡ b ∷ f))
-one_more b none e h = let z : ◌≡◌ {A = ℕ} 0 1 = cc in absurd (omega arith)
-one_more b (some f) e h = (f, (refl, cc))
+one_more : (b : ℕ) (x : Option (List ℕ)) (e : List ℕ) → option_map (λ (f : List ℕ). b ∷ f) x ≡ Some e → (f : List ℕ) × ((x ≡ Some f) × (e ≡ b ∷ f))
+one_more b None e h = let z : ◌≡◌ {A = ℕ} 0 1 = cc in absurd (omega arith)
+one_more b (Some f) e h = (f, (refl, cc))
 
 -- continuation bytes alone are not an encoding
-pub goes_on_lem : (s : List ℕ) (i : ℕ) → ((k : ℕ) → k < i → 128 ≤ get_or s k 0) → (e : List ℕ) → encoding s ≡ some e → i < length e
+pub goes_on_lem : (s : List ℕ) (i : ℕ) → ((k : ℕ) → k < i → 128 ≤ get_or s k 0) → (e : List ℕ) → encoding s ≡ Some e → i < length e
 unfolding encoding
 goes_on_lem [] i on e h = let z : ◌≡◌ {A = ℕ} 0 1 = cc in absurd (omega arith)
 goes_on_lem (b ∷ s) i on e h =
     elim (dec_lt b 128) [
       | yes l ↦
-          let g : some (b ∷ []) ≡ some e = rw (lt-ltb b 128 l) at h in
+          let g : Some (b ∷ []) ≡ Some e = rw (lt-ltb b 128 l) at h in
           let m : e ≡ b ∷ [] = cc in
           elim (dec_lt 0 i) [
             | yes p ↦ absurd (omega (arith, on 0 p))
             | no p ↦ rw m (omega arith)
           ]
       | no l ↦
-          let g : map (λ (f : List ℕ). b ∷ f) (encoding s) ≡ some e = rw (le-ltb b 128 (omega arith)) at h in
+          let g : option_map (λ (f : List ℕ). b ∷ f) (encoding s) ≡ Some e = rw (le-ltb b 128 (omega arith)) at h in
           let m = one_more b (encoding s) e g in
           let r : i - 1 < length m.0 = goes_on_lem s (i - 1) (λ k l. on (suc k) (omega arith)) m.0 m.1.0 in
           rw m.1.1 (omega arith)
     ]
 
 -- an encoding is a part of the bytes
-pub encoding_short : (s : List ℕ) (e : List ℕ) → encoding s ≡ some e → length e ≤ length s
+pub encoding_short : (s : List ℕ) (e : List ℕ) → encoding s ≡ Some e → length e ≤ length s
 unfolding encoding
 encoding_short [] e h = let z : ◌≡◌ {A = ℕ} 0 1 = cc in absurd (omega arith)
 encoding_short (b ∷ s) e h =
     elim (dec_lt b 128) [
       | yes l ↦
-          let g : some (b ∷ []) ≡ some e = rw (lt-ltb b 128 l) at h in
+          let g : Some (b ∷ []) ≡ Some e = rw (lt-ltb b 128 l) at h in
           let m : e ≡ b ∷ [] = cc in
           rw m (omega arith)
       | no l ↦
-          let g : map (λ (f : List ℕ). b ∷ f) (encoding s) ≡ some e = rw (le-ltb b 128 (omega arith)) at h in
+          let g : option_map (λ (f : List ℕ). b ∷ f) (encoding s) ≡ Some e = rw (le-ltb b 128 (omega arith)) at h in
           let m = one_more b (encoding s) e g in
           rw m.1.1 (omega (arith, encoding_short s m.0 m.1.0))
     ]
 
 -- it ends at the first byte below 128
-pub encoding_ends : (s : List ℕ) (i : ℕ) → ((k : ℕ) → k < i → 128 ≤ get_or s k 0) → i < length s → get_or s i 0 < 128 → encoding s ≡ some (take (suc i) s)
+pub encoding_ends : (s : List ℕ) (i : ℕ) → ((k : ℕ) → k < i → 128 ≤ get_or s k 0) → i < length s → get_or s i 0 < 128 → encoding s ≡ Some (take (suc i) s)
 unfolding encoding
 encoding_ends [] i on h l = absurd (omega arith)
 encoding_ends (b ∷ s) zero on h l = rw (lt-ltb b 128 l)
@@ -109,7 +108,7 @@ module _ (s : List ℕ) (i bits : ℕ) (r : Running s i bits) where
   pub running_nine : 9 ≤ i → i ≤ 9 → Running s 9 bits
   running_nine g l = let e : i ≡ 9 = omega arith in rw e at r
 
-  pub running_ends : length s ≤ i → (e : List ℕ) → encoding s ≡ some e → 11 < length e
+  pub running_ends : length s ≤ i → (e : List ℕ) → encoding s ≡ Some e → 11 < length e
   running_ends h e f = absurd (omega (arith, goes_on_lem s i r.on e f, encoding_short s e f))
 
   module _ (h : i < length s) where
@@ -158,7 +157,7 @@ module _ (s : List ℕ) (bits b : ℕ) (r : Running s 9 bits) (h : 9 < length s)
     ten_on : (k : ℕ) → k < 10 → 128 ≤ get_or s k 0
     ten_on = below_more _ 9 r.on (omega arith)
 
-    pub ten_ends : length s ≤ 10 → (f : List ℕ) → encoding s ≡ some f → 11 < length f
+    pub ten_ends : length s ≤ 10 → (f : List ℕ) → encoding s ≡ Some f → 11 < length f
     ten_ends m f g = absurd (omega (arith, goes_on_lem s 10 ten_on f g, encoding_short s f g))
 
     module _ (m : 10 < length s) (c : ℕ) (d : c ≡ get_or s 10 0) where
@@ -173,24 +172,24 @@ module _ (s : List ℕ) (bits b : ℕ) (r : Running s 9 bits) (h : 9 < length s)
             ends = (d, n);
           }
 
-      pub eleven_on : 128 ≤ c → (f : List ℕ) → encoding s ≡ some f → 11 < length f
+      pub eleven_on : 128 ≤ c → (f : List ℕ) → encoding s ≡ Some f → 11 < length f
       eleven_on n f g = goes_on_lem s 11 (below_more _ 10 ten_on (omega arith)) f g
 
 -- ---- what the readers make of an encoding
 
 -- they read nothing from a longer one
-longer : {A : Type 0} (f : List ℕ → Option A) (s : List ℕ) → ((e : List ℕ) → 11 < length e → none ≡ f e) → ((e : List ℕ) → encoding s ≡ some e → 11 < length e) → none ≡ of_encoding f (encoding s)
+longer : {A : Type 0} (f : List ℕ → Option A) (s : List ℕ) → ((e : List ℕ) → 11 < length e → None ≡ f e) → ((e : List ℕ) → encoding s ≡ Some e → 11 < length e) → None ≡ of_encoding f (encoding s)
 longer f s none_of h = go (encoding s) refl
   where
-    go : (x : Option (List ℕ)) → encoding s ≡ x → none ≡ of_encoding f x
-    go none e = refl
-    go (some e) g = none_of e (h e g)
+    go : (x : Option (List ℕ)) → encoding s ≡ x → None ≡ of_encoding f x
+    go None e = refl
+    go (Some e) g = none_of e (h e g)
 
-pub uleb_longer : (s : List ℕ) → ((e : List ℕ) → encoding s ≡ some e → 11 < length e) → none ≡ uleb128 s
+pub uleb_longer : (s : List ℕ) → ((e : List ℕ) → encoding s ≡ Some e → 11 < length e) → None ≡ uleb128 s
 unfolding uleb_of
 uleb_longer s h = longer uleb_of s (λ e l. rw (lt-leb (length e) 11 l)) h
 
-pub sleb_longer : (s : List ℕ) → ((e : List ℕ) → encoding s ≡ some e → 11 < length e) → none ≡ sleb128 s
+pub sleb_longer : (s : List ℕ) → ((e : List ℕ) → encoding s ≡ Some e → 11 < length e) → None ≡ sleb128 s
 unfolding sleb_of
 sleb_longer s h = longer sleb_of s (λ e l. rw (lt-leb (length e) 11 l)) h
 
@@ -223,41 +222,41 @@ module _ (s : List ℕ) (bits weight last count : ℕ) (r : Chunk s bits weight 
   short : leb (length (take count s)) 11 ≡ true
   short = le-leb (length (take count s)) 11 (omega (arith, chunk_length, r.within))
 
-  uleb_found : get_or (take count s) 10 0 ≡ 0 → some (bits, count) ≡ uleb128 s
+  uleb_found : get_or (take count s) 10 0 ≡ 0 → Some (bits, count) ≡ uleb128 s
   unfolding uleb_of
   uleb_found e = rw (r.is, short, e, ← r.low, chunk_length)
 
-  pub uleb_short : (count ≡ 11 → ⊥) → some (bits, count) ≡ uleb128 s
+  pub uleb_short : (count ≡ 11 → ⊥) → Some (bits, count) ≡ uleb128 s
   uleb_short h = uleb_found (no_eleventh 0 (elim (dec_lt count 11) [ yes l ↦ l | no l ↦ absurd (h (omega (arith, r.within))) ]))
 
   module _ (c : count ≡ 11) where
-    pub uleb_eleven : last ≡ 0 → some (bits, 11) ≡ uleb128 s
-    uleb_eleven e = ap (λ (n : ℕ). some (bits, n)) (sym c) ∙ uleb_found (eleventh 0 (omega arith) ∙ e)
+    pub uleb_eleven : last ≡ 0 → Some (bits, 11) ≡ uleb128 s
+    uleb_eleven e = ap (λ (n : ℕ). Some (bits, n)) (sym c) ∙ uleb_found (eleventh 0 (omega arith) ∙ e)
 
-    pub uleb_refused : (last ≡ 0 → ⊥) → none ≡ uleb128 s
+    pub uleb_refused : (last ≡ 0 → ⊥) → None ≡ uleb128 s
     unfolding uleb_of
     uleb_refused n = rw (r.is, short, eleventh 0 (omega arith), ne_eqb last 0 n)
 
-  sleb_found : (z : ℤ) → get_or (take count s) 10 (sign_bits bits) ≡ sign_bits bits → z ≡ twos_complement (min 64 (7 * count)) bits → some (z, count) ≡ sleb128 s
+  sleb_found : (z : ℤ) → get_or (take count s) 10 (sign_bits bits) ≡ sign_bits bits → z ≡ twos_complement (min 64 (7 * count)) bits → Some (z, count) ≡ sleb128 s
   unfolding sleb_of
-  sleb_found z e f = rw (r.is, short, ← r.low, e, eq-eqb (sign_bits bits) (sign_bits bits) refl, chunk_length) (ap (λ (y : ℤ). some (y, count)) f)
+  sleb_found z e f = rw (r.is, short, ← r.low, e, eq-eqb (sign_bits bits) (sign_bits bits) refl, chunk_length) (ap (λ (y : ℤ). Some (y, count)) f)
 
   -- ten bytes and eleven have all 64 bits
-  pub sleb_ten : (z : ℤ) → count ≡ 10 → z ≡ twos_complement 64 bits → some (z, 10) ≡ sleb128 s
+  pub sleb_ten : (z : ℤ) → count ≡ 10 → z ≡ twos_complement 64 bits → Some (z, 10) ≡ sleb128 s
   sleb_ten z c e =
       let m : min 64 (7 * count) ≡ 64 = omega arith in
-      ap (λ (n : ℕ). some (z, n)) (sym c) ∙ sleb_found z (no_eleventh (sign_bits bits) (omega arith)) (rw m e)
+      ap (λ (n : ℕ). Some (z, n)) (sym c) ∙ sleb_found z (no_eleventh (sign_bits bits) (omega arith)) (rw m e)
 
   module _ (g : 9 < count) (n : count ≡ 10 → ⊥) where
     eleven : count ≡ 11
     eleven = elim (dec_lt count 11) [ yes l ↦ absurd (n (omega arith)) | no l ↦ omega (arith, r.within) ]
 
-    pub sleb_eleven : (z : ℤ) (b : ℕ) → b ≡ sign_bits bits → last ≡ b → z ≡ twos_complement 64 bits → some (z, 11) ≡ sleb128 s
+    pub sleb_eleven : (z : ℤ) (b : ℕ) → b ≡ sign_bits bits → last ≡ b → z ≡ twos_complement 64 bits → Some (z, 11) ≡ sleb128 s
     sleb_eleven z b f e d =
         let m : min 64 (7 * count) ≡ 64 = omega (arith, eleven) in
-        ap (λ (k : ℕ). some (z, k)) (sym eleven) ∙ sleb_found z (eleventh (sign_bits bits) (omega (arith, eleven)) ∙ e ∙ f) (rw m d)
+        ap (λ (k : ℕ). Some (z, k)) (sym eleven) ∙ sleb_found z (eleventh (sign_bits bits) (omega (arith, eleven)) ∙ e ∙ f) (rw m d)
 
-    pub sleb_refused : (b : ℕ) → b ≡ sign_bits bits → (last ≡ b → ⊥) → none ≡ sleb128 s
+    pub sleb_refused : (b : ℕ) → b ≡ sign_bits bits → (last ≡ b → ⊥) → None ≡ sleb128 s
     unfolding sleb_of
     sleb_refused b f h =
         rw (r.is, short, ← r.low, eleventh (sign_bits bits) (omega (arith, eleven)), ne_eqb last (sign_bits bits) (λ e. h (e ∙ sym f)))
@@ -303,14 +302,14 @@ module _ (s : List ℕ) (bits weight last count : ℕ) (r : Chunk s bits weight 
     halved : 2 ^ (min 64 (7 * count) - 1) ≡ 64 * 128 ^ k
     halved = ap (λ (n : ℕ). 2 ^ n) (omega (arith, r.within)) ∙ half k
 
-    pub sleb_positive : (z : ℤ) → last < 64 → z ≡ twos_complement 64 bits → some (z, count) ≡ sleb128 s
+    pub sleb_positive : (z : ℤ) → last < 64 → z ≡ twos_complement 64 bits → Some (z, count) ≡ sleb128 s
     sleb_positive z l e =
         let m : 128 ^ k * last ≤ 128 ^ k * 63 = mul-le-mul_left (128 ^ k) (omega arith) in
         let b : bits < 64 * 128 ^ k = omega (arith, bits_are, below) in
         sleb_found z (no_eleventh (sign_bits bits) (omega arith))
         (e ∙ twos_positive 64 bits (omega (arith, top)) ∙ sym (twos_positive (min 64 (7 * count)) bits (rw halved b)))
 
-    pub sleb_negative : (z : ℤ) → 64 ≤ last → z ≡ twos_complement 64 (bits + (18446744073709551615 - weight + 1)) → some (z, count) ≡ sleb128 s
+    pub sleb_negative : (z : ℤ) → 64 ≤ last → z ≡ twos_complement 64 (bits + (18446744073709551615 - weight + 1)) → Some (z, count) ≡ sleb128 s
     sleb_negative z l e =
         let m : 128 ^ k * 64 ≤ 128 ^ k * last = mul-le-mul_left (128 ^ k) l in
         let b : 64 * 128 ^ k ≤ bits = omega (arith, bits_are) in

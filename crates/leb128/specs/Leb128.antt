@@ -1,6 +1,5 @@
 -- LEB128 (docs/SPECIFICATION.md, "LEB128"): the DWARF standard, version 5, section 7.6 "Variable Length Data". What `read_uleb128` and `read_sleb128` accept of it is darwinscope's.
-use Rattle.std.specs.Prelude.{ℕ, zero, suc, ◌+◌, ◌*◌, ◌/◌, ◌%◌, ◌^◌, min, List, [], ◌∷◌, cond, ◌&&◌, length, get_or, ℤ, leb, ltb, eqb}
-use Rattle.std.proofs.Math.Option.{Option, some, none, map}
+use Rattle.std.specs.Prelude.{ℕ, zero, suc, ◌+◌, ◌*◌, ◌/◌, ◌%◌, ◌^◌, min, List, [], ◌∷◌, cond, ◌&&◌, length, get_or, ℤ, leb, ltb, eqb, Option, Some, None, option_map}
 use Rattle.util.specs.LittleEndian.{twos_complement}
 use Rattle.util.specs.Pointer.{modulo}
 use Rattle.leb128.specs.declared.leb128.Uleb128.{Uleb128}
@@ -8,13 +7,13 @@ use Rattle.leb128.specs.declared.leb128.Sleb128.{Sleb128}
 
 -- the bytes of the first number: up to and including the first byte whose high bit is clear
 unfoldable pub encoding : List ℕ → Option (List ℕ)
-encoding [] = none
-encoding (b ∷ bs) = cond (ltb b 128) (some (b ∷ [])) (map (λ (e : List ℕ). b ∷ e) (encoding bs))
+encoding [] = None
+encoding (b ∷ bs) = cond (ltb b 128) (Some (b ∷ [])) (option_map (λ (e : List ℕ). b ∷ e) (encoding bs))
 
 -- what is read from an encoding; nothing if the bytes end before it does
 abbrev pub of_encoding : {A : Type 0} → (List ℕ → Option A) → Option (List ℕ) → Option A
-of_encoding f none = none
-of_encoding f (some e) = f e
+of_encoding f None = None
+of_encoding f (Some e) = f e
 
 -- the number of an encoding: the low seven bits of each byte, the lowest first
 unfoldable pub unsigned_number : List ℕ → ℕ
@@ -39,7 +38,7 @@ word e = unsigned_number e % 2 ^ 64
 
 -- `read_uleb128`: the low 64 bits of up to ten bytes; an eleventh byte must be 0
 unfoldable pub uleb_of : List ℕ → Option (ℕ × ℕ)
-uleb_of e = cond (leb (length e) 11 && eqb (get_or e 10 0) 0) (some (word e, length e)) none
+uleb_of e = cond (leb (length e) 11 && eqb (get_or e 10 0) 0) (Some (word e, length e)) None
 
 abbrev pub uleb128 : List ℕ → Option (ℕ × ℕ)
 uleb128 bytes = of_encoding uleb_of (encoding bytes)
@@ -51,16 +50,16 @@ sign_bits w = cond (ltb w (2 ^ 63)) 0 127
 unfoldable pub sleb_of : List ℕ → Option (ℤ × ℕ)
 sleb_of e =
     cond (leb (length e) 11 && eqb (get_or e 10 (sign_bits (word e))) (sign_bits (word e)))
-    (some (twos_complement (min 64 (7 * length e)) (word e), length e))
-    none
+    (Some (twos_complement (min 64 (7 * length e)) (word e), length e))
+    None
 
 abbrev pub sleb128 : List ℕ → Option (ℤ × ℕ)
 sleb128 bytes = of_encoding sleb_of (encoding bytes)
 
 abbrev pub uleb_value : Uleb128 → Option (ℕ × ℕ)
-uleb_value (Uleb128.Value n consumed) = some (n, consumed)
-uleb_value Uleb128.Nothing = none
+uleb_value (Uleb128.Value n consumed) = Some (n, consumed)
+uleb_value Uleb128.Nothing = None
 
 abbrev pub sleb_value : Sleb128 → Option (ℤ × ℕ)
-sleb_value (Sleb128.Value n consumed) = some (n, consumed)
-sleb_value Sleb128.Nothing = none
+sleb_value (Sleb128.Value n consumed) = Some (n, consumed)
+sleb_value Sleb128.Nothing = None

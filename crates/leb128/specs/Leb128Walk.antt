@@ -1,6 +1,5 @@
 -- What a walk over the bytes of a number has found, for the functions inside the readers.
-use Rattle.std.specs.Prelude.{ℕ, ◌-◌, ◌%◌, ◌^◌, ◌≤◌, ◌<◌, ◌≡◌, List, length, take, get_or}
-use Rattle.std.proofs.Math.Option.{some}
+use Rattle.std.specs.Prelude.{ℕ, ◌-◌, ◌%◌, ◌^◌, ◌≤◌, ◌<◌, ◌≡◌, List, length, take, get_or, Some}
 use Rattle.leb128.specs.Leb128.{encoding, unsigned_number, word}
 use Rattle.leb128.specs.declared.leb128.Chunks.{Chunks}
 
@@ -12,7 +11,7 @@ pub record Running (s : List ℕ) (i bits : ℕ) : Type 0 where
 
 -- an encoding of up to eleven bytes: its low 64 bits, the weight of the bit after its last in 64 bits, its last byte, and its length
 pub record Chunk (s : List ℕ) (bits weight last count : ℕ) : Type 0 where
-  pub is : encoding s ≡ some (take count s)
+  pub is : encoding s ≡ Some (take count s)
   pub within : (1 ≤ count) × (count ≤ 11) × (count ≤ length s)
   pub low : bits ≡ word (take count s)
   pub above : weight ≡ 128 ^ count % 2 ^ 64
@@ -20,4 +19,4 @@ pub record Chunk (s : List ℕ) (bits weight last count : ℕ) : Type 0 where
 
 abbrev pub Chunked : List ℕ → Chunks → Type 0
 Chunked s (Chunks.Number bits weight last count) = Chunk s bits weight last count
-Chunked s Chunks.Nothing = (e : List ℕ) → encoding s ≡ some e → 11 < length e
+Chunked s Chunks.Nothing = (e : List ℕ) → encoding s ≡ Some e → 11 < length e

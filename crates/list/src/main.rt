@@ -1,8 +1,7 @@
 // Prints the listing of a bundle, from a file or from standard input: each step's line is written, and nothing else.
 #![tactic(auto)]
 
-ghost use Rattle.std.specs.Prelude.{◌≡◌, ◌<◌, ◌≤◌, length};
-ghost use Rattle.std.proofs.Math.Option.{some, none};
+ghost use Rattle.std.specs.Prelude.{◌≡◌, ◌<◌, ◌≤◌, length, Some, None};
 ghost use Rattle.refusal.specs.Refusal.{answered};
 ghost use Rattle.refusal.specs.Guarded.{fault};
 ghost use Rattle.util.specs.Cstr.{place, part_of};
@@ -46,7 +45,7 @@ fn write_line(
     pending: BundleLineIter,
     text: &[u8],
 ) -> io::Result<()>
-    requires { line_text (answered (print_step bytes.now segments.now (pending_of pending))) ≡ some text.now }
+    requires { line_text (answered (print_step bytes.now segments.now (pending_of pending))) ≡ Some text.now }
 {
     out.write_all(text)
 }
@@ -60,7 +59,7 @@ fn line_part(line: &[u8; LINE_BYTES], length: usize) -> &[u8]
 
 // Steps to the end. Lines are written as long as they can be.
 fn print_lines(out: Stdout, bytes: &[u8], segments: &[u64], first: BundleLineIter) -> Written
-    requires { none ≡ fault segments.now }
+    requires { None ≡ fault segments.now }
     ensures { result.lines ≡ length (taken lines_most bytes.now segments.now (pending_of first)).lines }
 {
     let mut line = [0u8; LINE_BYTES];

@@ -1,9 +1,8 @@
 -- What the code finds of a table of records with names is `namedTable`: a record's numbers in the list (`names-put`), what a step says
 -- (`step-ended`, `step-found`), and that a true mapping changes none of it (`named-mapped`).
-use Rattle.std.specs.Prelude.{ℕ, suc, ◌+◌, ◌≤◌, ◌<◌, ◌≡◌, refl, List, [], ◌∷◌, ◌++◌, length}
+use Rattle.std.specs.Prelude.{ℕ, suc, ◌+◌, ◌≤◌, ◌<◌, ◌≡◌, refl, List, [], ◌∷◌, ◌++◌, length, Option, Some, None}
 use Rattle.std.proofs.Math.Decide.{dec_lt}
 use Rattle.std.proofs.Common.{arith, sym, ap, ◌∙◌, append_assoc, length-append}
-use Rattle.std.proofs.Math.Option.{Option, some, none}
 use Rattle.util.specs.Buffer.{pasted}
 use Rattle.util.specs.Cstr.{Place, text_of}
 use Rattle.util.specs.declared.cstr.Text.{Text}
@@ -26,13 +25,13 @@ use Rattle.named_records.specs.NamedRecords.{named_numbers}
 -- ---- a record's numbers
 
 pub text_long : (x : Option Place) → length (text_numbers x) ≡ 3
-text_long none = refl
-text_long (some p) = refl
+text_long None = refl
+text_long (Some p) = refl
 
 pub name_long : (x : Option NamePlace) → length (field_numbers x) ≡ 3
-name_long none = refl
-name_long (some (in_image p)) = refl
-name_long (some (in_strings p)) = refl
+name_long None = refl
+name_long (Some (in_image p)) = refl
+name_long (Some (in_strings p)) = refl
 
 -- the case of a name
 pub text_known : (t u : Text) → t ≡ u → text_numbers (text_of u) ≡ text_numbers (text_of t)
@@ -69,7 +68,7 @@ module _ (image segments strings : List ℕ) (start : ℕ) where
 -- ---- a step
 
 module _ (image segments : List ℕ) (m : Mapping) (w : TrueMapping segments m) (c : FieldRecordIter) where
-  pub step_ended : none ≡ record_step image (with_mapping m segments) c → c.count ≤ c.cursor
+  pub step_ended : None ≡ record_step image (with_mapping m segments) c → c.count ≤ c.cursor
   step_ended e = go (dec_lt c.cursor c.count)
     where
       go : Dec (c.cursor < c.count) → c.count ≤ c.cursor
@@ -79,7 +78,7 @@ module _ (image segments : List ℕ) (m : Mapping) (w : TrueMapping segments m) 
           absurd (omega arith)
       go (no h) = omega arith
 
-  pub step_found : (s : RecordStep) → some s ≡ record_step image (with_mapping m segments) c
+  pub step_found : (s : RecordStep) → Some s ≡ record_step image (with_mapping m segments) c
       → (c.cursor < c.count) × (s.found ≡ run image segments (entry_at (record_layout c.entry_size) c.base_va c.cursor))
   step_found s e = go (dec_lt c.cursor c.count)
     where

@@ -1,9 +1,8 @@
 -- What a table of records with names says: it has as many records as the table without names, for the same reason no more (`named-counts`), in the
 -- order in which stepping gives them (`named-listed`); each has that table's four numbers and, at the addresses among them, the names that the calls
 -- for one name give (`named-record`); and a table worked through by hand (`named-worked`).
-use Rattle.std.specs.Prelude.{ℕ, zero, suc, ◌+◌, ◌*◌, ◌<◌, ◌≡◌, refl, List, [], ◌∷◌, ◌++◌, length, take, drop, get_or}
+use Rattle.std.specs.Prelude.{ℕ, zero, suc, ◌+◌, ◌*◌, ◌<◌, ◌≡◌, refl, List, [], ◌∷◌, ◌++◌, length, take, drop, get_or, Option, Some, None}
 use Rattle.std.proofs.Common.{mul-suc, arith, sym, ap, ◌∙◌, append_assoc, length-append, drop-drop, drop_at}
-use Rattle.std.proofs.Math.Option.{Option, some, none}
 use Rattle.utf8.specs.Table.{table}
 use Rattle.utf8.specs.Text.{following, goes_on, until_nul, text_length}
 use Rattle.util.specs.Letters.{letters}
@@ -35,17 +34,17 @@ module _ (image segments strings : List ℕ) (start : ℕ) where
     pub name : take 3 (drop 7 named) ≡ field_numbers (field_name image segments strings start (get_or own 3 0))
 
   text_first : (x : Option Place) (s : List ℕ) → take 3 (text_numbers x ++ s) ≡ text_numbers x
-  text_first none s = refl
-  text_first (some p) s = refl
+  text_first None s = refl
+  text_first (Some p) s = refl
 
   text_past : (x : Option Place) (s : List ℕ) → drop 3 (text_numbers x ++ s) ≡ s
-  text_past none s = refl
-  text_past (some p) s = refl
+  text_past None s = refl
+  text_past (Some p) s = refl
 
   name_first : (x : Option NamePlace) (s : List ℕ) → take 3 (field_numbers x ++ s) ≡ field_numbers x
-  name_first none s = refl
-  name_first (some (in_image p)) s = refl
-  name_first (some (in_strings p)) s = refl
+  name_first None s = refl
+  name_first (Some (in_image p)) s = refl
+  name_first (Some (in_strings p)) s = refl
 
   named_entry : (e : Entry) → length e.words ≡ 3 → (r q : List ℕ) → Named (all e ++ r) (entry_numbers e ++ q)
   named_entry e h r q = go e.address e.words h

@@ -2,11 +2,10 @@
 use Prim.Native.Nat.{ℕ, zero, suc, ◌+◌, ◌-◌, ◌≤◌, ◌<◌, min}
 use Rattle.std.proofs.Math.Decide.{dec_le}
 use native.Mathlib.Omega.{arith}
-use Rattle.std.specs.Prelude.{◌≡◌, true, false}
+use Rattle.std.specs.Prelude.{◌≡◌, true, false, Option, Some, None, option_map}
 use Rattle.std.proofs.Math.Path.{refl, ap}
 use Rattle.std.proofs.Common.{sym, ◌∙◌}
 use mathlib.Core.List.{List, [], ◌∷◌}
-use Rattle.std.proofs.Math.Option.{Option, some, none, map}
 use Rattle.std.proofs.Math.ListN.{get_elem?}
 use Rattle.std.proofs.Math.Dec.{leb-suc-suc}
 use Rattle.std.proofs.lemmas.Bool.{lt-leb}
@@ -19,13 +18,13 @@ use Rattle.parent.proofs.ContextLaws.{chain_full, chain_ends, chain_goes_on}
 module _ (image segments : List ℕ) where
   -- the chain in terms of what the first header reads
   abbrev pub chained : ℕ → Option Header → List Context
-  chained n none = []
-  chained n (some h) = with_name image segments h ∷ chain image segments n h.parent
+  chained n None = []
+  chained n (Some h) = with_name image segments h ∷ chain image segments n h.parent
 
   pub chain_by : (n a : ℕ) (x : Option Header) → run image segments (header a) ≡ x → chain image segments (suc n) a ≡ chained n x
   unfolding chain context_read with_name
-  chain_by n a none e = rw (chain, context_read, e)
-  chain_by n a (some h) e = rw (chain, context_read, e)
+  chain_by n a None e = rw (chain, context_read, e)
+  chain_by n a (Some h) e = rw (chain, context_read, e)
 
   pub next_by : (k a : ℕ) (x : Option Header) → run image segments (header a) ≡ x → run image segments (header_at (suc k) a) ≡ and_then x (λ h. run image segments (header_at k h.parent))
   unfolding header_at
@@ -37,25 +36,25 @@ module _ (image segments : List ℕ) where
   chain_at zero k a h = absurd (omega arith)
   chain_at (suc n) zero a h = go (run image segments (header a)) refl
     where
-      go : (x : Option Header) → run image segments (header a) ≡ x → get_elem? (chain image segments (suc n) a) 0 ≡ map (with_name image segments) (run image segments (header a))
-      go none e = rw (chain_by n a none e, e)
-      go (some h) e = rw (chain_by n a (some h) e, e)
+      go : (x : Option Header) → run image segments (header a) ≡ x → get_elem? (chain image segments (suc n) a) 0 ≡ option_map (with_name image segments) (run image segments (header a))
+      go None e = rw (chain_by n a None e, e)
+      go (Some h) e = rw (chain_by n a (Some h) e, e)
   chain_at (suc n) (suc k) a h = go (run image segments (header a)) refl (λ b. chain_at n k b (omega arith))
     where
       go : (x : Option Header) → run image segments (header a) ≡ x → ((b : ℕ) → get_elem? (chain image segments n b) k ≡ context_at image segments k b)
           → get_elem? (chain image segments (suc n) a) (suc k) ≡ context_at image segments (suc k) a
-      go none e ih = rw (chain_by n a none e, next_by k a none e)
-      go (some g) e ih = rw (chain_by n a (some g) e, next_by k a (some g) e) (ih g.parent)
+      go None e ih = rw (chain_by n a None e, next_by k a None e)
+      go (Some g) e ih = rw (chain_by n a (Some g) e, next_by k a (Some g) e) (ih g.parent)
 
   -- ---- stepping
 
   -- the contexts that at most `n` steps from an address on give, `g` having been given before
   unfoldable pub stepped_chain : ℕ → ℕ → ℕ → List Context
   stepped_chain zero a g = []
-  stepped_chain (suc n) a g = elim (chain_step image segments a g) [ none ↦ [] | some s ↦ s.context ∷ stepped_chain n s.next s.given ]
+  stepped_chain (suc n) a g = elim (chain_step image segments a g) [ None ↦ [] | Some s ↦ s.context ∷ stepped_chain n s.next s.given ]
 
   step_by : (n a g : ℕ) (x : Option Step) → chain_step image segments a g ≡ x
-      → stepped_chain (suc n) a g ≡ (elim x as (λ _. List Context) [ none ↦ [] | some s ↦ s.context ∷ stepped_chain n s.next s.given ])
+      → stepped_chain (suc n) a g ≡ (elim x as (λ _. List Context) [ None ↦ [] | Some s ↦ s.context ∷ stepped_chain n s.next s.given ])
   unfolding stepped_chain
   step_by n a g x e = rw (stepped_chain, e)
 
@@ -66,14 +65,14 @@ module _ (image segments : List ℕ) where
   stepped_chain_lem (suc n) a g = by (dec_le contexts_most g) (λ b f. stepped_chain_lem n b f)
     where
       by : Dec (contexts_most ≤ g) → ((b f : ℕ) → stepped_chain n b f ≡ chain image segments (min n (contexts_most - f)) b) → stepped_chain (suc n) a g ≡ chain image segments (min (suc n) (contexts_most - g)) a
-      by (yes h) ih = step_by n a g none (sym (chain_full image segments a g h)) ∙ (let z : 0 ≡ min (suc n) (contexts_most - g) = omega arith in ap (λ (k : ℕ). chain image segments k a) z)
+      by (yes h) ih = step_by n a g None (sym (chain_full image segments a g h)) ∙ (let z : 0 ≡ min (suc n) (contexts_most - g) = omega arith in ap (λ (k : ℕ). chain image segments k a) z)
       by (no h) ih =
           let few : min (suc n) (contexts_most - g) ≡ suc (min n (contexts_most - (g + 1))) = omega arith in
           rw few (go (context_read image segments a) refl)
         where
           go : (x : Option Context) → context_read image segments a ≡ x → stepped_chain (suc n) a g ≡ chain image segments (suc (min n (contexts_most - (g + 1)))) a
-          go none e = step_by n a g none (sym (chain_ends image segments a g (sym e) (omega arith))) ∙ rw (chain, e)
-          go (some c) e =
+          go None e = step_by n a g None (sym (chain_ends image segments a g (sym e) (omega arith))) ∙ rw (chain, e)
+          go (Some c) e =
               step_by n a g _ (sym (chain_goes_on image segments a g c (sym e) (omega arith)))
               ∙ ap (λ (l : List Context). c ∷ l) (ih c.header.parent (g + 1))
               ∙ rw (chain, e)

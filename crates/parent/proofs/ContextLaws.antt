@@ -1,8 +1,7 @@
 -- What the tests on a context and on its name say about their programs, and what a context says about a chain.
-use Rattle.std.specs.Prelude.{ℕ, ◌+◌, ◌^◌, ◌≤◌, ◌<◌, ◌≡◌, List, Bool, true, false, length}
+use Rattle.std.specs.Prelude.{ℕ, ◌+◌, ◌^◌, ◌≤◌, ◌<◌, ◌≡◌, List, Bool, true, false, length, Option, Some, None, option_map}
 use Rattle.std.proofs.Common.{arith, sym, ◌∙◌, le-leb, eq-eqb, ne_eqb}
 use Rattle.std.proofs.Math.Path.{refl}
-use Rattle.std.proofs.Math.Option.{Option, some, none, map}
 use Rattle.std.proofs.lemmas.Bool.{lt-leb}
 use Rattle.util.specs.LittleEndian.{unsigned_in, signed_in}
 use Rattle.util.specs.Pointer.{relative_pointer, relative_address}
@@ -21,7 +20,7 @@ use Rattle.parent.specs.Chain.{chain_step}
 
 module _ (image segments : List ℕ) (a : ℕ) where
   module _ (flags : ℕ) (r : Bool) (e : r ≡ has_name (context_kind flags)) where
-    pub unnamed : r ≡ false → none ≡ context_name image segments a flags
+    pub unnamed : r ≡ false → None ≡ context_name image segments a flags
     unfolding context_name name run
     unnamed t = rw (← e, t)
 
@@ -29,12 +28,12 @@ module _ (image segments : List ℕ) (a : ℕ) where
     unfolding context_name name
     is_named t n f = f ∙ rw (← e, t)
 
-  pub name_wraps : 2 ^ 64 ≤ a + 8 → none ≡ run image segments (name_at a)
+  pub name_wraps : 2 ^ 64 ≤ a + 8 → None ≡ run image segments (name_at a)
   unfolding name_at run
   name_wraps w = simp (le-leb (2 ^ 64) (a + 8) w)
 
   module _ (h : List ℕ) (eh : h ≡ bytes_read image segments (a + 8) 4) where
-    pub no_slot : length h < 4 → a + 8 < 2 ^ 64 → none ≡ run image segments (name_at a)
+    pub no_slot : length h < 4 → a + 8 < 2 ^ 64 → None ≡ run image segments (name_at a)
     unfolding name_at
     no_slot l w = simp (lt-leb (2 ^ 64) (a + 8) w) (sym (run_no_bytes image segments (a + 8) 4 (slot_name (a + 8)) h eh l))
 
@@ -42,7 +41,7 @@ module _ (image segments : List ℕ) (a : ℕ) where
     unfolding name_at
     slot l w = simp (lt-leb (2 ^ 64) (a + 8) w) (run_bytes image segments (a + 8) 4 (slot_name (a + 8)) h eh (omega arith) l)
 
-    pub no_offset : unsigned_in 4 h 0 ≡ 0 → 4 ≤ length h → a + 8 < 2 ^ 64 → none ≡ run image segments (name_at a)
+    pub no_offset : unsigned_in 4 h 0 ≡ 0 → 4 ≤ length h → a + 8 < 2 ^ 64 → None ≡ run image segments (name_at a)
     unfolding slot_name run
     no_offset z l w = rw (slot l w) (simp z)
 
@@ -60,12 +59,12 @@ inside image segments v Text.Nothing e = tt
 -- ---- the context
 
 module _ (image segments : List ℕ) (a : ℕ) where
-  pub zero_header : a ≡ 0 → none ≡ run image segments (header a)
+  pub zero_header : a ≡ 0 → None ≡ run image segments (header a)
   unfolding header run
   zero_header z = simp (eq-eqb a 0 z)
 
   module _ (z : a ≡ 0 → ⊥) (h : List ℕ) (e : h ≡ bytes_read image segments a 8) where
-    pub no_header : length h < 8 → none ≡ run image segments (header a)
+    pub no_header : length h < 8 → None ≡ run image segments (header a)
     unfolding header
     no_header l = simp (ne_eqb a 0 z) (sym (run_no_bytes image segments a 8 (header_in a) h e l))
 
@@ -73,30 +72,30 @@ module _ (image segments : List ℕ) (a : ℕ) where
     unfolding header
     read_header_lem l = simp (ne_eqb a 0 z) (run_bytes image segments a 8 (header_in a) h e (omega arith) l)
 
-    pub parent_wraps : 8 ≤ length h → 2 ^ 64 ≤ a + 4 → none ≡ run image segments (header a)
+    pub parent_wraps : 8 ≤ length h → 2 ^ 64 ≤ a + 4 → None ≡ run image segments (header a)
     unfolding header_in run
     parent_wraps l w = rw (read_header_lem l) (simp (le-leb (2 ^ 64) (a + 4) w))
 
     pub header_at : (f q : ℕ) → f ≡ unsigned_in 4 h 0 → q ≡ relative_address (a + 4) (signed_in 4 h 4) → 8 ≤ length h → a + 4 < 2 ^ 64
-        → some (record { address = a; flags = f; parent = q }) ≡ run image segments (header a)
+        → Some (record { address = a; flags = f; parent = q }) ≡ run image segments (header a)
     unfolding header_in run
     header_at f q ef eq l w = rw (read_header_lem l, ef, eq) (simp (lt-leb (2 ^ 64) (a + 4) w))
 
-  pub no_context : none ≡ run image segments (header a) → none ≡ context_read image segments a
+  pub no_context : None ≡ run image segments (header a) → None ≡ context_read image segments a
   unfolding context_read
   no_context e = rw (← e)
 
-  pub context_at_lem : (h : Header) (n : Option Name) → some h ≡ run image segments (header a) → n ≡ context_name image segments h.address h.flags
-      → some (record { header = h; name = n }) ≡ context_read image segments a
+  pub context_at_lem : (h : Header) (n : Option Name) → Some h ≡ run image segments (header a) → n ≡ context_name image segments h.address h.flags
+      → Some (record { header = h; name = n }) ≡ context_read image segments a
   unfolding context_read with_name
   context_at_lem h n e en = rw (← e, en)
 
   -- a true mapping changes no context
   module _ (m : Mapping) (w : TrueMapping segments m) where
-    named_mapped : (h : Option Header) → map (with_name image (with_mapping m segments)) h ≡ map (with_name image segments) h
+    named_mapped : (h : Option Header) → option_map (with_name image (with_mapping m segments)) h ≡ option_map (with_name image segments) h
     unfolding with_name context_name
-    named_mapped none = refl
-    named_mapped (some h) = rw (run_mapped image segments m w (name h.address h.flags))
+    named_mapped None = refl
+    named_mapped (Some h) = rw (run_mapped image segments m w (name h.address h.flags))
 
     pub context_mapped : context_read image (with_mapping m segments) a ≡ context_read image segments a
     unfolding context_read
@@ -104,15 +103,15 @@ module _ (image segments : List ℕ) (a : ℕ) where
 
   -- ---- the chain
   module _ (given : ℕ) where
-    pub chain_full : 256 ≤ given → none ≡ chain_step image segments a given
+    pub chain_full : 256 ≤ given → None ≡ chain_step image segments a given
     unfolding chain_step
     chain_full h = simp (le-leb 256 given h)
 
-    pub chain_ends : none ≡ context_read image segments a → given < 256 → none ≡ chain_step image segments a given
+    pub chain_ends : None ≡ context_read image segments a → given < 256 → None ≡ chain_step image segments a given
     unfolding chain_step
     chain_ends e h = simp (lt-leb 256 given h) (rw (← e))
 
-    pub chain_goes_on : (c : Context) → some c ≡ context_read image segments a → given < 256
-        → some (record { context = c; next = c.header.parent; given = given + 1 }) ≡ chain_step image segments a given
+    pub chain_goes_on : (c : Context) → Some c ≡ context_read image segments a → given < 256
+        → Some (record { context = c; next = c.header.parent; given = given + 1 }) ≡ chain_step image segments a given
     unfolding chain_step
     chain_goes_on c e h = simp (lt-leb 256 given h) (rw (← e))

@@ -1,6 +1,5 @@
 -- The chain of contexts: docs/SPECIFICATION.md, "Contexts": each context's parent is the next one; a walk gives the first 256.
-use Rattle.std.specs.Prelude.{ℕ, zero, suc, ◌+◌, List, [], ◌∷◌, cond, leb}
-use Rattle.std.proofs.Math.Option.{Option, some, none, map}
+use Rattle.std.specs.Prelude.{ℕ, zero, suc, ◌+◌, List, [], ◌∷◌, cond, leb, Option, Some, None, option_map}
 use Rattle.runtime.specs.Reads.{Reads, bind, run}
 use Rattle.parent.specs.Context.{Header, header, Context, with_name, context_read, context_in}
 use Rattle.parent.specs.declared.chain.ParentStep.{ParentStep}
@@ -16,13 +15,13 @@ header_at (suc k) a = bind (header a) (λ h. header_at k h.parent)
 
 -- that context
 unfoldable pub context_at : List ℕ → List ℕ → ℕ → ℕ → Option Context
-context_at image segments k a = map (with_name image segments) (run image segments (header_at k a))
+context_at image segments k a = option_map (with_name image segments) (run image segments (header_at k a))
 
 -- at most `n` contexts from an address on, the innermost first
 unfoldable pub chain : List ℕ → List ℕ → ℕ → ℕ → List Context
 chain image segments zero a = []
 chain image segments (suc n) a =
-    elim (context_read image segments a) [ none ↦ [] | some c ↦ c ∷ chain image segments n c.header.parent ]
+    elim (context_read image segments a) [ None ↦ [] | Some c ↦ c ∷ chain image segments n c.header.parent ]
 
 -- a step: a context, and the walk from there on
 pub record Step : Type 0 where
@@ -32,9 +31,9 @@ pub record Step : Type 0 where
 
 unfoldable pub chain_step : List ℕ → List ℕ → ℕ → ℕ → Option Step
 chain_step image segments a given =
-    cond (leb contexts_most given) none
-    (map (λ c. record { context = c; next = c.header.parent; given = given + 1 }) (context_read image segments a))
+    cond (leb contexts_most given) None
+    (option_map (λ c. record { context = c; next = c.header.parent; given = given + 1 }) (context_read image segments a))
 
 abbrev pub parent_step_of : List ℕ → ParentStep → Option Step
-parent_step_of image (ParentStep.Context c n) = some (record { context = context_in image c; next = n.next_descriptor_va; given = n.given })
-parent_step_of image ParentStep.End = none
+parent_step_of image (ParentStep.Context c n) = Some (record { context = context_in image c; next = n.next_descriptor_va; given = n.given })
+parent_step_of image ParentStep.End = None

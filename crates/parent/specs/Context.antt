@@ -1,7 +1,6 @@
 -- A context that encloses a type: docs/SPECIFICATION.md, "Contexts"; Metadata.h, `TargetContextDescriptor` (flags, and the
 -- parent's relative pointer), and the names of its subclasses at offset 8.
-use Rattle.std.specs.Prelude.{ℕ, ◌+◌, ◌^◌, ◌≤◌, List, cond, length, leb, eqb}
-use Rattle.std.proofs.Math.Option.{Option, some, none, map}
+use Rattle.std.specs.Prelude.{ℕ, ◌+◌, ◌^◌, ◌≤◌, List, cond, length, leb, eqb, Option, Some, None, option_map}
 use Rattle.util.specs.LittleEndian.{unsigned_in, signed_in}
 use Rattle.util.specs.Pointer.{relative_pointer, relative_address}
 use Rattle.util.specs.Cstr.{Place, place, part_of}
@@ -60,16 +59,16 @@ unfoldable pub with_name : List ℕ → List ℕ → Header → Context
 with_name image segments h = record { header = h; name = context_name image segments h.address h.flags }
 
 unfoldable pub context_read : List ℕ → List ℕ → ℕ → Option Context
-context_read image segments a = map (with_name image segments) (run image segments (header a))
+context_read image segments a = option_map (with_name image segments) (run image segments (header a))
 
 -- what the calls' answers say, for the image that they were read from
 abbrev pub header_of : ℕ → HeaderRead → Option Header
-header_of a (HeaderRead.Header f q) = some (record { address = a; flags = f; parent = q })
-header_of a HeaderRead.Nothing = none
+header_of a (HeaderRead.Header f q) = Some (record { address = a; flags = f; parent = q })
+header_of a HeaderRead.Nothing = None
 
 abbrev pub name_read : List ℕ → Text → Option Name
-name_read image (Text.At o n) = some (record { place = place o n; bytes = part_of image (place o n) })
-name_read image Text.Nothing = none
+name_read image (Text.At o n) = Some (record { place = place o n; bytes = part_of image (place o n) })
+name_read image Text.Nothing = None
 
 -- a text that was read lies within the image
 abbrev pub Inside : List ℕ → Text → Type 0
@@ -84,5 +83,5 @@ context_in image c =
     }
 
 abbrev pub context_of : List ℕ → ContextRead → Option Context
-context_of image (ContextRead.Context c) = some (context_in image c)
-context_of image ContextRead.Nothing = none
+context_of image (ContextRead.Context c) = Some (context_in image c)
+context_of image ContextRead.Nothing = None

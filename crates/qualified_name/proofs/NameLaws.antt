@@ -4,9 +4,8 @@ use Rattle.std.proofs.Common.{add_comm, zero-add, arith, sym, ◌∙◌, length-
 use Rattle.std.proofs.Math.Decide.{dec_lt}
 use Rattle.std.proofs.Math.Path.{◌≡◌, refl, ap}
 use mathlib.Core.List.{List, [], ◌∷◌, ◌++◌}
-use Rattle.std.specs.Prelude.{Bool, drop, ltb}
+use Rattle.std.specs.Prelude.{Bool, drop, ltb, Option, Some, None}
 use Rattle.std.proofs.Math.Bool.{true, false, cond}
-use Rattle.std.proofs.Math.Option.{Option, some, none}
 use Rattle.std.proofs.Math.ListN.{length}
 use borrow.Author.Tests.{lt-ltb, le-ltb}
 use Rattle.refusal.specs.Refusal.{Guarded, answered, refused, mapped, answer_of}
@@ -163,8 +162,8 @@ module _ (image segments : List ℕ) (m : Mapping) (w : TrueMapping segments m) 
       → c ≡ context_read image (with_mapping m segments) a → c ≡ context_read image segments a
       → chain image (with_mapping m segments) (suc n) a ≡ chain image segments (suc n) a
   unfolding chain
-  further_mapped n a f none d e = rw (chain, ← d) (sym (rw (chain, ← e)))
-  further_mapped n a f (some c) d e = rw (chain, ← d) (sym (rw (chain, ← e) (ap (λ (cs : List Context). c ∷ cs) (sym (f c.header.parent)))))
+  further_mapped n a f None d e = rw (chain, ← d) (sym (rw (chain, ← e)))
+  further_mapped n a f (Some c) d e = rw (chain, ← d) (sym (rw (chain, ← e) (ap (λ (cs : List Context). c ∷ cs) (sym (f c.header.parent)))))
 
   chain_mapped : (n a : ℕ) → chain image (with_mapping m segments) n a ≡ chain image segments n a
   unfolding chain

@@ -1,10 +1,9 @@
 -- How a block grows by a context, and what its end says.
 use Prim.Native.Nat.{ℕ, zero, suc, ◌+◌, ◌-◌, ◌^◌, ◌≤◌, ◌<◌, min}
 use Rattle.std.proofs.Common.{add-one, arith, sym, ◌∙◌, length-append, length-take, length-drop, lt-ltb, le-ltb}
-use Rattle.std.specs.Prelude.{◌≡◌, true, false, get_or, set}
+use Rattle.std.specs.Prelude.{◌≡◌, true, false, get_or, set, Some, None}
 use Rattle.std.proofs.Math.Path.{refl, ap, subst}
 use mathlib.Core.List.{List, [], ◌∷◌, ◌++◌, append_assoc, append-nil}
-use Rattle.std.proofs.Math.Option.{some, none}
 use Rattle.std.proofs.Math.ListN.{length}
 use Rattle.std.proofs.Math.Seq.{get_or-set_same, get_or-set_other}
 use Rattle.std.proofs.Math.Dec.{leb-suc-suc}
@@ -50,22 +49,22 @@ next_name image places lengths (suc k) p e h = let z : suc k - 1 ≡ k = omega a
 -- ---- one context of the chain
 
 module _ (image segments : List ℕ) (left a : ℕ) where
-  chain_ends : none ≡ context_read image segments a → chain image segments (suc left) a ≡ []
+  chain_ends : None ≡ context_read image segments a → chain image segments (suc left) a ≡ []
   unfolding chain
   chain_ends e = rw (chain, ← e)
 
-  chain_goes_on : (c : Context) → some c ≡ context_read image segments a → chain image segments (suc left) a ≡ c ∷ chain image segments left c.header.parent
+  chain_goes_on : (c : Context) → Some c ≡ context_read image segments a → chain image segments (suc left) a ≡ c ∷ chain image segments left c.header.parent
   unfolding chain
   chain_goes_on c e = rw (chain, ← e)
 
-  end_before : none ≡ context_read image segments a → before image segments left a ≡ []
+  end_before : None ≡ context_read image segments a → before image segments left a ≡ []
   unfolding hops
   end_before e = rw (chain_ends e)
 
-  end_deep : none ≡ context_read image segments a → deeper image segments left a ≡ false
+  end_deep : None ≡ context_read image segments a → deeper image segments left a ≡ false
   end_deep e = rw (chain_ends e) (lt-leb (suc left) 0 (omega arith))
 
-  module _ (c : Context) (e : some c ≡ context_read image segments a) where
+  module _ (c : Context) (e : Some c ≡ context_read image segments a) where
     too_deep_lem : left ≡ 0 → deeper image segments left a ≡ true
     unfolding chain
     too_deep_lem z = rw (chain_goes_on c e, z)
@@ -87,7 +86,7 @@ no_block image segments left a rest places lengths h =
     record { hops = sym (append-nil _); deep = refl; bytes = omega arith; few = omega arith; fewer = omega arith }
 
 module _ (image segments : List ℕ) (left a rest : ℕ) (places lengths : List ℕ) (count left' a' rest' : ℕ) (b : Block image segments left a rest places lengths count left' a' rest') where
-  pub block_ends : none ≡ context_read image segments a' → Last image segments left a rest places lengths count rest'
+  pub block_ends : None ≡ context_read image segments a' → Last image segments left a rest places lengths count rest'
   block_ends e =
       record {
         hops = b.hops ∙ ap (λ (l : List ℕ). l ++ gathered image places lengths count) (end_before image segments left' a' e);
@@ -99,23 +98,23 @@ module _ (image segments : List ℕ) (left a rest : ℕ) (places lengths : List 
   pub block_full : 8 ≤ count → Block image segments left a rest places lengths 8 left' a' rest'
   block_full h = let e : count ≡ 8 = omega (arith, b.few) in rw e at b
 
-  pub block_deep : (c : Context) → some c ≡ context_read image segments a' → left' ≡ 0 → deeper image segments left a ≡ true
+  pub block_deep : (c : Context) → Some c ≡ context_read image segments a' → left' ≡ 0 → deeper image segments left a ≡ true
   block_deep c e z = b.deep ∙ too_deep_lem image segments left' a' c e z
 
-  pub block_unnamed : (h : Header) → some (record { header = h; name = none }) ≡ context_read image segments a' → 0 < left'
+  pub block_unnamed : (h : Header) → Some (record { header = h; name = None }) ≡ context_read image segments a' → 0 < left'
       → Block image segments left a rest places lengths count (left' - 1) h.parent rest'
   block_unnamed h e hl =
       let f : before image segments left' a' ≡ before image segments (left' - 1) h.parent =
-      before_is image segments left' a' (record { header = h; name = none }) e (left' - 1) (omega arith) ∙ append-nil _ in
+      before_is image segments left' a' (record { header = h; name = None }) e (left' - 1) (omega arith) ∙ append-nil _ in
       record {
         hops = b.hops ∙ ap (λ (l : List ℕ). l ++ gathered image places lengths count) f;
-        deep = b.deep ∙ deep_is image segments left' a' (record { header = h; name = none }) e (left' - 1) (omega arith);
+        deep = b.deep ∙ deep_is image segments left' a' (record { header = h; name = None }) e (left' - 1) (omega arith);
         bytes = b.bytes;
         few = b.few;
         fewer = omega (arith, b.fewer);
       }
 
-  pub block_named : (h : Header) (p n : ℕ) → some (record { header = h; name = name_read image (Text.At p n) }) ≡ context_read image segments a'
+  pub block_named : (h : Header) (p n : ℕ) → Some (record { header = h; name = name_read image (Text.At p n) }) ≡ context_read image segments a'
       → (rest'' : ℕ) → rest'' ≡ min (rest' + (n + 1)) (2 ^ 64 - 1) → p + n ≤ length image
       → 0 < left' → count < 8 → count < length places → count < length lengths
       → Block image segments left a rest (set places count p) (set lengths count n) (count + 1) (left' - 1) h.parent rest''
@@ -142,7 +141,7 @@ module _ (image segments : List ℕ) (left a rest : ℕ) (places lengths : List 
       }
 
 -- no context at all
-module _ (image segments : List ℕ) (left a rest : ℕ) (e : none ≡ context_read image segments a) where
+module _ (image segments : List ℕ) (left a rest : ℕ) (e : None ≡ context_read image segments a) where
   no_names : rest < 2 ^ 64 → Last image segments left a rest [] [] 0 rest
   no_names h = block_ends image segments left a rest [] [] 0 left a rest (no_block image segments left a rest [] [] h) e
 
@@ -206,7 +205,7 @@ module _ (image segments : List ℕ) (left a rest : ℕ) (places lengths : List 
   last_filled t t' n w = rw b.hops (from_start t (gathered image places lengths count) t' n w)
 
 -- if there is no context
-module _ (image segments : List ℕ) (left a : ℕ) (e : none ≡ context_read image segments a) where
+module _ (image segments : List ℕ) (left a : ℕ) (e : None ≡ context_read image segments a) where
   pub none_long : (rest size : ℕ) → size < rest → rest < 2 ^ 64 → size < 2 ^ 64 - 1 → refused 3 ≡ hops_answer image segments left a rest size
   none_long rest size h hr hs = last_long image segments left a rest [] [] 0 rest (no_names image segments left a rest e hr) size h hs
 

@@ -1,6 +1,5 @@
 -- The joined name: docs/SPECIFICATION.md, "Joined names" and "Refusals".
-use Rattle.std.specs.Prelude.{ℕ, List, [], ◌∷◌, ◌++◌, Bool, true, false, cond, length, ltb}
-use Rattle.std.proofs.Math.Option.{Option, some, none}
+use Rattle.std.specs.Prelude.{ℕ, List, [], ◌∷◌, ◌++◌, Bool, true, false, cond, length, ltb, Option, Some, None}
 use Rattle.refusal.specs.Refusal.{Guarded, answered, refused, refusal_number}
 use Rattle.runtime.specs.Reads.{run}
 use Rattle.typedescriptor.specs.Row.{TypeRow}
@@ -10,8 +9,8 @@ use Rattle.qualified_name.specs.declared.name.QualifiedName.{QualifiedName}
 
 -- a present name, even an empty one, and a dot
 abbrev pub hop : Option Name → List ℕ
-hop none = []
-hop (some n) = n.bytes ++ (46 ∷ [])
+hop None = []
+hop (Some n) = n.bytes ++ (46 ∷ [])
 
 -- the hops of a chain, the outermost first
 unfoldable pub hops : List Context → List ℕ
@@ -23,8 +22,8 @@ unfoldable pub qualified_name : List ℕ → List ℕ → TypeRow → List ℕ
 qualified_name image segments row = hops (chain image segments contexts_most row.parent) ++ row.name_bytes
 
 abbrev pub is_there : {A : Type 0} → Option A → Bool
-is_there none = false
-is_there (some a) = true
+is_there None = false
+is_there (Some a) = true
 
 -- whether a 257th context can be read
 unfoldable pub too_deep : List ℕ → List ℕ → ℕ → Bool

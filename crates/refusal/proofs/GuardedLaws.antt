@@ -2,11 +2,10 @@
 use Prim.Native.Nat.{ℕ, zero, suc, ◌+◌, ◌*◌, ◌%◌, ◌^◌, ◌≤◌, ◌<◌}
 use native.Mathlib.Omega.{arith}
 use Rattle.std.proofs.Math.Numerals.{unary_clauses}
-use Rattle.std.specs.Prelude.{◌≡◌, List, [], ◌∷◌, Bool, false, cond, ◌||◌, eqb, leb, drop}
+use Rattle.std.specs.Prelude.{◌≡◌, List, [], ◌∷◌, Bool, false, cond, ◌||◌, eqb, leb, drop, Option, Some, None}
 use Rattle.std.proofs.Math.Path.{refl, sym, ap}
 use Rattle.std.proofs.Common.{◌∙◌}
 use Rattle.std.proofs.Math.Bool.{true}
-use Rattle.std.proofs.Math.Option.{Option, some, none}
 use Rattle.std.proofs.Math.Dec.{ltb}
 use Rattle.std.proofs.Math.ListN.{length, get_or, length-drop}
 use borrow.Author.Tests.{eq-eqb, ne_eqb, le-leb, lt-leb, lt-ltb}
@@ -18,27 +17,27 @@ use Rattle.refusal.specs.Guarded.{wrapping, any_wrapping, fault, first_wrapping,
 -- ---- what is wrong with a list, in plain numbers
 
 module _ (l : List ℕ) where
-  pub ragged : (length l % 4 ≡ 0 → ⊥) → some 1 ≡ fault l
+  pub ragged : (length l % 4 ≡ 0 → ⊥) → Some 1 ≡ fault l
   unfolding fault
   ragged h = simp (ne_eqb (length l % 4) 0 h)
 
   module _ (h : length l % 4 ≡ 0) where
-    pub wrapped : any_wrapping (segments_of l) ≡ true → some 9 ≡ fault l
+    pub wrapped : any_wrapping (segments_of l) ≡ true → Some 9 ≡ fault l
     unfolding fault
     wrapped w = simp (eq-eqb (length l % 4) 0 h, w)
 
-    pub none_wrapping : any_wrapping (segments_of l) ≡ false → none ≡ fault l
+    pub none_wrapping : any_wrapping (segments_of l) ≡ false → None ≡ fault l
     unfolding fault
     none_wrapping w = simp (eq-eqb (length l % 4) 0 h, w)
 
     -- and whole segments are refused with nothing else
-    pub whole_nine : (n : ℕ) → some n ≡ fault l → n ≡ 9
+    pub whole_nine : (n : ℕ) → Some n ≡ fault l → n ≡ 9
     whole_nine n e = go (any_wrapping (segments_of l)) refl
       where
         go : (b : Bool) → any_wrapping (segments_of l) ≡ b → n ≡ 9
-        go true t = let f : some n ≡ some 9 = e ∙ sym (wrapped t) in cc
+        go true t = let f : Some n ≡ Some 9 = e ∙ sym (wrapped t) in cc
         go false t =
-            let f : some n ≡ none = e ∙ sym (none_wrapping t) in
+            let f : Some n ≡ None = e ∙ sym (none_wrapping t) in
             let z : ◌≡◌ {A = ℕ} 0 1 = cc in
             absurd (omega arith)
 
@@ -99,37 +98,37 @@ none_at (a ∷ (b ∷ [])) n = refl
 none_at (a ∷ (b ∷ (c ∷ []))) n = refl
 
 module _ (l : List ℕ) (whole : length l % 4 ≡ 0) where
-  pub wrapped_at : (i : ℕ) → i % 4 ≡ 0 → i + 4 ≤ length l → 2 ^ 64 ≤ get_or l i 0 + get_or l (i + 1) 0 → some 9 ≡ fault l
+  pub wrapped_at : (i : ℕ) → i % 4 ≡ 0 → i + 4 ≤ length l → 2 ^ 64 ≤ get_or l i 0 + get_or l (i + 1) 0 → Some 9 ≡ fault l
   wrapped_at i z h w = wrapped l whole (any_at l i z h (simp unary_clauses at w))
 
-  pub none_wraps : ((i : ℕ) → i % 4 ≡ 0 → i + 4 ≤ length l → get_or l i 0 + get_or l (i + 1) 0 < 2 ^ 64) → none ≡ fault l
+  pub none_wraps : ((i : ℕ) → i % 4 ≡ 0 → i + 4 ≤ length l → get_or l i 0 + get_or l (i + 1) 0 < 2 ^ 64) → None ≡ fault l
   none_wraps n = none_wrapping l whole (none_at l (λ i z h. simp unary_clauses at (n i z h)))
 
 -- ---- which segment it is
 
 -- it is told exactly if there is one
-pub first_some : (k : ℕ) (ss : List Segment) → any_wrapping ss ≡ true → (n : ℕ) × (first_wrapping k ss ≡ some n)
+pub first_some : (k : ℕ) (ss : List Segment) → any_wrapping ss ≡ true → (n : ℕ) × (first_wrapping k ss ≡ Some n)
 unfolding any_wrapping first_wrapping
 first_some k [] e = let z : ◌≡◌ {A = ℕ} 0 1 = cc in absurd (omega arith)
 first_some k (s ∷ ss) e = go (wrapping s) refl e (first_some (suc k) ss)
   where
-    go : (b : Bool) → wrapping s ≡ b → b || any_wrapping ss ≡ true → (any_wrapping ss ≡ true → (n : ℕ) × (first_wrapping (suc k) ss ≡ some n)) → (n : ℕ) × (first_wrapping k (s ∷ ss) ≡ some n)
+    go : (b : Bool) → wrapping s ≡ b → b || any_wrapping ss ≡ true → (any_wrapping ss ≡ true → (n : ℕ) × (first_wrapping (suc k) ss ≡ Some n)) → (n : ℕ) × (first_wrapping k (s ∷ ss) ≡ Some n)
     go true t e ih = (k, rw t refl)
     go false t e ih = let r = ih e in (r.0, rw t r.1)
 
-pub first_none : (k : ℕ) (ss : List Segment) → any_wrapping ss ≡ false → first_wrapping k ss ≡ none
+pub first_none : (k : ℕ) (ss : List Segment) → any_wrapping ss ≡ false → first_wrapping k ss ≡ None
 unfolding any_wrapping first_wrapping
 first_none k [] e = refl
 first_none k (s ∷ ss) e = go (wrapping s) refl e (first_none (suc k) ss)
   where
-    go : (b : Bool) → wrapping s ≡ b → b || any_wrapping ss ≡ false → (any_wrapping ss ≡ false → first_wrapping (suc k) ss ≡ none) → first_wrapping k (s ∷ ss) ≡ none
+    go : (b : Bool) → wrapping s ≡ b → b || any_wrapping ss ≡ false → (any_wrapping ss ≡ false → first_wrapping (suc k) ss ≡ None) → first_wrapping k (s ∷ ss) ≡ None
     go true t e ih = let z : ◌≡◌ {A = ℕ} 0 1 = cc in absurd (omega arith)
     go false t e ih = rw t (ih e)
 
 -- a turn of the walk over the list, from the segment with number `k` on
 module _ (l : List ℕ) (k : ℕ) (x : Option ℕ) (inv : x ≡ first_wrapping k (segments_of (drop (4 * k) l))) where
   module _ (h : 4 * k + 4 ≤ length l) where
-    pub first_here : 2 ^ 64 ≤ get_or l (4 * k) 0 + get_or l (4 * k + 1) 0 → some k ≡ x
+    pub first_here : 2 ^ 64 ≤ get_or l (4 * k) 0 + get_or l (4 * k + 1) 0 → Some k ≡ x
     unfolding first_wrapping
     first_here w = sym (inv ∙ rw (segments_step l (4 * k) 0 h, le-leb (2 ^ 64) (get_or l (4 * k) 0 + get_or l (4 * k + 1) 0) w) refl)
 
@@ -143,7 +142,7 @@ module _ (l : List ℕ) (k : ℕ) (x : Option ℕ) (inv : x ≡ first_wrapping k
         ∙ ap (λ (n : ℕ). first_wrapping (suc k) (segments_of (drop n l))) place
         ∙ ap (λ (n : ℕ). first_wrapping n (segments_of (drop (4 * (k + 1)) l))) one
 
-  pub first_nowhere : length l < 4 * k + 4 → none ≡ x
+  pub first_nowhere : length l < 4 * k + 4 → None ≡ x
   unfolding first_wrapping
   first_nowhere h =
       let short : length (drop (4 * k) l) < 4 = simp length-drop (omega arith) in
@@ -156,13 +155,13 @@ module _ (segments : List ℕ) {A : Type 0} (g : Guarded A) where
   unfolding guarded
   by_fault f e = ap (λ (f : Option ℕ). refused_by f g) e
 
-  pub refused_list : {n : ℕ} → some n ≡ fault segments → refused n ≡ guarded segments g
-  refused_list e = by_fault (some _) e
+  pub refused_list : {n : ℕ} → Some n ≡ fault segments → refused n ≡ guarded segments g
+  refused_list e = by_fault (Some _) e
 
-  pub accepted_list : none ≡ fault segments → g ≡ guarded segments g
-  accepted_list e = by_fault none e
+  pub accepted_list : None ≡ fault segments → g ≡ guarded segments g
+  accepted_list e = by_fault None e
 
-  pub accepted_as : (x : Guarded A) → x ≡ g → none ≡ fault segments → x ≡ guarded segments g
+  pub accepted_as : (x : Guarded A) → x ≡ g → None ≡ fault segments → x ≡ guarded segments g
   accepted_as x o e = o ∙ accepted_list e
 
   -- what is made from an answer
@@ -171,8 +170,8 @@ module _ (segments : List ℕ) {A : Type 0} (g : Guarded A) where
   mapped_guarded {B} f = go (fault segments)
     where
       go : (o : Option ℕ) → mapped f (refused_by o g) ≡ refused_by o (mapped f g)
-      go none = refl
-      go (some n) = refl
+      go None = refl
+      go (Some n) = refl
 
 -- what a call that answers says
 pub answered_is : (segments : List ℕ) {A : Type 0} (x y : A) → answered y ≡ guarded segments (answered x) → y ≡ x
@@ -180,10 +179,10 @@ unfolding guarded
 answered_is segments {A} x y e = go (fault segments) e
   where
     go : (f : Option ℕ) → answered y ≡ refused_by f (answered x) → y ≡ x
-    go none e = cc
-    go (some n) e = let z : ◌≡◌ {A = ℕ} 0 1 = cc in absurd (omega arith)
+    go None e = cc
+    go (Some n) e = let z : ◌≡◌ {A = ℕ} 0 1 = cc in absurd (omega arith)
 
-pub never_refused : (segments : List ℕ) {A : Type 0} (x : A) (n : ℕ) → refused n ≡ guarded segments (answered x) → none ≡ fault segments → ⊥
+pub never_refused : (segments : List ℕ) {A : Type 0} (x : A) (n : ℕ) → refused n ≡ guarded segments (answered x) → None ≡ fault segments → ⊥
 never_refused segments x n e h =
     let f : refused n ≡ answered x = e ∙ sym (accepted_list segments (answered x) h) in
     let z : ◌≡◌ {A = ℕ} 0 1 = cc in

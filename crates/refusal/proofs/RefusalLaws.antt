@@ -1,6 +1,5 @@
 -- Each refusal has a number of its own.
-use Rattle.std.specs.Prelude.{ℕ, ◌≡◌, refl, List, [], ◌∷◌, map, cond, eqb}
-use Rattle.std.proofs.Math.Option.{Option, some, none}
+use Rattle.std.specs.Prelude.{ℕ, ◌≡◌, refl, List, [], ◌∷◌, map, cond, eqb, Option, Some, None}
 use Rattle.refusal.specs.Refusal.{refusal_number}
 use Rattle.refusal.specs.declared.Refusal.{Refusal}
 
@@ -12,10 +11,10 @@ numbers_are = refl
 
 -- the first of some refusals that has a number
 unfoldable pub numbered : ℕ → List Refusal → Option Refusal
-numbered n [] = none
-numbered n (r ∷ rs) = cond (eqb (refusal_number r) n) (some r) (numbered n rs)
+numbered n [] = None
+numbered n (r ∷ rs) = cond (eqb (refusal_number r) n) (Some r) (numbered n rs)
 
-pub told_apart : (r : Refusal) → numbered (refusal_number r) refusals ≡ some r
+pub told_apart : (r : Refusal) → numbered (refusal_number r) refusals ≡ Some r
 unfolding numbered
 told_apart Refusal.RaggedSegments = refl
 told_apart Refusal.BrokenBundle = refl

@@ -1,7 +1,6 @@
 -- docs/SPECIFICATION.md, "Refusals": what is wrong with a list of segment numbers. A count that is not a multiple of four is refused
 -- with 1, and then a segment that wraps with 9, before anything else.
-use Rattle.std.specs.Prelude.{ℕ, suc, ◌+◌, ◌%◌, ◌^◌, List, [], ◌∷◌, Bool, false, cond, ◌||◌, length, eqb, leb}
-use Rattle.std.proofs.Math.Option.{Option, some, none}
+use Rattle.std.specs.Prelude.{ℕ, suc, ◌+◌, ◌%◌, ◌^◌, List, [], ◌∷◌, Bool, false, cond, ◌||◌, length, eqb, leb, Option, Some, None}
 use Rattle.segment.specs.Segments.{Segment, segments_of}
 use Rattle.refusal.specs.Refusal.{Guarded, refused, refusal_number}
 use Rattle.refusal.specs.declared.Fault.{Fault}
@@ -17,24 +16,24 @@ any_wrapping (s ∷ ss) = wrapping s || any_wrapping ss
 
 -- the number of the refusal that a list gets, if it gets one
 unfoldable pub fault : List ℕ → Option ℕ
-fault segments = cond (eqb (length segments % 4) 0) (cond (any_wrapping (segments_of segments)) (some 9) none) (some 1)
+fault segments = cond (eqb (length segments % 4) 0) (cond (any_wrapping (segments_of segments)) (Some 9) None) (Some 1)
 
 abbrev pub fault_of : Fault → Option ℕ
-fault_of (Fault.Refused r) = some (refusal_number r)
-fault_of Fault.Nothing = none
+fault_of (Fault.Refused r) = Some (refusal_number r)
+fault_of Fault.Nothing = None
 
 -- the number of the first segment that wraps, the first of all being number `k`
 unfoldable pub first_wrapping : ℕ → List Segment → Option ℕ
-first_wrapping k [] = none
-first_wrapping k (s ∷ ss) = cond (wrapping s) (some k) (first_wrapping (suc k) ss)
+first_wrapping k [] = None
+first_wrapping k (s ∷ ss) = cond (wrapping s) (Some k) (first_wrapping (suc k) ss)
 
 abbrev pub wrapping_of : Wrapping → Option ℕ
-wrapping_of (Wrapping.At k) = some k
-wrapping_of Wrapping.Nothing = none
+wrapping_of (Wrapping.At k) = Some k
+wrapping_of Wrapping.Nothing = None
 
 abbrev pub refused_by : {A : Type 0} → Option ℕ → Guarded A → Guarded A
-refused_by (some n) g = refused n
-refused_by none g = g
+refused_by (Some n) g = refused n
+refused_by None g = g
 
 -- what a call with segments answers
 unfoldable pub guarded : {A : Type 0} → List ℕ → Guarded A → Guarded A

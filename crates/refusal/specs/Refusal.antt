@@ -1,6 +1,5 @@
 -- The refusals by their numbers: docs/SPECIFICATION.md, "Refusals".
-use Rattle.std.specs.Prelude.{ℕ}
-use Rattle.std.proofs.Math.Option.{Option, some, none}
+use Rattle.std.specs.Prelude.{ℕ, Option, Some, None}
 use Rattle.refusal.specs.declared.Refusal.{Refusal}
 
 -- an answer, or the number of a refusal
@@ -23,5 +22,5 @@ mapped f (refused n) = refused n
 
 -- what a call answers, none if it refuses
 abbrev pub answer_of : {A : Type 0} → Guarded A → Option A
-answer_of (answered a) = some a
-answer_of (refused n) = none
+answer_of (answered a) = Some a
+answer_of (refused n) = None

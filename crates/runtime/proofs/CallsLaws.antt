@@ -1,12 +1,11 @@
 -- What the calls' answers say about the language of reads: from a call's contract a caller gets what `run` is in one step
 -- (`run-bytes`, `run-no-bytes`, `run-text`, `run-no-text`). And the cases of the definitions that the calls' tests leave.
-use Rattle.std.specs.Prelude.{ℕ, ◌+◌, ◌-◌, ◌≤◌, ◌<◌, true, drop}
+use Rattle.std.specs.Prelude.{ℕ, ◌+◌, ◌-◌, ◌≤◌, ◌<◌, true, drop, Option, Some, None, option_map}
 use Rattle.std.proofs.Math.Decide.{dec_le}
 use native.Mathlib.Omega.{arith}
 use Rattle.std.proofs.Math.Path.{◌≡◌, refl, sym, ap}
 use Rattle.std.proofs.Common.{◌∙◌, length-take}
 use mathlib.Core.List.{List, []}
-use Rattle.std.proofs.Math.Option.{Option, some, none, map}
 use Rattle.std.proofs.Math.ListN.{length, take, length-drop}
 use borrow.Author.Tests.{le-leb, lt-leb, lt-ltb, le-ltb, eq-eqb, ne_eqb}
 use Rattle.utf8.specs.Text.{until_nul, text_length}
@@ -35,8 +34,8 @@ module _ (image segments : List ℕ) (m : Mapping) (w : TrueMapping segments m) 
   text_mapped a = rw (offset_mapped a)
 
   then_same : {A B : Type 0} (x : Option A) (f g : A → Option B) → ((a : A) → f a ≡ g a) → and_then x f ≡ and_then x g
-  then_same none f g e = refl
-  then_same (some a) f g e = e a
+  then_same None f g e = refl
+  then_same (Some a) f g e = e a
 
   pub run_mapped : {A : Type 0} (p : Reads A) → run image (with_mapping m segments) p ≡ run image segments p
   unfolding run
@@ -52,42 +51,42 @@ module _ (image segments : List ℕ) (m : Mapping) (w : TrueMapping segments m) 
   name_mapped strings start a = rw (text_mapped a)
 
 module _ (image segments : List ℕ) (a n : ℕ) where
-  pub bytes_at_lem : (o : ℕ) → some o ≡ file_offset (segments_of segments) a → o + n ≤ length image → some o ≡ bytes_place image segments a n
+  pub bytes_at_lem : (o : ℕ) → Some o ≡ file_offset (segments_of segments) a → o + n ≤ length image → Some o ≡ bytes_place image segments a n
   unfolding bytes_place within
   bytes_at_lem o e h = rw (← e, within) (simp (le-leb (o + n) (length image) h))
 
-  pub bytes_past : (o : ℕ) → some o ≡ file_offset (segments_of segments) a → length image < o + n → none ≡ bytes_place image segments a n
+  pub bytes_past : (o : ℕ) → Some o ≡ file_offset (segments_of segments) a → length image < o + n → None ≡ bytes_place image segments a n
   unfolding bytes_place within
   bytes_past o e h = rw (← e, within) (simp (lt-leb (o + n) (length image) h))
 
-  pub bytes_nowhere : none ≡ file_offset (segments_of segments) a → none ≡ bytes_place image segments a n
+  pub bytes_nowhere : None ≡ file_offset (segments_of segments) a → None ≡ bytes_place image segments a n
   unfolding bytes_place
   bytes_nowhere e = rw (← e)
 
   -- bytes that were found lie within the image
-  pub bytes_within : (o : ℕ) → some o ≡ bytes_place image segments a n → o + n ≤ length image
+  pub bytes_within : (o : ℕ) → Some o ≡ bytes_place image segments a n → o + n ≤ length image
   unfolding bytes_place within
   bytes_within o e = go (file_offset (segments_of segments) a) e
     where
-      at : (q : ℕ) → Dec (q + n ≤ length image) → some o ≡ within (length image) n q → o + n ≤ length image
+      at : (q : ℕ) → Dec (q + n ≤ length image) → Some o ≡ within (length image) n q → o + n ≤ length image
       at q (yes h) e =
-          let f : some o ≡ some q = simp (le-leb (q + n) (length image) h) at e in
+          let f : Some o ≡ Some q = simp (le-leb (q + n) (length image) h) at e in
           let g : o ≡ q = cc in
           omega arith
       at q (no h) e =
-          let f : ◌≡◌ {A = Option ℕ} (some o) none = simp (lt-leb (q + n) (length image) (omega arith)) at e in
+          let f : ◌≡◌ {A = Option ℕ} (Some o) None = simp (lt-leb (q + n) (length image) (omega arith)) at e in
           let z : ◌≡◌ {A = ℕ} 0 1 = cc in
           absurd (omega arith)
 
-      go : (x : Option ℕ) → some o ≡ and_then x (within (length image) n) → o + n ≤ length image
-      go none e = let z : ◌≡◌ {A = ℕ} 0 1 = cc in absurd (omega arith)
-      go (some q) e = at q (dec_le (q + n) (length image)) e
+      go : (x : Option ℕ) → Some o ≡ and_then x (within (length image) n) → o + n ≤ length image
+      go None e = let z : ◌≡◌ {A = ℕ} 0 1 = cc in absurd (omega arith)
+      go (Some q) e = at q (dec_le (q + n) (length image)) e
 
-  pub read_at_lem : (o : ℕ) (r : List ℕ) → some o ≡ bytes_place image segments a n → r ≡ part_of image (place o n) → r ≡ bytes_read image segments a n
+  pub read_at_lem : (o : ℕ) (r : List ℕ) → Some o ≡ bytes_place image segments a n → r ≡ part_of image (place o n) → r ≡ bytes_read image segments a n
   unfolding bytes_read
   read_at_lem o r e p = p ∙ part_in image o n (bytes_within o e) ∙ rw (← e)
 
-  pub read_nothing : none ≡ bytes_place image segments a n → [] ≡ bytes_read image segments a n
+  pub read_nothing : None ≡ bytes_place image segments a n → [] ≡ bytes_read image segments a n
   unfolding bytes_read
   read_nothing e = rw (← e)
 
@@ -98,32 +97,32 @@ module _ (image segments : List ℕ) (a n : ℕ) where
     run_bytes h l = go (bytes_place image segments a n) e
       where
         go : (x : Option ℕ) → r ≡ bytes_from image n x → and_then x (λ o. run image segments (k (take n (drop o image)))) ≡ run image segments (k r)
-        go none f = absurd (omega (arith, ap length f))
-        go (some o) f = ap (λ (s : List ℕ). run image segments (k s)) (sym f)
+        go None f = absurd (omega (arith, ap length f))
+        go (Some o) f = ap (λ (s : List ℕ). run image segments (k s)) (sym f)
 
     -- fewer: there is no answer
-    pub run_no_bytes : length r < n → run image segments (bytes a n k) ≡ none
+    pub run_no_bytes : length r < n → run image segments (bytes a n k) ≡ None
     unfolding run bytes_read
     run_no_bytes l = go (bytes_place image segments a n) refl
       where
-        go : (x : Option ℕ) → bytes_place image segments a n ≡ x → and_then x (λ o. run image segments (k (take n (drop o image)))) ≡ none
-        go none f = refl
-        go (some o) f =
+        go : (x : Option ℕ) → bytes_place image segments a n ≡ x → and_then x (λ o. run image segments (k (take n (drop o image)))) ≡ None
+        go None f = refl
+        go (Some o) f =
             let w : o + n ≤ length image = bytes_within o (sym f) in
             let g : r ≡ take n (drop o image) = e ∙ ap (bytes_from image n) f in
             absurd (omega (arith, simp (length-take, length-drop) at (ap length g)))
 
 module _ (image segments : List ℕ) (a : ℕ) where
-  pub text_zero : a ≡ 0 → none ≡ text_place image segments a
+  pub text_zero : a ≡ 0 → None ≡ text_place image segments a
   unfolding text_place text_offset
   text_zero h = simp (eq-eqb a 0 h)
 
   module _ (h : a ≡ 0 → ⊥) where
-    pub text_at_lem : (o : ℕ) (x : Option Place) → some o ≡ file_offset (segments_of segments) a → x ≡ text_at image o → x ≡ text_place image segments a
+    pub text_at_lem : (o : ℕ) (x : Option Place) → Some o ≡ file_offset (segments_of segments) a → x ≡ text_at image o → x ≡ text_place image segments a
     unfolding text_place text_offset
     text_at_lem o x e t = simp (ne_eqb a 0 h) (t ∙ rw (← e))
 
-    pub text_nowhere : none ≡ file_offset (segments_of segments) a → none ≡ text_place image segments a
+    pub text_nowhere : None ≡ file_offset (segments_of segments) a → None ≡ text_place image segments a
     unfolding text_place text_offset
     text_nowhere e = simp (ne_eqb a 0 h) (rw (← e))
 
@@ -131,14 +130,14 @@ module _ (image segments : List ℕ) (a : ℕ) where
   abbrev There : ℕ → Place → Type 0
   There o p = (p.start + p.size ≤ length image) × (until_nul (drop o image) ≡ part_of image p) × (place o p.size ≡ p)
 
-  found_there : (o : ℕ) (p : Place) → text_at image o ≡ some p → There o p
+  found_there : (o : ℕ) (p : Place) → text_at image o ≡ Some p → There o p
   unfolding text_at
   found_there o p e = go (dec_le o (length image))
     where
-      at : o ≤ length image → (x : Option ℕ) → text_length (drop o image) ≡ x → map (place o) x ≡ some p
+      at : o ≤ length image → (x : Option ℕ) → text_length (drop o image) ≡ x → option_map (place o) x ≡ Some p
           → There o p
-      at h none t f = let z : ◌≡◌ {A = ℕ} 0 1 = cc in absurd (omega arith)
-      at h (some n) t f =
+      at h None t f = let z : ◌≡◌ {A = ℕ} 0 1 = cc in absurd (omega arith)
+      at h (Some n) t f =
           let q : p ≡ place o n = cc in
           let fits : o + n ≤ length image = omega (arith, simp length-drop at (text_length_le (drop o image) n t)) in
           (rw q fits, sym (text_bytes (drop o image) n t) ∙ sym (part_in image o n fits) ∙ ap (part_of image) (sym q), rw q)
@@ -146,52 +145,52 @@ module _ (image segments : List ℕ) (a : ℕ) where
       go : Dec (o ≤ length image) → There o p
       go (yes h) = at h (text_length (drop o image)) refl (simp (le-leb o (length image) h) at e)
       go (no h) =
-          let f : ◌≡◌ {A = Option Place} none (some p) = simp (lt-leb o (length image) (omega arith)) at e in
+          let f : ◌≡◌ {A = Option Place} None (Some p) = simp (lt-leb o (length image) (omega arith)) at e in
           let z : ◌≡◌ {A = ℕ} 0 1 = cc in absurd (omega arith)
 
-  pub text_there : (a ≡ 0 → ⊥) → (o : ℕ) (p : Place) → some o ≡ file_offset (segments_of segments) a → some p ≡ text_at image o
-      → some (place o p.size) ≡ text_place image segments a
-  text_there h o p e t = ap some (found_there o p (sym t)).2 ∙ text_at_lem h o (some p) e t
+  pub text_there : (a ≡ 0 → ⊥) → (o : ℕ) (p : Place) → Some o ≡ file_offset (segments_of segments) a → Some p ≡ text_at image o
+      → Some (place o p.size) ≡ text_place image segments a
+  text_there h o p e t = ap Some (found_there o p (sym t)).2 ∙ text_at_lem h o (Some p) e t
 
-  pub text_within : (p : Place) → some p ≡ text_place image segments a → p.start + p.size ≤ length image
+  pub text_within : (p : Place) → Some p ≡ text_place image segments a → p.start + p.size ≤ length image
   unfolding text_place
   text_within p e = go (text_offset segments a) e
     where
-      go : (x : Option ℕ) → some p ≡ and_then x (text_at image) → p.start + p.size ≤ length image
-      go none f = let z : ◌≡◌ {A = ℕ} 0 1 = cc in absurd (omega arith)
-      go (some o) f = (found_there o p (sym f)).0
+      go : (x : Option ℕ) → Some p ≡ and_then x (text_at image) → p.start + p.size ≤ length image
+      go None f = let z : ◌≡◌ {A = ℕ} 0 1 = cc in absurd (omega arith)
+      go (Some o) f = (found_there o p (sym f)).0
 
   module _ {A : Type 0} (k : Place → List ℕ → Reads A) where
     -- a text that is found: the program goes on with its place and its bytes
-    pub run_text : (p : Place) → some p ≡ text_place image segments a → run image segments (text a k) ≡ run image segments (k p (part_of image p))
+    pub run_text : (p : Place) → Some p ≡ text_place image segments a → run image segments (text a k) ≡ run image segments (k p (part_of image p))
     unfolding run text_place
     run_text p e = go (text_offset segments a) e
       where
-        at : (o : ℕ) (y : Option Place) → text_at image o ≡ y → some p ≡ y → and_then y (λ q. run image segments (k q (until_nul (drop o image)))) ≡ run image segments (k p (part_of image p))
-        at o none t f = let z : ◌≡◌ {A = ℕ} 0 1 = cc in absurd (omega arith)
-        at o (some q) t f =
+        at : (o : ℕ) (y : Option Place) → text_at image o ≡ y → Some p ≡ y → and_then y (λ q. run image segments (k q (until_nul (drop o image)))) ≡ run image segments (k p (part_of image p))
+        at o None t f = let z : ◌≡◌ {A = ℕ} 0 1 = cc in absurd (omega arith)
+        at o (Some q) t f =
             let s : q ≡ p = cc in
             ap (λ (l : List ℕ). run image segments (k q l)) (found_there o q t).1 ∙ ap (λ (z : Place). run image segments (k z (part_of image z))) s
 
-        go : (x : Option ℕ) → some p ≡ and_then x (text_at image) → and_then x (λ o. and_then (text_at image o) (λ q. run image segments (k q (until_nul (drop o image))))) ≡ run image segments (k p (part_of image p))
-        go none f = let z : ◌≡◌ {A = ℕ} 0 1 = cc in absurd (omega arith)
-        go (some o) f = at o (text_at image o) refl f
+        go : (x : Option ℕ) → Some p ≡ and_then x (text_at image) → and_then x (λ o. and_then (text_at image o) (λ q. run image segments (k q (until_nul (drop o image))))) ≡ run image segments (k p (part_of image p))
+        go None f = let z : ◌≡◌ {A = ℕ} 0 1 = cc in absurd (omega arith)
+        go (Some o) f = at o (text_at image o) refl f
 
-    pub run_no_text : none ≡ text_place image segments a → run image segments (text a k) ≡ none
+    pub run_no_text : None ≡ text_place image segments a → run image segments (text a k) ≡ None
     unfolding run text_place
     run_no_text e = go (text_offset segments a) e
       where
-        go : (x : Option ℕ) → none ≡ and_then x (text_at image) → and_then x (λ o. and_then (text_at image o) (λ q. run image segments (k q (until_nul (drop o image))))) ≡ none
-        go none f = refl
-        go (some o) f = rw (← f)
+        go : (x : Option ℕ) → None ≡ and_then x (text_at image) → and_then x (λ o. and_then (text_at image o) (λ q. run image segments (k q (until_nul (drop o image))))) ≡ None
+        go None f = refl
+        go (Some o) f = rw (← f)
 
 module _ (strings : List ℕ) (start a : ℕ) where
-  pub section_below : a < start → none ≡ section_text strings start a
+  pub section_below : a < start → None ≡ section_text strings start a
   unfolding section_text
   section_below h = simp (lt-leb start a h)
 
   module _ (h : start ≤ a) where
-    pub section_past : length strings ≤ a - start → none ≡ section_text strings start a
+    pub section_past : length strings ≤ a - start → None ≡ section_text strings start a
     unfolding section_text
     section_past p = simp (le-leb start a h, le-ltb (a - start) (length strings) p)
 
@@ -200,15 +199,15 @@ module _ (strings : List ℕ) (start a : ℕ) where
     section_at x e p = simp (le-leb start a h, lt-ltb (a - start) (length strings) p) e
 
 module _ (image segments strings : List ℕ) (start a : ℕ) where
-  pub name_zero : a ≡ 0 → none ≡ field_name image segments strings start a
+  pub name_zero : a ≡ 0 → None ≡ field_name image segments strings start a
   unfolding field_name
   name_zero h = simp (eq-eqb a 0 h)
 
   module _ (h : a ≡ 0 → ⊥) where
-    pub name_image : (p : Place) → some p ≡ text_place image segments a → some (in_image p) ≡ field_name image segments strings start a
+    pub name_image : (p : Place) → Some p ≡ text_place image segments a → Some (in_image p) ≡ field_name image segments strings start a
     unfolding field_name
     name_image p e = simp (ne_eqb a 0 h) (rw (← e))
 
-    pub name_strings : (x : Option Place) → none ≡ text_place image segments a → x ≡ section_text strings start a → map in_strings x ≡ field_name image segments strings start a
+    pub name_strings : (x : Option Place) → None ≡ text_place image segments a → x ≡ section_text strings start a → option_map in_strings x ≡ field_name image segments strings start a
     unfolding field_name
     name_strings x e s = simp (ne_eqb a 0 h) (rw (← e, ← s))

@@ -1,11 +1,10 @@
 -- What a path and the cut's tests on it are, as equations with plain lists and numbers. The cut theorem has them in its premise and in its
 -- conclusion, so it could hold with wrong ones too: these laws, and not the theorem, fix them.
-use Rattle.std.specs.Prelude.{ℕ, zero, suc, ◌+◌, ◌-◌, ◌≤◌, ◌<◌, min, max, ◌⊎◌, List, [], ◌∷◌, true, false, take, drop}
+use Rattle.std.specs.Prelude.{ℕ, zero, suc, ◌+◌, ◌-◌, ◌≤◌, ◌<◌, min, max, ◌⊎◌, List, [], ◌∷◌, true, false, take, drop, Option, Some, None, option_map}
 use Rattle.std.proofs.Math.Decide.{dec_le, dec_lt}
 use Rattle.std.proofs.Common.{arith, ◌∙◌, length-drop, le-leb, leb-true, eq-eqb, ne_eqb}
 use Rattle.std.proofs.Math.Path.{◌≡◌, refl, sym, ap}
 use Rattle.std.proofs.lemmas.Bool.{false≢true, lt-leb}
-use Rattle.std.proofs.Math.Option.{Option, some, none, map}
 use Rattle.std.proofs.Math.ListN.{length}
 use Rattle.utf8.specs.Text.{until_nul, text_length}
 use Rattle.utf8.specs.Utf8Laws.{text_length_lem}
@@ -57,16 +56,16 @@ module _ (image segments : List ℕ) {A : Type 0} where
 
   module _ (a n : ℕ) (k : List ℕ → Reads A) where
     -- bytes that can be read, and what is read after them
-    pub path_bytes : (o : ℕ) → file_offset (segments_of segments) a ≡ some o → o + n ≤ length image
+    pub path_bytes : (o : ℕ) → file_offset (segments_of segments) a ≡ Some o → o + n ≤ length image
         → path image segments (bytes a n k) ≡ record { from = o; to = o + n; is_text = false } ∷ path image segments (k (take n (drop o image)))
     unfolding path bytes_place within
     path_bytes o e h = rw (e, path) (simp (le-leb (o + n) (length image) h))
 
-    pub path_bytes_past : (o : ℕ) → file_offset (segments_of segments) a ≡ some o → length image < o + n → path image segments (bytes a n k) ≡ []
+    pub path_bytes_past : (o : ℕ) → file_offset (segments_of segments) a ≡ Some o → length image < o + n → path image segments (bytes a n k) ≡ []
     unfolding path bytes_place within
     path_bytes_past o e h = rw (e, path) (simp (lt-leb (o + n) (length image) h))
 
-    pub path_bytes_nowhere : file_offset (segments_of segments) a ≡ none → path image segments (bytes a n k) ≡ []
+    pub path_bytes_nowhere : file_offset (segments_of segments) a ≡ None → path image segments (bytes a n k) ≡ []
     unfolding path bytes_place
     path_bytes_nowhere e = rw (e, path)
 
@@ -76,19 +75,19 @@ module _ (image segments : List ℕ) {A : Type 0} where
     path_text_zero z = simp (eq-eqb a 0 z)
 
     module _ (z : a ≡ 0 → ⊥) where
-      pub path_text_nowhere : file_offset (segments_of segments) a ≡ none → path image segments (text a k) ≡ []
+      pub path_text_nowhere : file_offset (segments_of segments) a ≡ None → path image segments (text a k) ≡ []
       unfolding path text_offset
       path_text_nowhere e = simp (ne_eqb a 0 z) (rw (e, path))
 
       -- a text that is looked up: the text and its NUL, or up to the image's end, or one byte past it; and what is read after it
-      pub path_text : (o : ℕ) (p : Place) → file_offset (segments_of segments) a ≡ some o → text_at image o ≡ some p
+      pub path_text : (o : ℕ) (p : Place) → file_offset (segments_of segments) a ≡ Some o → text_at image o ≡ Some p
           → path image segments (text a k)
           ≡ record { from = o; to = o + max 1 (min (length image - o) (length (until_nul (drop o image)) + 1)); is_text = true } ∷ path image segments (k p (until_nul (drop o image)))
       unfolding path text_offset
       path_text o p e t = simp (ne_eqb a 0 z) (rw (e, t) (ap (λ (r : Range). r ∷ path image segments (k p (until_nul (drop o image)))) (text_range_lem image o)))
 
       -- an ill_formed one, or one past the image's end, has its range too
-      pub path_no_text : (o : ℕ) → file_offset (segments_of segments) a ≡ some o → text_at image o ≡ none
+      pub path_no_text : (o : ℕ) → file_offset (segments_of segments) a ≡ Some o → text_at image o ≡ None
           → path image segments (text a k)
           ≡ record { from = o; to = o + max 1 (min (length image - o) (length (until_nul (drop o image)) + 1)); is_text = true } ∷ []
       unfolding path text_offset
@@ -99,79 +98,79 @@ module _ (image segments : List ℕ) {A : Type 0} where
 -- its bytes can be read, and it goes on with them
 pub record BytesRead (image segments : List ℕ) {A : Type 0} (a n : ℕ) (k : List ℕ → Reads A) (x : A) : Type 0 where
   pub offset : ℕ
-  pub at : file_offset (segments_of segments) a ≡ some offset
+  pub at : file_offset (segments_of segments) a ≡ Some offset
   pub inside : offset + n ≤ length image
-  pub goes : run image segments (k (take n (drop offset image))) ≡ some x
+  pub goes : run image segments (k (take n (drop offset image))) ≡ Some x
 
 -- its text is found, and it goes on with that
 pub record TextRead (image segments : List ℕ) {A : Type 0} (a : ℕ) (k : Place → List ℕ → Reads A) (x : A) : Type 0 where
   pub place : Place
   pub address : a ≡ 0 → ⊥
-  pub at : file_offset (segments_of segments) a ≡ some place.start
-  pub found : text_at image place.start ≡ some place
-  pub goes : run image segments (k place (until_nul (drop place.start image))) ≡ some x
+  pub at : file_offset (segments_of segments) a ≡ Some place.start
+  pub found : text_at image place.start ≡ Some place
+  pub goes : run image segments (k place (until_nul (drop place.start image))) ≡ Some x
 
 -- the place of a text that was found is the offset that it was looked up at, and its size that of the bytes before the NUL
-pub text_at_is : (image : List ℕ) (o : ℕ) (p : Place) → text_at image o ≡ some p → p ≡ place o (length (until_nul (drop o image)))
+pub text_at_is : (image : List ℕ) (o : ℕ) (p : Place) → text_at image o ≡ Some p → p ≡ place o (length (until_nul (drop o image)))
 unfolding text_at
 text_at_is image o p e = go (dec_le o (length image))
   where
-    at : (y : Option ℕ) → text_length (drop o image) ≡ y → map (place o) y ≡ some p → p ≡ place o (length (until_nul (drop o image)))
-    at none t f = let z : ◌≡◌ {A = ℕ} 0 1 = cc in absurd (omega arith)
-    at (some n) t f = let q : p ≡ place o n = cc in q ∙ ap (place o) (text_length_lem (drop o image) n t).0
+    at : (y : Option ℕ) → text_length (drop o image) ≡ y → option_map (place o) y ≡ Some p → p ≡ place o (length (until_nul (drop o image)))
+    at None t f = let z : ◌≡◌ {A = ℕ} 0 1 = cc in absurd (omega arith)
+    at (Some n) t f = let q : p ≡ place o n = cc in q ∙ ap (place o) (text_length_lem (drop o image) n t).0
 
     go : Dec (o ≤ length image) → p ≡ place o (length (until_nul (drop o image)))
     go (yes h) = at (text_length (drop o image)) refl (simp (le-leb o (length image) h) at e)
     go (no h) =
-        let f : ◌≡◌ {A = Option Place} none (some p) = simp (lt-leb o (length image) (omega arith)) at e in
+        let f : ◌≡◌ {A = Option Place} None (Some p) = simp (lt-leb o (length image) (omega arith)) at e in
         let z : ◌≡◌ {A = ℕ} 0 1 = cc in
         absurd (omega arith)
 
 module _ (image segments : List ℕ) {A : Type 0} (a : ℕ) (x : A) where
-  pub bytes_read_lem : (n : ℕ) (k : List ℕ → Reads A) → run image segments (bytes a n k) ≡ some x → BytesRead image segments a n k x
+  pub bytes_read_lem : (n : ℕ) (k : List ℕ → Reads A) → run image segments (bytes a n k) ≡ Some x → BytesRead image segments a n k x
   unfolding run bytes_place within
   bytes_read_lem n k e = go (file_offset (segments_of segments) a) refl e
     where
-      at : (o : ℕ) → file_offset (segments_of segments) a ≡ some o → Dec (o + n ≤ length image)
-          → and_then (within (length image) n o) (λ q. run image segments (k (take n (drop q image)))) ≡ some x → BytesRead image segments a n k x
+      at : (o : ℕ) → file_offset (segments_of segments) a ≡ Some o → Dec (o + n ≤ length image)
+          → and_then (within (length image) n o) (λ q. run image segments (k (take n (drop q image)))) ≡ Some x → BytesRead image segments a n k x
       at o t (yes h) f = record { offset = o; at = t; inside = h; goes = simp (le-leb (o + n) (length image) h) at f }
       at o t (no h) f =
-          let g : ◌≡◌ {A = Option A} none (some x) = simp (lt-leb (o + n) (length image) (omega arith)) at f in
+          let g : ◌≡◌ {A = Option A} None (Some x) = simp (lt-leb (o + n) (length image) (omega arith)) at f in
           let z : ◌≡◌ {A = ℕ} 0 1 = cc in
           absurd (omega arith)
 
       go : (y : Option ℕ) → file_offset (segments_of segments) a ≡ y
-          → and_then (and_then y (within (length image) n)) (λ q. run image segments (k (take n (drop q image)))) ≡ some x → BytesRead image segments a n k x
-      go none t f = let z : ◌≡◌ {A = ℕ} 0 1 = cc in absurd (omega arith)
-      go (some o) t f = at o t (dec_le (o + n) (length image)) f
+          → and_then (and_then y (within (length image) n)) (λ q. run image segments (k (take n (drop q image)))) ≡ Some x → BytesRead image segments a n k x
+      go None t f = let z : ◌≡◌ {A = ℕ} 0 1 = cc in absurd (omega arith)
+      go (Some o) t f = at o t (dec_le (o + n) (length image)) f
 
   module _ (k : Place → List ℕ → Reads A) where
-    pub text_read : run image segments (text a k) ≡ some x → TextRead image segments a k x
+    pub text_read : run image segments (text a k) ≡ Some x → TextRead image segments a k x
     unfolding run text_offset
     text_read e = by (dec_lt 0 a)
       where
-        at : (a ≡ 0 → ⊥) → (o : ℕ) → file_offset (segments_of segments) a ≡ some o → (y : Option Place) → text_at image o ≡ y
-            → and_then y (λ p. run image segments (k p (until_nul (drop o image)))) ≡ some x → TextRead image segments a k x
-        at z o t none u f = let z : ◌≡◌ {A = ℕ} 0 1 = cc in absurd (omega arith)
-        at z o t (some p) u f =
+        at : (a ≡ 0 → ⊥) → (o : ℕ) → file_offset (segments_of segments) a ≡ Some o → (y : Option Place) → text_at image o ≡ y
+            → and_then y (λ p. run image segments (k p (until_nul (drop o image)))) ≡ Some x → TextRead image segments a k x
+        at z o t None u f = let z : ◌≡◌ {A = ℕ} 0 1 = cc in absurd (omega arith)
+        at z o t (Some p) u f =
             let q : o ≡ p.start = sym (ap (λ (r : Place). r.start) (text_at_is image o p u)) in
             record {
               place = p;
               address = z;
-              at = t ∙ ap some q;
+              at = t ∙ ap Some q;
               found = rw q at u;
               goes = rw q at f;
             }
 
         go : (a ≡ 0 → ⊥) → (y : Option ℕ) → file_offset (segments_of segments) a ≡ y
-            → and_then y (λ o. and_then (text_at image o) (λ p. run image segments (k p (until_nul (drop o image))))) ≡ some x → TextRead image segments a k x
-        go z none t f = let z : ◌≡◌ {A = ℕ} 0 1 = cc in absurd (omega arith)
-        go z (some o) t f = at z o t (text_at image o) refl f
+            → and_then y (λ o. and_then (text_at image o) (λ p. run image segments (k p (until_nul (drop o image))))) ≡ Some x → TextRead image segments a k x
+        go z None t f = let z : ◌≡◌ {A = ℕ} 0 1 = cc in absurd (omega arith)
+        go z (Some o) t f = at z o t (text_at image o) refl f
 
         by : Dec (0 < a) → TextRead image segments a k x
         by (yes h) = let z : a ≡ 0 → ⊥ = λ q. omega arith in go z (file_offset (segments_of segments) a) refl (simp (ne_eqb a 0 z) at e)
         by (no h) =
-            let f : ◌≡◌ {A = Option A} none (some x) = simp (eq-eqb a 0 (omega arith)) at e in
+            let f : ◌≡◌ {A = Option A} None (Some x) = simp (eq-eqb a 0 (omega arith)) at e in
             let z : ◌≡◌ {A = ℕ} 0 1 = cc in
             absurd (omega arith)
 

@@ -1,13 +1,12 @@
 -- The laws of the language of reads, each by one induction over the program: composition (`run_bind`, `path-bind`), locality (`local`) and
 -- the cut (`cut`).
-use Rattle.std.specs.Prelude.{ℕ, zero, suc, ◌+◌, ◌-◌, ◌≤◌, ◌<◌, min, ◌≡◌, ◌⊎◌, Bool, true, false, ◌&&◌, drop}
+use Rattle.std.specs.Prelude.{ℕ, zero, suc, ◌+◌, ◌-◌, ◌≤◌, ◌<◌, min, ◌≡◌, ◌⊎◌, Bool, true, false, ◌&&◌, drop, Option, Some, None, option_map}
 use Rattle.std.proofs.Math.Nat.{add-sub_cancel_left}
 use Rattle.std.proofs.Math.Decide.{dec_le}
 use Rattle.std.proofs.Common.{arith, ◌∙◌, inl, inr, ⊎_elim, length-take, length-drop, take-take}
 use Rattle.std.proofs.Math.Path.{refl, ap}
 use mathlib.Core.List.{List, [], ◌∷◌, ◌++◌}
 use Rattle.std.proofs.Math.Bool.{cond}
-use Rattle.std.proofs.Math.Option.{Option, some, none, map}
 use Rattle.std.proofs.Math.ListN.{length, take}
 use borrow.Author.Tests.{le-leb, lt-leb}
 use Rattle.utf8.specs.Text.{until_nul, well_formed, text_length}
@@ -19,13 +18,13 @@ use Rattle.runtime.specs.Reads.{Reads, done, nothing, bytes, text, and_then, wit
 
 then_then : {A B C : Type 0} (x : Option A) (g : A → Option B) (h : A → Option C) (f : B → Option C)
     → ((a : A) → h a ≡ and_then (g a) f) → and_then x h ≡ and_then (and_then x g) f
-then_then none g h f e = refl
-then_then (some a) g h f e = e a
+then_then None g h f e = refl
+then_then (Some a) g h f e = e a
 
 also_then : {A B : Type 0} (x : Option A) (g : A → Option B) (h j : A → List Range) (f : B → List Range)
     → ((a : A) → h a ≡ j a ++ also (g a) f) → also x h ≡ also x j ++ also (and_then x g) f
-also_then none g h j f e = refl
-also_then (some a) g h j f e = e a
+also_then None g h j f e = refl
+also_then (Some a) g h j f e = e a
 
 module _ (image segments : List ℕ) {A B : Type 0} (f : A → Reads B) where
   -- reading one thing and then another answers what the second answers after the first
@@ -94,9 +93,9 @@ text_same : (s s' : List ℕ) (o : ℕ) → until_nul (drop o s') ≡ until_nul 
 unfolding text_at text_length
 text_same s s' o e h h' =
     simp (le-leb o (length s) h, le-leb o (length s') h')
-    (ap (λ (u : List ℕ). map (place o) (elim (well_formed u) as (λ _. Option ℕ) [ true ↦ some (length u) | false ↦ none ])) e)
+    (ap (λ (u : List ℕ). option_map (place o) (elim (well_formed u) as (λ _. Option ℕ) [ true ↦ Some (length u) | false ↦ None ])) e)
 
-text_missing : (s : List ℕ) (o : ℕ) → length s < o → text_at s o ≡ none
+text_missing : (s : List ℕ) (o : ℕ) → length s < o → text_at s o ≡ None
 unfolding text_at
 text_missing s o h = simp (lt-leb o (length s) h)
 
@@ -107,7 +106,7 @@ Judged image image' good r = ((good r ≡ true) × Agrees image image' r) ⊎ ((
 module _ (image image' segments : List ℕ) (shorter : length image' ≤ length image) (good : Range → Bool) where
   -- the second image gives the first one's answer if each range of the path is good, else none
   abbrev Holds : {A : Type 0} → Reads A → Type 0
-  Holds p = All (Judged image image' good) (path image segments p) → run image' segments p ≡ cond (every good (path image segments p)) (run image segments p) none
+  Holds p = All (Judged image image' good) (path image segments p) → run image' segments p ≡ cond (every good (path image segments p)) (run image segments p) None
 
   text_agrees : (o : ℕ) → Agrees image image' (text_range image o) → o ≤ length image
       → (until_nul (drop o image') ≡ until_nul (drop o image)) × (text_at image' o ≡ text_at image o)
@@ -122,13 +121,13 @@ module _ (image image' segments : List ℕ) (shorter : length image' ≤ length 
     bytes_here : (o n : ℕ) (k : List ℕ → Reads A) → o + n ≤ length image → Holds (k (take n (drop o image)))
         → Judged image image' good (bytes_range o n) × All (Judged image image' good) (path image segments (k (take n (drop o image))))
         → and_then (within (length image') n o) (λ q. run image' segments (k (take n (drop q image'))))
-        ≡ cond (good (bytes_range o n) && every good (path image segments (k (take n (drop o image))))) (run image segments (k (take n (drop o image)))) none
+        ≡ cond (good (bytes_range o n) && every good (path image segments (k (take n (drop o image))))) (run image segments (k (take n (drop o image)))) None
     unfolding within
     bytes_here o n k h ih j = go j.0
       where
         go : Judged image image' good (bytes_range o n)
             → and_then (within (length image') n o) (λ q. run image' segments (k (take n (drop q image'))))
-            ≡ cond (good (bytes_range o n) && every good (path image segments (k (take n (drop o image))))) (run image segments (k (take n (drop o image)))) none
+            ≡ cond (good (bytes_range o n) && every good (path image segments (k (take n (drop o image))))) (run image segments (k (take n (drop o image)))) None
         go (inl w) =
             let fits : o + n ≤ length image' = omega (arith, w.1.held) in
             let e : take n (drop o image') ≡ take n (drop o image) = rw add-sub_cancel_left at w.1.same in
@@ -139,37 +138,37 @@ module _ (image image' segments : List ℕ) (shorter : length image' ≤ length 
         → All (Judged image image' good) (also (and_then x (within (length image) n)) (λ o. bytes_range o n ∷ path image segments (k (take n (drop o image)))))
         → and_then (and_then x (within (length image') n)) (λ o. run image' segments (k (take n (drop o image'))))
         ≡ cond (every good (also (and_then x (within (length image) n)) (λ o. bytes_range o n ∷ path image segments (k (take n (drop o image))))))
-        (and_then (and_then x (within (length image) n)) (λ o. run image segments (k (take n (drop o image))))) none
+        (and_then (and_then x (within (length image) n)) (λ o. run image segments (k (take n (drop o image))))) None
     unfolding within
-    bytes_step n k none ih = λ j. refl
-    bytes_step n k (some o) ih = go (dec_le (o + n) (length image))
+    bytes_step n k None ih = λ j. refl
+    bytes_step n k (Some o) ih = go (dec_le (o + n) (length image))
       where
         go : Dec (o + n ≤ length image)
             → All (Judged image image' good) (also (within (length image) n o) (λ o. bytes_range o n ∷ path image segments (k (take n (drop o image)))))
             → and_then (within (length image') n o) (λ o. run image' segments (k (take n (drop o image'))))
             ≡ cond (every good (also (within (length image) n o) (λ o. bytes_range o n ∷ path image segments (k (take n (drop o image))))))
-            (and_then (within (length image) n o) (λ o. run image segments (k (take n (drop o image))))) none
+            (and_then (within (length image) n o) (λ o. run image segments (k (take n (drop o image))))) None
         go (yes h) = simp (le-leb (o + n) (length image) h) (bytes_here o n k h (ih _))
         go (no h) = simp (lt-leb (o + n) (length image) (omega arith), lt-leb (o + n) (length image') (omega arith)) (λ j. refl)
 
     text_found : (k : Place → Reads A) (y : Option Place) → ((p : Place) → Holds (k p))
         → All (Judged image image' good) (also y (λ p. path image segments (k p)))
-        → and_then y (λ p. run image' segments (k p)) ≡ cond (every good (also y (λ p. path image segments (k p)))) (and_then y (λ p. run image segments (k p))) none
-    text_found k none ih j = refl
-    text_found k (some p) ih j = ih p j
+        → and_then y (λ p. run image' segments (k p)) ≡ cond (every good (also y (λ p. path image segments (k p)))) (and_then y (λ p. run image segments (k p))) None
+    text_found k None ih j = refl
+    text_found k (Some p) ih j = ih p j
 
     text_step : (k : Place → List ℕ → Reads A) (x : Option ℕ) → ((p : Place) (bs : List ℕ) → Holds (k p bs))
         → All (Judged image image' good) (also x (λ o. text_range image o ∷ also (text_at image o) (λ p. path image segments (k p (until_nul (drop o image))))))
         → and_then x (λ o. and_then (text_at image' o) (λ p. run image' segments (k p (until_nul (drop o image')))))
         ≡ cond (every good (also x (λ o. text_range image o ∷ also (text_at image o) (λ p. path image segments (k p (until_nul (drop o image)))))))
-        (and_then x (λ o. and_then (text_at image o) (λ p. run image segments (k p (until_nul (drop o image)))))) none
-    text_step k none ih j = refl
-    text_step k (some o) ih j = go j.0 (dec_le o (length image))
+        (and_then x (λ o. and_then (text_at image o) (λ p. run image segments (k p (until_nul (drop o image)))))) None
+    text_step k None ih j = refl
+    text_step k (Some o) ih j = go j.0 (dec_le o (length image))
       where
         go : Judged image image' good (text_range image o) → Dec (o ≤ length image)
             → and_then (text_at image' o) (λ p. run image' segments (k p (until_nul (drop o image'))))
             ≡ cond (good (text_range image o) && every good (also (text_at image o) (λ p. path image segments (k p (until_nul (drop o image))))))
-            (and_then (text_at image o) (λ p. run image segments (k p (until_nul (drop o image))))) none
+            (and_then (text_at image o) (λ p. run image segments (k p (until_nul (drop o image))))) None
         go (inl w) (yes h) =
             let a = text_agrees o w.1 h in
             rw (a.0, a.1, w.0) (text_found (λ p. k p (until_nul (drop o image))) (text_at image o) (λ p. ih p _) j.1)
@@ -227,7 +226,7 @@ cut_judged image c r clear = go (dec_le r.to c)
 
 -- the image cut to its first `c` bytes gives the whole image's answer if every range of the path ends at or before the cut, else none
 pub cut : (image segments : List ℕ) (c : ℕ) {A : Type 0} (p : Reads A) → All (Clear c) (path image segments p)
-    → run (take c image) segments p ≡ cond (every (ends_by c) (path image segments p)) (run image segments p) none
+    → run (take c image) segments p ≡ cond (every (ends_by c) (path image segments p)) (run image segments p) None
 cut image segments c p clear =
     judged image (take c image) segments (simp length-take (omega arith)) (ends_by c) p
     (map_all (cut_judged image c) (path image segments p) clear)

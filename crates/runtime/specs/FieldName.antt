@@ -1,6 +1,5 @@
 -- A field's name: docs/SPECIFICATION.md, "Field names".
-use Rattle.std.specs.Prelude.{ℕ, ◌-◌, List, [], cond, ◌&&◌, length, leb, ltb, eqb}
-use Rattle.std.proofs.Math.Option.{Option, some, none, map}
+use Rattle.std.specs.Prelude.{ℕ, ◌-◌, List, [], cond, ◌&&◌, length, leb, ltb, eqb, Option, Some, None, option_map}
 use Rattle.util.specs.Cstr.{Place, place, text_at, part_of}
 use Rattle.runtime.specs.Reads.{text_place}
 use Rattle.runtime.specs.declared.reflstr.FieldName.{FieldName}
@@ -14,25 +13,25 @@ pub data NamePlace : Type 0 where
 -- the text at an address inside a section that starts at `start`
 unfoldable pub section_text : List ℕ → ℕ → ℕ → Option Place
 section_text strings start address =
-    cond (leb start address && ltb (address - start) (length strings)) (text_at strings (address - start)) none
+    cond (leb start address && ltb (address - start) (length strings)) (text_at strings (address - start)) None
 
 abbrev pub or_else : {A : Type 0} → Option A → Option A → Option A
-or_else none b = b
-or_else (some a) b = some a
+or_else None b = b
+or_else (Some a) b = Some a
 
 -- nothing for address 0; else the image, then the string section
 unfoldable pub field_name : List ℕ → List ℕ → List ℕ → ℕ → ℕ → Option NamePlace
 field_name image segments strings start address =
-    cond (eqb address 0) none
-    (or_else (map in_image (text_place image segments address)) (map in_strings (section_text strings start address)))
+    cond (eqb address 0) None
+    (or_else (option_map in_image (text_place image segments address)) (option_map in_strings (section_text strings start address)))
 
 abbrev pub field_name_of : FieldName → Option NamePlace
-field_name_of (Image o n) = some (in_image (place o n))
-field_name_of (Strings o n) = some (in_strings (place o n))
-field_name_of Nothing = none
+field_name_of (Image o n) = Some (in_image (place o n))
+field_name_of (Strings o n) = Some (in_strings (place o n))
+field_name_of Nothing = None
 
 -- the bytes of a name, none if there is none
 abbrev pub name_part : List ℕ → List ℕ → Option NamePlace → List ℕ
-name_part image strings none = []
-name_part image strings (some (in_image p)) = part_of image p
-name_part image strings (some (in_strings p)) = part_of strings p
+name_part image strings None = []
+name_part image strings (Some (in_image p)) = part_of image p
+name_part image strings (Some (in_strings p)) = part_of strings p

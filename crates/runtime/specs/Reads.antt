@@ -1,7 +1,6 @@
 -- The language of reads. The answer of a call is defined as a program that reads bytes and texts of an image at
 -- addresses: `run` is the program's answer, `path` the image bytes that it depends on.
-use Rattle.std.specs.Prelude.{ℕ, zero, suc, ◌+◌, ◌-◌, ◌≤◌, ◌<◌, min, max, ◌≡◌, ◌⊎◌, List, [], ◌∷◌, Bool, true, false, cond, ◌&&◌, length, take, drop, leb, eqb}
-use Rattle.std.proofs.Math.Option.{Option, some, none}
+use Rattle.std.specs.Prelude.{ℕ, zero, suc, ◌+◌, ◌-◌, ◌≤◌, ◌<◌, min, max, ◌≡◌, ◌⊎◌, List, [], ◌∷◌, Bool, true, false, cond, ◌&&◌, length, take, drop, leb, eqb, Option, Some, None}
 use Rattle.segment.specs.Segments.{segments_of, file_offset}
 use Rattle.utf8.specs.Text.{until_nul}
 use Rattle.util.specs.Cstr.{Place, text_at}
@@ -17,27 +16,27 @@ pub data Reads (A : Type 0) : Type 0 where
   text : ℕ → (Place → List ℕ → Reads A) → Reads A
 
 abbrev pub and_then : {A B : Type 0} → Option A → (A → Option B) → Option B
-and_then none f = none
-and_then (some a) f = f a
+and_then None f = None
+and_then (Some a) f = f a
 
 -- docs/SPECIFICATION.md, "Bytes and texts at an address": the first address is translated, the bytes follow in the image
 unfoldable pub within : ℕ → ℕ → ℕ → Option ℕ
-within size n o = cond (leb (o + n) size) (some o) none
+within size n o = cond (leb (o + n) size) (Some o) None
 
 unfoldable pub bytes_place : List ℕ → List ℕ → ℕ → ℕ → Option ℕ
 bytes_place image segments address n = and_then (file_offset (segments_of segments) address) (within (length image) n)
 
 -- `read_cstr`: the offset at which a text is looked up; address 0 has none
 unfoldable pub text_offset : List ℕ → ℕ → Option ℕ
-text_offset segments address = cond (eqb address 0) none (file_offset (segments_of segments) address)
+text_offset segments address = cond (eqb address 0) None (file_offset (segments_of segments) address)
 
 -- and where it then is
 unfoldable pub text_place : List ℕ → List ℕ → ℕ → Option Place
 text_place image segments address = and_then (text_offset segments address) (text_at image)
 
 unfoldable pub run : {A : Type 0} → List ℕ → List ℕ → Reads A → Option A
-run image segments (done a) = some a
-run image segments nothing = none
+run image segments (done a) = Some a
+run image segments nothing = None
 run image segments (bytes address n k) =
     and_then (bytes_place image segments address n) (λ o. run image segments (k (take n (drop o image))))
 run image segments (text address k) =
@@ -74,8 +73,8 @@ with_nul image p =
     }
 
 abbrev pub also : {A : Type 0} → Option A → (A → List Range) → List Range
-also none f = []
-also (some a) f = f a
+also None f = []
+also (Some a) f = f a
 
 -- docs/SPECIFICATION.md, "Items, paths and the cut": the image bytes that the program reads, in order
 unfoldable pub path : {A : Type 0} → List ℕ → List ℕ → Reads A → List Range

@@ -1,8 +1,7 @@
 -- What the segments that a walk passes, and the one that decides, say about the addresses around one.
-use Rattle.std.specs.Prelude.{ℕ, ◌+◌, ◌-◌, ◌^◌, ◌≤◌, ◌<◌, min, max, ◌≡◌, refl, true, false, List, ◌∷◌, length, drop, get_or, ltb}
+use Rattle.std.specs.Prelude.{ℕ, ◌+◌, ◌-◌, ◌^◌, ◌≤◌, ◌<◌, min, max, ◌≡◌, refl, true, false, List, ◌∷◌, length, drop, get_or, ltb, Option, Some, None}
 use Rattle.std.proofs.Math.Decide.{dec_lt}
 use Rattle.std.proofs.Common.{arith, sym, ap, ◌∙◌, subst, ltb-true, eq-eqb, ne_eqb}
-use Rattle.std.proofs.Math.Option.{Option, some, none}
 use Rattle.segment.specs.Segments.{Segment, segments_of, file_offset, decides, in_file, decided, offset_of}
 use Rattle.segment.proofs.SegmentsLaws.{below, above, empty, held, past_file, offset_wraps, in_file_lem, segment_at, told, left}
 use Rattle.segment.specs.Mapping.{LocatedNear, with_mapping, TrueMapping, Has, Exact, Located, Covered, Part, Clipped}
@@ -23,7 +22,7 @@ asked segments m v h =
     elim (dec_lt 0 m.size) [
       | yes p ↦ rw (ne_eqb m.size 0 (λ z. omega arith))
       | no p ↦
-          let d : none ≡ decides (first m) v =
+          let d : None ≡ decides (first m) v =
           elim (dec_lt v m.vmaddr) [ yes b ↦ below (first m) v (omega arith) b | no b ↦ above (first m) v (omega arith) (omega arith) (omega arith) ] in
           rw (eq-eqb m.size 0 (omega arith), ← d)
     ]
@@ -39,7 +38,7 @@ module _ (segments : List ℕ) (m : Mapping) (v : ℕ) (h : m.vmaddr < 2 ^ 64) (
 
 -- a mapping whose addresses have the offsets that it gives them is true
 module _ (segments : List ℕ) (m : Mapping) (ends : m.vmaddr + m.size < 2 ^ 64) (fits : m.fileoff + m.size ≤ 2 ^ 64)
-    (holds : (v : ℕ) → m.vmaddr ≤ v → v < m.vmaddr + m.size → file_offset (segments_of segments) v ≡ some (m.fileoff + (v - m.vmaddr))) where
+    (holds : (v : ℕ) → m.vmaddr ≤ v → v < m.vmaddr + m.size → file_offset (segments_of segments) v ≡ Some (m.fileoff + (v - m.vmaddr))) where
   mapped_at : (v : ℕ) → file_offset (segments_of (with_mapping m segments)) v ≡ file_offset (segments_of segments) v
   unfolding file_offset
   mapped_at v =
@@ -49,7 +48,7 @@ module _ (segments : List ℕ) (m : Mapping) (ends : m.vmaddr + m.size < 2 ^ 64)
         | no b ↦
             elim (dec_lt v (m.vmaddr + m.size)) [
               | yes t ↦
-                  let h : some (some (m.fileoff + (v - m.vmaddr))) ≡ decides (first m) v =
+                  let h : Some (Some (m.fileoff + (v - m.vmaddr))) ≡ decides (first m) v =
                   held (first m) v ends (omega arith) t _ (omega arith) (in_file_lem (first m) (v - m.vmaddr) (omega arith) (omega arith)) in
                   rw (← h) (sym (holds v (omega arith) t))
               | no t ↦ rw (← above (first m) v ends (omega arith) (omega arith))
@@ -64,13 +63,13 @@ empty_mapped segments = record { same = λ v. refl }
 
 -- what `clip` answers, of a segment that covers the address
 module _ (low high : ℕ) (s : Segment) (v : ℕ) (w : Covered low high s v) where
-  decided_none : none ≡ in_file s (v - s.vmaddr) → some none ≡ decides s v
-  decided_none = held s v w.ends w.from.1 w.to.1 none w.bytes
+  decided_none : None ≡ in_file s (v - s.vmaddr) → Some None ≡ decides s v
+  decided_none = held s v w.ends w.from.1 w.to.1 None w.bytes
 
-  pub clip_past : s.filesize ≤ v - s.vmaddr → some none ≡ decides s v
+  pub clip_past : s.filesize ≤ v - s.vmaddr → Some None ≡ decides s v
   clip_past h = decided_none (past_file s _ h)
 
-  pub clip_wraps : v - s.vmaddr < s.filesize → 2 ^ 64 ≤ s.fileoff + (v - s.vmaddr) → some none ≡ decides s v
+  pub clip_wraps : v - s.vmaddr < s.filesize → 2 ^ 64 ≤ s.fileoff + (v - s.vmaddr) → Some None ≡ decides s v
   clip_wraps h o = decided_none (offset_wraps s _ h o)
 
   under : v < high
@@ -122,7 +121,7 @@ passed_none l a = record { sought = refl; around = λ v x y. refl; from = omega 
 module _ (l : List ℕ) (a low high i : ℕ) (p : Passed l a low high i) (ends : get_or l i 0 + get_or l (i + 1) 0 < 2 ^ 64) (h : i + 4 ≤ length l) where
   -- the segment leaves `a`, and all addresses from `low'` up to `high'`, to the next
   module _ (low' high' : ℕ) where
-    passed : none ≡ decides (segment_at l i) a → ((v : ℕ) → low' ≤ v → v < high' → none ≡ decides (segment_at l i) v)
+    passed : None ≡ decides (segment_at l i) a → ((v : ℕ) → low' ≤ v → v < high' → None ≡ decides (segment_at l i) v)
         → (low ≤ low') × (low' ≤ a) → (high' ≤ high) × (high' < 2 ^ 64 - 1 → a < high') → Passed l a low' high' (i + 4)
     passed e es f t = record {
       sought = left l i a _ p.sought e h;
@@ -147,12 +146,12 @@ module _ (l : List ℕ) (a low high i : ℕ) (p : Passed l a low high i) (ends :
     around_exact : Exact l m
     around_exact = record { offset = at }
       where
-        at : (v : ℕ) → Has m v → file_offset (segments_of l) v ≡ some (m.fileoff + (v - m.vmaddr))
+        at : (v : ℕ) → Has m v → file_offset (segments_of l) v ≡ Some (m.fileoff + (v - m.vmaddr))
         at v u =
             let s = segment_at l i in
-            let d : some (some (m.fileoff + (v - m.vmaddr))) ≡ decides s v =
+            let d : Some (Some (m.fileoff + (v - m.vmaddr))) ≡ decides s v =
             held s v ends (omega (arith, w.from, u.from)) (omega (arith, w.to, u.to)) _ (omega (arith, w.from, w.to, u.from, u.to))
-            (ap some (omega (arith, w.from, w.offset, u.from)) ∙ in_file_lem s (v - s.vmaddr) (omega (arith, w.from, w.to, u.from, u.to)) (omega (arith, w.from, w.offset, w.fits, u.from, u.to))) in
+            (ap Some (omega (arith, w.from, w.offset, u.from)) ∙ in_file_lem s (v - s.vmaddr) (omega (arith, w.from, w.to, u.from, u.to)) (omega (arith, w.from, w.offset, w.fits, u.from, u.to))) in
             sym (told l i v _ (p.around v (omega (arith, w.from, u.from)) (omega (arith, w.to, u.to))) _ d h)
 
     around_mapped : TrueMapping l m
@@ -160,17 +159,17 @@ module _ (l : List ℕ) (a low high i : ℕ) (p : Passed l a low high i) (ends :
 
   pub located : (r : Around) → Clipped low high (segment_at l i) a r → Located l a r
   located (Around.Mapping m) w = (around_mapped m w, w.has, around_exact m w)
-  located Around.Nothing w = told l i a _ p.sought none w h
+  located Around.Nothing w = told l i a _ p.sought None w h
 
 -- ---- what `locate` promises fixes the address's offset, and the answer if it has none
 
-pub located_offset : (segments : List ℕ) (v : ℕ) (m : Mapping) → Located segments v (Around.Mapping m) → file_offset (segments_of segments) v ≡ some (m.fileoff + (v - m.vmaddr))
+pub located_offset : (segments : List ℕ) (v : ℕ) (m : Mapping) → Located segments v (Around.Mapping m) → file_offset (segments_of segments) v ≡ Some (m.fileoff + (v - m.vmaddr))
 located_offset segments v m w = w.2.offset v w.1
 
-pub located_nowhere : (segments : List ℕ) (v : ℕ) (r : Around) → none ≡ file_offset (segments_of segments) v → Located segments v r → r ≡ Around.Nothing
+pub located_nowhere : (segments : List ℕ) (v : ℕ) (r : Around) → None ≡ file_offset (segments_of segments) v → Located segments v r → r ≡ Around.Nothing
 located_nowhere segments v Around.Nothing e w = refl
 located_nowhere segments v (Around.Mapping m) e w =
-    let f : none ≡ some (m.fileoff + (v - m.vmaddr)) = e ∙ located_offset segments v m w in
+    let f : None ≡ Some (m.fileoff + (v - m.vmaddr)) = e ∙ located_offset segments v m w in
     let z : ◌≡◌ {A = ℕ} 0 1 = cc in
     absurd (omega arith)
 
@@ -190,5 +189,5 @@ near_found segments m v Around.Nothing l = l
 pub near_mapped : (segments : List ℕ) (m : Mapping) (v : ℕ) (r : Around) (n : Mapping) → r ≡ Around.Mapping n → LocatedNear segments m v r → TrueMapping segments m → TrueMapping segments n
 near_mapped segments m v r n e l = (subst (LocatedNear segments m v) e l).0
 
-pub near_nowhere : (segments : List ℕ) (m : Mapping) (v : ℕ) (r : Around) → r ≡ Around.Nothing → LocatedNear segments m v r → none ≡ file_offset (segments_of segments) v
+pub near_nowhere : (segments : List ℕ) (m : Mapping) (v : ℕ) (r : Around) → r ≡ Around.Nothing → LocatedNear segments m v r → None ≡ file_offset (segments_of segments) v
 near_nowhere segments m v r e l = subst (LocatedNear segments m v) e l

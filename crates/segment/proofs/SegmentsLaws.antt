@@ -1,8 +1,7 @@
 -- What the tests of a segment, one after the other, say about `decides`.
-use Rattle.std.specs.Prelude.{ℕ, ◌+◌, ◌-◌, ◌^◌, ◌≤◌, ◌<◌, ◌≡◌, refl, List, [], ◌∷◌, drop, get_or}
+use Rattle.std.specs.Prelude.{ℕ, ◌+◌, ◌-◌, ◌^◌, ◌≤◌, ◌<◌, ◌≡◌, refl, List, [], ◌∷◌, drop, get_or, Option, Some, None}
 use Rattle.std.proofs.Common.{add-zero, arith, sym, ap, ◌∙◌, drop-drop, get_or-drop}
 use Rattle.std.proofs.Math.Decide.{dec_lt}
-use Rattle.std.proofs.Math.Option.{Option, some, none}
 use Rattle.std.proofs.Math.ListN.{length, length-drop}
 use borrow.Author.Tests.{le-leb, lt-leb, lt-ltb, le-ltb}
 use Rattle.segment.specs.Segments.{Segment, segments_of, file_offset, decides, in_file, decided, offset_of}
@@ -11,29 +10,29 @@ use Rattle.segment.specs.declared.segment.Lookup.{Lookup}
 use Rattle.segment.specs.declared.segment.Lookup.TheVariants.{Answer, Next}
 
 module _ (s : Segment) (v : ℕ) where
-  pub wraps : 2 ^ 64 ≤ s.vmaddr + s.vmsize → some none ≡ decides s v
+  pub wraps : 2 ^ 64 ≤ s.vmaddr + s.vmsize → Some None ≡ decides s v
   unfolding decides
   wraps w = simp (le-leb (2 ^ 64) (s.vmaddr + s.vmsize) w)
 
   module _ (w : s.vmaddr + s.vmsize < 2 ^ 64) where
-    pub below : v < s.vmaddr → none ≡ decides s v
+    pub below : v < s.vmaddr → None ≡ decides s v
     unfolding decides
     below h = simp (lt-leb (2 ^ 64) (s.vmaddr + s.vmsize) w, lt-leb s.vmaddr v h)
 
     module _ (from : s.vmaddr ≤ v) where
-      pub above : s.vmaddr + s.vmsize ≤ v → none ≡ decides s v
+      pub above : s.vmaddr + s.vmsize ≤ v → None ≡ decides s v
       unfolding decides
       above h = simp (lt-leb (2 ^ 64) (s.vmaddr + s.vmsize) w, le-leb s.vmaddr v from, le-ltb v (s.vmaddr + s.vmsize) h)
 
       module _ (to : v < s.vmaddr + s.vmsize) where
-        pub no_bytes : s.filesize ≡ 0 → none ≡ decides s v
+        pub no_bytes : s.filesize ≡ 0 → None ≡ decides s v
         unfolding decides
         no_bytes h =
             simp
             (lt-leb (2 ^ 64) (s.vmaddr + s.vmsize) w, le-leb s.vmaddr v from, lt-ltb v (s.vmaddr + s.vmsize) to, h)
 
         -- the segment decides
-        pub held : (o : Option ℕ) → 0 < s.filesize → o ≡ in_file s (v - s.vmaddr) → some o ≡ decides s v
+        pub held : (o : Option ℕ) → 0 < s.filesize → o ≡ in_file s (v - s.vmaddr) → Some o ≡ decides s v
         unfolding decides
         held o h e =
             simp (
@@ -42,10 +41,10 @@ module _ (s : Segment) (v : ℕ) where
               lt-ltb v (s.vmaddr + s.vmsize) to,
               lt-ltb 0 s.filesize h,
             )
-            (ap some e)
+            (ap Some e)
 
     -- a segment without bytes in the file says nothing of any address
-    pub empty : s.filesize ≡ 0 → none ≡ decides s v
+    pub empty : s.filesize ≡ 0 → None ≡ decides s v
     empty h =
         elim (dec_lt v s.vmaddr) [
           | yes b ↦ below b
@@ -53,16 +52,16 @@ module _ (s : Segment) (v : ℕ) where
         ]
 
 module _ (s : Segment) (d : ℕ) where
-  pub past_file : s.filesize ≤ d → none ≡ in_file s d
+  pub past_file : s.filesize ≤ d → None ≡ in_file s d
   unfolding in_file
   past_file h = simp (le-leb s.filesize d h)
 
   module _ (h : d < s.filesize) where
-    pub offset_wraps : 2 ^ 64 ≤ s.fileoff + d → none ≡ in_file s d
+    pub offset_wraps : 2 ^ 64 ≤ s.fileoff + d → None ≡ in_file s d
     unfolding in_file
     offset_wraps w = simp (lt-leb s.filesize d h, le-leb (2 ^ 64) (s.fileoff + d) w)
 
-    pub in_file_lem : s.fileoff + d < 2 ^ 64 → some (s.fileoff + d) ≡ in_file s d
+    pub in_file_lem : s.fileoff + d < 2 ^ 64 → Some (s.fileoff + d) ≡ in_file s d
     unfolding in_file
     in_file_lem w = simp (lt-leb s.filesize d h, lt-leb (2 ^ 64) (s.fileoff + d) w)
 
@@ -95,11 +94,11 @@ module _ (l : List ℕ) (i v : ℕ) where
 
   -- `x`, what the numbers from `i` on say, is what the segment there says, or what those after it say
   module _ (x : Option ℕ) (inv : x ≡ file_offset (segments_of (drop i l)) v) where
-    pub told : (o : Option ℕ) → some o ≡ decides (segment_at l i) v → i + 4 ≤ length l → o ≡ x
+    pub told : (o : Option ℕ) → Some o ≡ decides (segment_at l i) v → i + 4 ≤ length l → o ≡ x
     unfolding file_offset
     told o e h = rw (inv, segments_step h, ← e)
 
-    pub left : none ≡ decides (segment_at l i) v → i + 4 ≤ length l → x ≡ file_offset (segments_of (drop (i + 4) l)) v
+    pub left : None ≡ decides (segment_at l i) v → i + 4 ≤ length l → x ≡ file_offset (segments_of (drop (i + 4) l)) v
     unfolding file_offset
     left e h = inv ∙ rw (segments_step h, ← e)
 
@@ -109,7 +108,7 @@ module _ (l : List ℕ) (i v : ℕ) where
     pub lookup_next : (r : Lookup) → decided r ≡ decides (segment_at l i) v → r ≡ Next → i + 4 ≤ length l → x ≡ file_offset (segments_of (drop (i + 4) l)) v
     lookup_next r e t = left (ap decided (sym t) ∙ e)
 
-    pub lookup_end : length l < i + 4 → none ≡ x
+    pub lookup_end : length l < i + 4 → None ≡ x
     unfolding file_offset
     lookup_end h =
         let short : length (drop i l) < 4 = simp length-drop (omega arith) in

@@ -1,8 +1,7 @@
 -- A turn of the walk over the segments, and for which segments an offset leads back to the address that it came from.
-use Rattle.std.specs.Prelude.{ℕ, ◌+◌, ◌-◌, ◌^◌, ◌≤◌, ◌<◌, min, ◌≡◌, refl, List, [], ◌∷◌, drop}
+use Rattle.std.specs.Prelude.{ℕ, ◌+◌, ◌-◌, ◌^◌, ◌≤◌, ◌<◌, min, ◌≡◌, refl, List, [], ◌∷◌, drop, Option, Some, None, unwrap_or}
 use Rattle.std.proofs.Math.Decide.{dec_lt}
 use Rattle.std.proofs.Common.{arith, ◌∙◌, ap}
-use Rattle.std.proofs.Math.Option.{Option, some, none, get_or}
 use Rattle.std.proofs.Math.ListN.{length, length-drop}
 use Rattle.segment.specs.Segments.{Segment, segments_of, file_offset, decides, in_file, decided, offset_of}
 use Rattle.segment.proofs.SegmentsLaws.{wraps, below, above, no_bytes, held, past_file, offset_wraps, in_file_lem, segment_at, segments_step, segments_end}
@@ -25,7 +24,7 @@ module _ (l : List ℕ) (i o : ℕ) (x : Option ℕ) (inv : x ≡ vm_address (se
   unfolding vm_address file_offset
   turn_next r e t h = inv ∙ rw (segments_step l i o h, ← e, t)
 
-  pub turn_end : length l < i + 4 → none ≡ x
+  pub turn_end : length l < i + 4 → None ≡ x
   unfolding vm_address file_offset
   turn_end h =
       let short : length (drop i l) < 4 = simp length-drop (omega arith) in
@@ -48,9 +47,9 @@ pub data Once (o : ℕ) : List Segment → Type 0 where
 
 -- the cases of what a segment says of an address
 data Says (s : Segment) (v : ℕ) : Option (Option ℕ) → Type 0 where
-  next : Says s v none
-  nowhere : Says s v (some none)
-  at : (o : ℕ) → o ≡ s.fileoff + (v - s.vmaddr) → s.vmaddr ≤ v → v < s.vmaddr + min s.vmsize s.filesize → v < 2 ^ 64 → Says s v (some (some o))
+  next : Says s v None
+  nowhere : Says s v (Some None)
+  at : (o : ℕ) → o ≡ s.fileoff + (v - s.vmaddr) → s.vmaddr ≤ v → v < s.vmaddr + min s.vmsize s.filesize → v < 2 ^ 64 → Says s v (Some (Some o))
 
 says : (s : Segment) (v : ℕ) → Says s v (decides s v)
 says s v =
@@ -84,20 +83,20 @@ says s v =
 
 -- an offset that an address has is one of some segment
 module _ (s : Segment) (ss : List Segment) (v o : ℕ) where
-  held_by : (x : Option (Option ℕ)) → Says s v x → get_or x (file_offset ss v) ≡ some o → (Holds s o → ⊥) → (file_offset ss v ≡ some o → ⊥) → ⊥
+  held_by : (x : Option (Option ℕ)) → Says s v x → unwrap_or x (file_offset ss v) ≡ Some o → (Holds s o → ⊥) → (file_offset ss v ≡ Some o → ⊥) → ⊥
   held_by _ next e h rest = rest e
   held_by _ nowhere e h rest = let z : ◌≡◌ {A = ℕ} 0 1 = cc in absurd (omega arith)
   held_by _ (at p eo f t b) e h rest = let g : p ≡ o = cc in h (record { from = omega arith; to = omega arith })
 
-not_free : (ss : List Segment) (v o : ℕ) → file_offset ss v ≡ some o → Free o ss → ⊥
+not_free : (ss : List Segment) (v o : ℕ) → file_offset ss v ≡ Some o → Free o ss → ⊥
 unfolding file_offset
 not_free [] v o e end = let z : ◌≡◌ {A = ℕ} 0 1 = cc in absurd (omega arith)
 not_free (s ∷ ss) v o e (free w h rest) = held_by s ss v o (decides s v) (says s v) e h (λ f. not_free ss v o f rest)
 
 -- if at most one segment has the offset, it leads back to the address
 module _ (s : Segment) (ss : List Segment) (v o : ℕ) (w : s.fileoff + min s.vmsize s.filesize < 2 ^ 64) where
-  leads_back : (x : Option (Option ℕ)) → Says s v x → get_or x (file_offset ss v) ≡ some o → (Holds s o → Free o ss) → (y : Option ℕ) → (file_offset ss v ≡ some o → y ≡ some v)
-      → get_or (decides (turned s) o) y ≡ some v
+  leads_back : (x : Option (Option ℕ)) → Says s v x → unwrap_or x (file_offset ss v) ≡ Some o → (Holds s o → Free o ss) → (y : Option ℕ) → (file_offset ss v ≡ Some o → y ≡ Some v)
+      → unwrap_or (decides (turned s) o) y ≡ Some v
   leads_back _ next e h y rest =
       elim (dec_lt o s.fileoff) [
         | yes b ↦ rw (← below (turned s) o w b) (rest e)
@@ -110,11 +109,11 @@ module _ (s : Segment) (ss : List Segment) (v o : ℕ) (w : s.fileoff + min s.vm
   leads_back _ nowhere e h y rest = let z : ◌≡◌ {A = ℕ} 0 1 = cc in absurd (omega arith)
   leads_back _ (at p eo f t b) e h y rest =
       let g : p ≡ o = cc in
-      let d : some (some (s.vmaddr + (o - s.fileoff))) ≡ decides (turned s) o =
+      let d : Some (Some (s.vmaddr + (o - s.fileoff))) ≡ decides (turned s) o =
       held (turned s) o w (omega arith) (omega arith) _ (omega arith) (in_file_lem (turned s) (o - s.fileoff) (omega arith) (omega arith)) in
-      rw (← d) (ap some (omega arith))
+      rw (← d) (ap Some (omega arith))
 
-pub vm_again : (ss : List Segment) (v o : ℕ) → file_offset ss v ≡ some o → Once o ss → vm_address ss o ≡ some v
+pub vm_again : (ss : List Segment) (v o : ℕ) → file_offset ss v ≡ Some o → Once o ss → vm_address ss o ≡ Some v
 unfolding file_offset vm_address
 vm_again [] v o e end = let z : ◌≡◌ {A = ℕ} 0 1 = cc in absurd (omega arith)
 vm_again (s ∷ ss) v o e (once w h rest) = leads_back s ss v o w (decides s v) (says s v) e h _ (λ f. vm_again ss v o f rest)
@@ -133,20 +132,20 @@ once_in_order : (ss : List Segment) (from o : ℕ) → InOrder from ss → Once 
 once_in_order [] from o end = end
 once_in_order (s ∷ ss) from o (then f w rest) = once w (λ g. free_before ss _ o rest g.to) (once_in_order ss _ o rest)
 
-pub vm_again_in_order : (ss : List Segment) (v o : ℕ) → InOrder 0 ss → file_offset ss v ≡ some o → vm_address ss o ≡ some v
+pub vm_again_in_order : (ss : List Segment) (v o : ℕ) → InOrder 0 ss → file_offset ss v ≡ Some o → vm_address ss o ≡ Some v
 vm_again_in_order ss v o h e = vm_again ss v o e (once_in_order ss 0 o h)
 
 -- the smallest inputs that do not lead back (docs/DIFFERENCES.md): a file byte at the last offset, and two segments with the same file byte
 abbrev last_byte : List Segment
 last_byte = segments_of (0 ∷ (1 ∷ (0xffffffffffffffff ∷ (1 ∷ []))))
 
-last_offset : (file_offset last_byte 0 ≡ some 0xffffffffffffffff) × (vm_address last_byte 0xffffffffffffffff ≡ none)
+last_offset : (file_offset last_byte 0 ≡ Some 0xffffffffffffffff) × (vm_address last_byte 0xffffffffffffffff ≡ None)
 unfolding segments_of file_offset vm_address decides in_file
 last_offset = (refl, refl)
 
 abbrev same_byte : List Segment
 same_byte = segments_of (0 ∷ (1 ∷ (0 ∷ (1 ∷ (1 ∷ (1 ∷ (0 ∷ (1 ∷ []))))))))
 
-same_offset : (file_offset same_byte 1 ≡ some 0) × (vm_address same_byte 0 ≡ some 0)
+same_offset : (file_offset same_byte 1 ≡ Some 0) × (vm_address same_byte 0 ≡ Some 0)
 unfolding segments_of file_offset vm_address decides in_file
 same_offset = (refl, refl)

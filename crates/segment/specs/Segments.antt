@@ -1,7 +1,6 @@
 -- From an address to a file offset: docs/SPECIFICATION.md, "File offsets". A segment is the four
 -- numbers of a `segment_command_64` of mach-o/loader.h that say where it lies.
-use Rattle.std.specs.Prelude.{ℕ, ◌+◌, ◌-◌, ◌^◌, List, [], ◌∷◌, Bool, cond, ◌&&◌, ◌||◌, leb, ltb}
-use Rattle.std.proofs.Math.Option.{Option, some, none, get_or}
+use Rattle.std.specs.Prelude.{ℕ, ◌+◌, ◌-◌, ◌^◌, List, [], ◌∷◌, Bool, cond, ◌&&◌, ◌||◌, leb, ltb, Option, Some, None, unwrap_or}
 use Rattle.segment.specs.declared.segment.FileOffset.{FileOffset}
 use Rattle.segment.specs.declared.segment.Lookup.{Lookup}
 
@@ -25,23 +24,23 @@ covers s v = leb s.vmaddr v && ltb v (s.vmaddr + s.vmsize) && ltb 0 s.filesize
 
 -- the offset at a distance from the segment's start, if that byte is in the file
 unfoldable pub in_file : Segment → ℕ → Option ℕ
-in_file s d = cond (leb s.filesize d || leb (2 ^ 64) (s.fileoff + d)) none (some (s.fileoff + d))
+in_file s d = cond (leb s.filesize d || leb (2 ^ 64) (s.fileoff + d)) None (Some (s.fileoff + d))
 
 -- what a segment says of an address: `none` leaves it to the next segment
 unfoldable pub decides : Segment → ℕ → Option (Option ℕ)
 decides s v =
-    cond (leb (2 ^ 64) (s.vmaddr + s.vmsize)) (some none)
-    (cond (covers s v) (some (in_file s (v - s.vmaddr))) none)
+    cond (leb (2 ^ 64) (s.vmaddr + s.vmsize)) (Some None)
+    (cond (covers s v) (Some (in_file s (v - s.vmaddr))) None)
 
 -- the first segment that says something
 unfoldable pub file_offset : List Segment → ℕ → Option ℕ
-file_offset [] v = none
-file_offset (s ∷ ss) v = get_or (decides s v) (file_offset ss v)
+file_offset [] v = None
+file_offset (s ∷ ss) v = unwrap_or (decides s v) (file_offset ss v)
 
 abbrev pub offset_of : FileOffset → Option ℕ
-offset_of (FileOffset.At o) = some o
-offset_of FileOffset.Nothing = none
+offset_of (FileOffset.At o) = Some o
+offset_of FileOffset.Nothing = None
 
 abbrev pub decided : Lookup → Option (Option ℕ)
-decided (Lookup.Answer o) = some (offset_of o)
-decided Lookup.Next = none
+decided (Lookup.Answer o) = Some (offset_of o)
+decided Lookup.Next = None

@@ -1,7 +1,6 @@
 -- From a file offset to an address (docs/SPECIFICATION.md, "File offsets"): the segments seen from the file. The first file bytes of a
 -- `segment_command_64` (mach-o/loader.h) lie at its first addresses, and the file bytes past `vmsize` at none.
-use Rattle.std.specs.Prelude.{ℕ, min, List, map}
-use Rattle.std.proofs.Math.Option.{Option, some, none}
+use Rattle.std.specs.Prelude.{ℕ, min, List, map, Option, Some, None}
 use Rattle.segment.specs.Segments.{Segment, file_offset}
 use Rattle.segment.specs.declared.file_offset.VmAddress.{VmAddress}
 
@@ -14,5 +13,5 @@ unfoldable pub vm_address : List Segment → ℕ → Option ℕ
 vm_address segments o = file_offset (map turned segments) o
 
 abbrev pub address_of : VmAddress → Option ℕ
-address_of (VmAddress.At v) = some v
-address_of VmAddress.Nothing = none
+address_of (VmAddress.At v) = Some v
+address_of VmAddress.Nothing = None

@@ -1,7 +1,6 @@
 -- docs/SPECIFICATION.md, "Checked lines": the worked examples that are proved, as one table under one theorem.
-use Rattle.std.specs.Prelude.{ℕ, suc, ◌-◌, ◌%◌, ◌^◌, ◌≡◌, refl, List, [], ◌∷◌, true, false, pos, negsuc, length}
+use Rattle.std.specs.Prelude.{ℕ, suc, ◌-◌, ◌%◌, ◌^◌, ◌≡◌, refl, List, [], ◌∷◌, true, false, pos, negsuc, length, Some, None}
 use Rattle.std.proofs.Common.{arith, sym, le-leb}
-use Rattle.std.proofs.Math.Option.{some, none}
 use Rattle.std.proofs.Math.Seq.{drop-length}
 use Rattle.std.proofs.lemmas.Bool.{lt-leb}
 use Rattle.utf8.specs.Table.{table}
@@ -20,16 +19,16 @@ partly = 0x1000 ∷ 64 ∷ 0 ∷ 32 ∷ []
 pub record Checked : Type 0 where
   pub forward : relative_pointer 0x1008 (pos 20) ≡ 0x101c
   pub around : relative_pointer 0 (negsuc 0) ≡ 2 ^ 64 - 1
-  pub last_byte_lem : file_offset (segments_of partly) 0x101f ≡ some 31
-  pub no_byte : file_offset (segments_of partly) 0x1020 ≡ none
+  pub last_byte_lem : file_offset (segments_of partly) 0x101f ≡ Some 31
+  pub no_byte : file_offset (segments_of partly) 0x1020 ≡ None
   -- `wrapped-at` says it of a segment at any place
-  pub wrapping : (rest : List ℕ) → length rest % 4 ≡ 0 → fault ((2 ^ 64 - 16) ∷ (16 ∷ (0 ∷ (16 ∷ rest)))) ≡ some 9
+  pub wrapping : (rest : List ℕ) → length rest % 4 ≡ 0 → fault ((2 ^ 64 - 16) ∷ (16 ∷ (0 ∷ (16 ∷ rest)))) ≡ Some 9
   pub euro : well_formed (0xe2 ∷ 0x82 ∷ 0xac ∷ []) ≡ true
   pub overlong : well_formed (0xc0 ∷ 0x80 ∷ []) ≡ false
   pub surrogate : well_formed (0xed ∷ 0xa0 ∷ 0x80 ∷ []) ≡ false
   pub too_high : well_formed (0xf4 ∷ 0x90 ∷ 0x80 ∷ 0x80 ∷ []) ≡ false
-  pub at_end_lem : (s : List ℕ) → text_at s (length s) ≡ some (place (length s) 0)
-  pub past_end : (s : List ℕ) → text_at s (suc (length s)) ≡ none
+  pub at_end_lem : (s : List ℕ) → text_at s (length s) ≡ Some (place (length s) 0)
+  pub past_end : (s : List ℕ) → text_at s (suc (length s)) ≡ None
   -- generic sizes, and where the tables of a class lie
   pub blocks : Blocks.CheckedBlocks
   -- the class at an address, from its body on

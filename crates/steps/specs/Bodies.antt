@@ -1,5 +1,5 @@
 -- The answers of the calls over bodies and texts: docs/SPECIFICATION.md, "Refusals" and "Bodies".
-use Rattle.std.proofs.Math.Option.{Option}
+use Rattle.std.specs.Prelude.{Option}
 use Rattle.refusal.specs.Refusal.{Guarded, answered, refused, refusal_number}
 use Rattle.util.specs.Cstr.{Place, text_of}
 use Rattle.type_body.specs.Body.{Body, body_of}

@@ -1,5 +1,5 @@
 -- The answers of the calls over field records and names: docs/SPECIFICATION.md, "Refusals" and "Fields".
-use Rattle.std.proofs.Math.Option.{Option}
+use Rattle.std.specs.Prelude.{Option}
 use Rattle.refusal.specs.Refusal.{Guarded, answered, refused, refusal_number}
 use Rattle.runtime.specs.FieldName.{NamePlace, field_name_of}
 use Rattle.field.specs.Records.{RecordStep, record_step_of}

@@ -1,5 +1,5 @@
 -- The answer of the calls over field offsets: docs/SPECIFICATION.md, "Refusals" and "Field offsets".
-use Rattle.std.proofs.Math.Option.{Option}
+use Rattle.std.specs.Prelude.{Option}
 use Rattle.refusal.specs.Refusal.{Guarded, answered, refused, refusal_number}
 use Rattle.field_offsets.specs.Offsets.{Offsets, offsets_of}
 use Rattle.steps.specs.declared.offsets.OffsetsAnswer.{OffsetsAnswer}

@@ -1,6 +1,5 @@
 -- The answers of the calls over singleton records: docs/SPECIFICATION.md, "Refusals" and "Singleton records".
-use Rattle.std.specs.Prelude.{ℕ}
-use Rattle.std.proofs.Math.Option.{Option}
+use Rattle.std.specs.Prelude.{ℕ, Option}
 use Rattle.refusal.specs.Refusal.{Guarded, answered, refused, refusal_number}
 use Rattle.type_body.specs.Singleton.{Initialization, init_of, pointer_of}
 use Rattle.steps.specs.declared.singletons.InitAnswer.{InitAnswer}

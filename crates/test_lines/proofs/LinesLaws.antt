@@ -3,10 +3,9 @@ use Prim.Native.Nat.{ℕ, zero, suc, ◌+◌, ◌-◌, ◌*◌, ◌/◌, ◌%◌
 use Rattle.std.proofs.Common.{zero-add, add-one, sym, ◌∙◌, append_assoc, length-set, take-append-drop, length-take-le}
 use Rattle.std.proofs.Math.Decide.{dec_le, dec_lt, ℕ_discrete}
 use native.Mathlib.Omega.{arith}
-use Rattle.std.specs.Prelude.{◌≡◌, refl, List, [], ◌∷◌, ◌++◌, true, false, cond, ◌&&◌, take, get_or, set, leb, ltb, eqb}
+use Rattle.std.specs.Prelude.{◌≡◌, refl, List, [], ◌∷◌, ◌++◌, true, false, cond, ◌&&◌, take, get_or, set, leb, ltb, eqb, Option, Some, None, option_map}
 use Rattle.std.proofs.Math.Path.{ap}
 use Rattle.std.proofs.Math.Bool.{and-false, and-eq-true_iff}
-use Rattle.std.proofs.Math.Option.{Option, some, none, map}
 use Rattle.std.proofs.Math.ListN.{length, drop, length-drop, drop_of_length-le}
 use Rattle.std.proofs.Math.Seq.{drop-cons, drop-drop, paste-suc, take-length}
 use borrow.Author.Tests.{le-leb, lt-leb, lt-ltb, le-ltb, ltb-true, eq-eqb, ne_eqb, eqb-true}
@@ -191,19 +190,19 @@ module _ (s : List ℕ) (i : ℕ) where
     value_large w f = omega (arith, value_next, value_least (v * 16 + d) (drop (i + 1) s))
 
 module _ (s : List ℕ) where
-  pub number_empty : length s ≡ 0 → none ≡ hex_number s
+  pub number_empty : length s ≡ 0 → None ≡ hex_number s
   unfolding hex_number
   number_empty h = simp (le-ltb 0 (length s) (omega arith))
 
-  pub number_other : false ≡ all_digits s → none ≡ hex_number s
+  pub number_other : false ≡ all_digits s → None ≡ hex_number s
   unfolding hex_number
   number_other h = rw (← h, and-false)
 
-  pub number_large : 2 ^ 64 ≤ hex_value 0 s → none ≡ hex_number s
+  pub number_large : 2 ^ 64 ≤ hex_value 0 s → None ≡ hex_number s
   unfolding hex_number
   number_large h = rw (le-ltb (hex_value 0 s) (2 ^ 64) h, and-false)
 
-  pub number_read : (v : ℕ) → 0 < length s → true ≡ all_digits s → hex_value 0 s ≡ v → v < 2 ^ 64 → some v ≡ hex_number s
+  pub number_read : (v : ℕ) → 0 < length s → true ≡ all_digits s → hex_value 0 s ≡ v → v < 2 ^ 64 → Some v ≡ hex_number s
   unfolding hex_number
   number_read v h d e l = rw (lt-ltb 0 (length s) h, ← d, e, lt-ltb v (2 ^ 64) l)
 
@@ -240,44 +239,44 @@ module _ (s out : List ℕ) (n : ℕ) where
   pairs_written e = let size : n ≡ length (digit_pairs s) = e ∙ sym (pairs_length s) in rw (size, take-length)
 
 module _ (s : List ℕ) where
-  pub bytes_dash : true ≡ equals s (45 ∷ []) → some [] ≡ hex_bytes s
+  pub bytes_dash : true ≡ equals s (45 ∷ []) → Some [] ≡ hex_bytes s
   unfolding hex_bytes
   bytes_dash e = rw (← e)
 
   module _ (n : false ≡ equals s (45 ∷ [])) where
-    pub bytes_empty : length s ≡ 0 → none ≡ hex_bytes s
+    pub bytes_empty : length s ≡ 0 → None ≡ hex_bytes s
     unfolding hex_bytes
     bytes_empty h = rw (← n, le-ltb 0 (length s) (omega arith))
 
-    pub bytes_odd : (length s % 2 ≡ 0 → ⊥) → none ≡ hex_bytes s
+    pub bytes_odd : (length s % 2 ≡ 0 → ⊥) → None ≡ hex_bytes s
     unfolding hex_bytes
     bytes_odd h = rw (← n, ne_eqb (length s % 2) 0 h, and-false)
 
-    pub bytes_other : false ≡ all_digits s → none ≡ hex_bytes s
+    pub bytes_other : false ≡ all_digits s → None ≡ hex_bytes s
     unfolding hex_bytes
     bytes_other h = rw (← n, ← h, and-false)
 
-    pub bytes_read_lem : 0 < length s → length s % 2 ≡ 0 → true ≡ all_digits s → some (digit_pairs s) ≡ hex_bytes s
+    pub bytes_read_lem : 0 < length s → length s % 2 ≡ 0 → true ≡ all_digits s → Some (digit_pairs s) ≡ hex_bytes s
     unfolding hex_bytes
     bytes_read_lem l e h = rw (← n, ← h, lt-ltb 0 (length s) l, eq-eqb (length s % 2) 0 e)
 
 module _ (out : List ℕ) (x : Option (List ℕ)) where
-  pub fitting_none : none ≡ x → none ≡ fitting out x
+  pub fitting_none : None ≡ x → None ≡ fitting out x
   unfolding fitting
   fitting_none e = ap (fitting out) e
 
-  module _ (t : List ℕ) (e : some t ≡ x) where
-    pub fitting_all : length t ≤ length out → some t ≡ fitting out x
+  module _ (t : List ℕ) (e : Some t ≡ x) where
+    pub fitting_all : length t ≤ length out → Some t ≡ fitting out x
     unfolding fitting
     fitting_all h = simp (le-leb (length t) (length out) h) at (ap (fitting out) e)
 
-    pub fitting_short : length out < length t → none ≡ fitting out x
+    pub fitting_short : length out < length t → None ≡ fitting out x
     unfolding fitting
     fitting_short h = simp (lt-leb (length t) (length out) h) at (ap (fitting out) e)
 
 -- what was written to a buffer, as its count and its bytes
-pub answered : (out : List ℕ) (x y : Option (List ℕ)) → x ≡ y → (map length x ≡ map length y) × (overwritten out x ≡ overwritten out y)
-answered out x y e = (ap (map length) e, ap (overwritten out) e)
+pub answered : (out : List ℕ) (x y : Option (List ℕ)) → x ≡ y → (option_map length x ≡ option_map length y) × (overwritten out x ≡ overwritten out y)
+answered out x y e = (ap (option_map length) e, ap (overwritten out) e)
 
 -- ---- the numbers of fields
 
@@ -289,21 +288,21 @@ field_beyond [] (suc n) h = no_field (suc n)
 field_beyond (b ∷ s) (suc n) h = field_beyond (drop (suc (span 32 (b ∷ s))) (b ∷ s)) n (rw length-drop (omega arith))
 
 -- so a field that is a number is not past the end
-pub number_within : (s : List ℕ) (n v : ℕ) → some v ≡ hex_number (field_of s n) → n ≤ length s
+pub number_within : (s : List ℕ) (n v : ℕ) → Some v ≡ hex_number (field_of s n) → n ≤ length s
 number_within s n v e = go (dec_le n (length s))
   where
     go : Dec (n ≤ length s) → n ≤ length s
     go (yes h) = h
     go (no h) =
-        let f : ◌≡◌ {A = Option ℕ} none (some v) = number_empty [] refl ∙ ap hex_number (field_beyond s n (omega arith)) ∙ sym e in
+        let f : ◌≡◌ {A = Option ℕ} None (Some v) = number_empty [] refl ∙ ap hex_number (field_beyond s n (omega arith)) ∙ sym e in
         let z : ◌≡◌ {A = ℕ} 0 1 = cc in
         absurd (omega arith)
 
 -- the numbers from a field on, if it is known what the field is
 numbers_by_lem : (s : List ℕ) (at step m : ℕ) (x : Option ℕ) → x ≡ hex_number (field_of s at)
-    → numbers_of_fields s at step (suc m) ≡ (elim x as (λ _. List ℕ) [ none ↦ [] | some v ↦ v ∷ numbers_of_fields s (at + step) step m ])
+    → numbers_of_fields s at step (suc m) ≡ (elim x as (λ _. List ℕ) [ None ↦ [] | Some v ↦ v ∷ numbers_of_fields s (at + step) step m ])
 unfolding numbers_of_fields
-numbers_by_lem s at step m x e = ap (λ (y : Option ℕ). elim y as (λ _. List ℕ) [ none ↦ [] | some v ↦ v ∷ numbers_of_fields s (at + step) step m ]) (sym e)
+numbers_by_lem s at step m x e = ap (λ (y : Option ℕ). elim y as (λ _. List ℕ) [ None ↦ [] | Some v ↦ v ∷ numbers_of_fields s (at + step) step m ]) (sym e)
 
 -- `n` of the numbers `l` are written to the list `out₀`, and field `at` is read next
 pub record Reading (s : List ℕ) (step : ℕ) (l out₀ out : List ℕ) (at n : ℕ) : Type 0 where
@@ -335,14 +334,14 @@ module _ (s : List ℕ) (step : ℕ) (l out₀ out : List ℕ) (at n : ℕ) (g :
     split : length out₀ - n ≡ suc (length out₀ - (n + 1))
     split = omega arith
 
-    pub reading_stops : none ≡ hex_number (field_of s at) → (false ≡ eqb (length l) (length out₀)) × (out ≡ l ++ drop (length l) out₀)
+    pub reading_stops : None ≡ hex_number (field_of s at) → (false ≡ eqb (length l) (length out₀)) × (out ≡ l ++ drop (length l) out₀)
     reading_stops f =
-        let e : n ≡ length l = all_given (g.rest ∙ rw split (numbers_by_lem s at step (length out₀ - (n + 1)) none f)) in
+        let e : n ≡ length l = all_given (g.rest ∙ rw split (numbers_by_lem s at step (length out₀ - (n + 1)) None f)) in
         (sym (ne_eqb (length l) (length out₀) (λ (q : length l ≡ length out₀). omega arith)), all_written e)
 
-    pub reading_next : (v : ℕ) → some v ≡ hex_number (field_of s at) → Reading s step l out₀ (set out n v) (at + step) (n + 1)
+    pub reading_next : (v : ℕ) → Some v ≡ hex_number (field_of s at) → Reading s step l out₀ (set out n v) (at + step) (n + 1)
     reading_next v f =
-        let r : drop n l ≡ v ∷ numbers_of_fields s (at + step) step (length out₀ - (n + 1)) = g.rest ∙ rw split (numbers_by_lem s at step (length out₀ - (n + 1)) (some v) f) in
+        let r : drop n l ≡ v ∷ numbers_of_fields s (at + step) step (length out₀ - (n + 1)) = g.rest ∙ rw split (numbers_by_lem s at step (length out₀ - (n + 1)) (Some v) f) in
         let size : n < length l = omega (arith, rw length-drop at (ap length r)) in
         let cons : get_or l n 0 ∷ drop (suc n) l ≡ v ∷ numbers_of_fields s (at + step) step (length out₀ - (n + 1)) = sym (drop-cons l n 0 size) ∙ r in
         let one : n + 1 ≡ suc n = omega arith in
@@ -365,9 +364,9 @@ numbers_most s at step zero = omega arith
 numbers_most s at step (suc n) = go (hex_number (field_of s at)) (numbers_most s (at + step) step n)
   where
     go : (x : Option ℕ) → length (numbers_of_fields s (at + step) step n) ≤ n
-        → length {A = ℕ} (elim x as (λ _. List ℕ) [ none ↦ [] | some v ↦ v ∷ numbers_of_fields s (at + step) step n ]) ≤ suc n
-    go none h = omega arith
-    go (some v) h = omega arith
+        → length {A = ℕ} (elim x as (λ _. List ℕ) [ None ↦ [] | Some v ↦ v ∷ numbers_of_fields s (at + step) step n ]) ≤ suc n
+    go None h = omega arith
+    go (Some v) h = omega arith
 
 -- what follows `k` elements of the first `n`, and what follows those
 part_rest : (k n : ℕ) (l : List ℕ) → k ≤ n → drop k (take n l) ++ drop n l ≡ drop k l
@@ -384,24 +383,24 @@ module _ (s : List ℕ) (from : ℕ) (out : List ℕ) where
   abbrev count_by : Option ℕ → Option ℕ
   count_by x =
       elim x as (λ _. Option ℕ) [
-        | none ↦ none
-        | some n ↦ cond (leb n (length out) && eqb (length (numbers_of_fields s (from + 1) 1 n)) n) (some n) none
+        | None ↦ None
+        | Some n ↦ cond (leb n (length out) && eqb (length (numbers_of_fields s (from + 1) 1 n)) n) (Some n) None
       ]
 
   abbrev numbers_by : Option ℕ → List ℕ
-  numbers_by x = elim x as (λ _. List ℕ) [ none ↦ [] | some n ↦ cond (leb n (length out)) (numbers_of_fields s (from + 1) 1 n) [] ]
+  numbers_by x = elim x as (λ _. List ℕ) [ None ↦ [] | Some n ↦ cond (leb n (length out)) (numbers_of_fields s (from + 1) 1 n) [] ]
 
   listed_by : (x y : Option ℕ) (out' : List ℕ) → x ≡ hex_number (field_of s from) → y ≡ count_by x
       → out' ≡ numbers_by x ++ drop (length (numbers_by x)) out → Listed y out'
   unfolding list_count list_numbers
   listed_by x y out' e ey eo = (ey ∙ ap count_by e, eo ∙ ap (λ (x : Option ℕ). numbers_by x ++ drop (length (numbers_by x)) out) e)
 
-  pub list_none : none ≡ hex_number (field_of s from) → Listed none out
-  list_none e = listed_by none none out e refl refl
+  pub list_none : None ≡ hex_number (field_of s from) → Listed None out
+  list_none e = listed_by None None out e refl refl
 
-  module _ (n : ℕ) (e : some n ≡ hex_number (field_of s from)) where
-    pub list_long : length out < n → Listed none out
-    list_long h = listed_by (some n) none out e (simp (lt-leb n (length out) h)) (simp (lt-leb n (length out) h))
+  module _ (n : ℕ) (e : Some n ≡ hex_number (field_of s from)) where
+    pub list_long : length out < n → Listed None out
+    list_long h = listed_by (Some n) None out e (simp (lt-leb n (length out) h)) (simp (lt-leb n (length out) h))
 
     module _ (h : n ≤ length out) (b l : List ℕ) (el : l ≡ numbers_of_fields s (from + 1) 1 (length (take n out))) (eb : b ≡ l ++ drop (length l) (take n out)) where
       pub part_long : n ≡ length (take n out)
@@ -416,8 +415,8 @@ module _ (s : List ℕ) (from : ℕ) (out : List ℕ) where
       is_list : l ≡ numbers_of_fields s (from + 1) 1 n
       is_list = el ∙ ap (numbers_of_fields s (from + 1) 1) (sym part_long)
 
-      pub list_all : true ≡ eqb (length l) (length (take n out)) → Listed (some n) (b ++ drop n out)
-      list_all t = listed_by (some n) (some n) _ e (simp (le-leb n (length out) h) (rw (← is_list, part_long) (rw (← t)))) (simp (le-leb n (length out) h) (rw (← is_list) whole))
+      pub list_all : true ≡ eqb (length l) (length (take n out)) → Listed (Some n) (b ++ drop n out)
+      list_all t = listed_by (Some n) (Some n) _ e (simp (le-leb n (length out) h) (rw (← is_list, part_long) (rw (← t)))) (simp (le-leb n (length out) h) (rw (← is_list) whole))
 
-      pub list_part : false ≡ eqb (length l) (length (take n out)) → Listed none (b ++ drop n out)
-      list_part t = listed_by (some n) none _ e (simp (le-leb n (length out) h) (rw (← is_list, part_long) (rw (← t)))) (simp (le-leb n (length out) h) (rw (← is_list) whole))
+      pub list_part : false ≡ eqb (length l) (length (take n out)) → Listed None (b ++ drop n out)
+      list_part t = listed_by (Some n) None _ e (simp (le-leb n (length out) h) (rw (← is_list, part_long) (rw (← t)))) (simp (le-leb n (length out) h) (rw (← is_list) whole))

@@ -1,6 +1,5 @@
 -- The fields of a line, and what their texts stand for.
-use Rattle.std.specs.Prelude.{ℕ, zero, suc, ◌+◌, ◌-◌, ◌*◌, ◌%◌, ◌^◌, List, [], ◌∷◌, Bool, true, false, cond, ◌&&◌, length, take, drop, leb, ltb, eqb}
-use Rattle.std.proofs.Math.Option.{Option, some, none}
+use Rattle.std.specs.Prelude.{ℕ, zero, suc, ◌+◌, ◌-◌, ◌*◌, ◌%◌, ◌^◌, List, [], ◌∷◌, Bool, true, false, cond, ◌&&◌, length, take, drop, leb, ltb, eqb, Option, Some, None}
 use Rattle.test_lines.specs.declared.hex.Number.{Number}
 use Rattle.test_lines.specs.declared.hex.Count.{Count}
 
@@ -52,7 +51,7 @@ hex_value n (b ∷ s) = hex_value (n * 16 + digit_of b) s
 
 -- the number of a text: at least one digit, only digits, and below 2^64
 unfoldable pub hex_number : List ℕ → Option ℕ
-hex_number s = cond (ltb 0 (length s) && all_digits s && ltb (hex_value 0 s) (2 ^ 64)) (some (hex_value 0 s)) none
+hex_number s = cond (ltb 0 (length s) && all_digits s && ltb (hex_value 0 s) (2 ^ 64)) (Some (hex_value 0 s)) None
 
 -- the byte of each pair of digits, the high digit first
 unfoldable pub digit_pairs : List ℕ → List ℕ
@@ -63,36 +62,36 @@ digit_pairs (h ∷ (l ∷ s)) = (digit_of h * 16 + digit_of l) ∷ digit_pairs s
 -- the bytes of a text: at least one pair of digits, and only pairs; `-` (45) alone stands for no bytes
 unfoldable pub hex_bytes : List ℕ → Option (List ℕ)
 hex_bytes s =
-    cond (equals s (45 ∷ [])) (some [])
-    (cond (ltb 0 (length s) && eqb (length s % 2) 0 && all_digits s) (some (digit_pairs s)) none)
+    cond (equals s (45 ∷ [])) (Some [])
+    (cond (ltb 0 (length s) && eqb (length s % 2) 0 && all_digits s) (Some (digit_pairs s)) None)
 
 -- bytes, if a buffer has room for them
 unfoldable pub fitting : List ℕ → Option (List ℕ) → Option (List ℕ)
-fitting out none = none
-fitting out (some t) = cond (leb (length t) (length out)) (some t) none
+fitting out None = None
+fitting out (Some t) = cond (leb (length t) (length out)) (Some t) None
 
 -- the numbers of the fields `from`, `from` + `step` and so on, at most `n`: up to the first that is not a number
 unfoldable pub numbers_of_fields : List ℕ → ℕ → ℕ → ℕ → List ℕ
 numbers_of_fields s from step zero = []
-numbers_of_fields s from step (suc n) = elim (hex_number (field_of s from)) [ none ↦ [] | some v ↦ v ∷ numbers_of_fields s (from + step) step n ]
+numbers_of_fields s from step (suc n) = elim (hex_number (field_of s from)) [ None ↦ [] | Some v ↦ v ∷ numbers_of_fields s (from + step) step n ]
 
 -- a list's count is in the field `from`, and its numbers are in the fields after that: those that are written to a list of `room` numbers,
 -- and their count, if all of them are present
 unfoldable pub list_numbers : List ℕ → ℕ → ℕ → List ℕ
-list_numbers s from room = elim (hex_number (field_of s from)) [ none ↦ [] | some n ↦ cond (leb n room) (numbers_of_fields s (from + 1) 1 n) [] ]
+list_numbers s from room = elim (hex_number (field_of s from)) [ None ↦ [] | Some n ↦ cond (leb n room) (numbers_of_fields s (from + 1) 1 n) [] ]
 
 unfoldable pub list_count : List ℕ → ℕ → ℕ → Option ℕ
 list_count s from room =
     elim (hex_number (field_of s from)) [
-      | none ↦ none
-      | some n ↦ cond (leb n room && eqb (length (numbers_of_fields s (from + 1) 1 n)) n) (some n) none
+      | None ↦ None
+      | Some n ↦ cond (leb n room && eqb (length (numbers_of_fields s (from + 1) 1 n)) n) (Some n) None
     ]
 
 -- what an answer says: the number that was read, or how many bytes or numbers were
 abbrev pub number_of : Number → Option ℕ
-number_of (Number.Value n) = some n
-number_of Number.Bad = none
+number_of (Number.Value n) = Some n
+number_of Number.Bad = None
 
 abbrev pub count_of : Count → Option ℕ
-count_of (Count.Of n) = some n
-count_of Count.Bad = none
+count_of (Count.Of n) = Some n
+count_of Count.Bad = None

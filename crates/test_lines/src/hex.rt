@@ -1,6 +1,5 @@
 // Numbers and bytes in lowercase hexadecimal.
-ghost use Rattle.std.specs.Prelude.{◌≤◌, ◌/◌, ◌≡◌, true, eqb, length};
-ghost use Rattle.std.proofs.Math.Option.{some, map};
+ghost use Rattle.std.specs.Prelude.{◌≤◌, ◌/◌, ◌≡◌, true, eqb, length, Some, option_map};
 ghost use Rattle.test_lines.specs.Lines.{digit_of, all_digits, hex_number, digit_pairs, hex_bytes, fitting, numbers_of_fields, list_numbers, list_count, number_of, count_of};
 ghost use Rattle.util.specs.Buffer.{overwritten};
 
@@ -78,7 +77,7 @@ fn all_digits(s: &[u8]) -> bool
 // Writes the byte of each pair of digits to the buffer's start.
 fn write_pairs(s: &[u8], out: &mut [u8])
     requires { (all_digits s.now ≡ true) × (length s.now / 2 ≤ length out.old) }
-    ensures { out.new ≡ overwritten out.old (some (digit_pairs s.now)) }
+    ensures { out.new ≡ overwritten out.old (Some (digit_pairs s.now)) }
 {
     let count = s.len() / 2;
     let mut n = 0;
@@ -92,7 +91,7 @@ fn write_pairs(s: &[u8], out: &mut [u8])
 
 // Reads bytes into the buffer's start. All tests come before the first byte is written, so that a refusal leaves the buffer as it is.
 pub fn parse_bytes(s: &[u8], out: &mut [u8]) -> Count
-    ensures result_value { count_of result ≡ map length (fitting out.old (hex_bytes s.now)) }
+    ensures result_value { count_of result ≡ option_map length (fitting out.old (hex_bytes s.now)) }
     ensures out_after { out.new ≡ overwritten out.old (fitting out.old (hex_bytes s.now)) }
 {
     if same(s, b"-") {
@@ -119,7 +118,7 @@ pub fn parse_bytes(s: &[u8], out: &mut [u8]) -> Count
 // Those before the first that is not a number are written.
 pub fn parse_numbers(line: &[u8], from: usize, step: u32, out: &mut [u64]) -> bool
     ensures value { result ≡ eqb (length (numbers_of_fields line.now from step (length out.old))) (length out.old) }
-    ensures out_after { out.new ≡ overwritten out.old (some (numbers_of_fields line.now from step (length out.old))) }
+    ensures out_after { out.new ≡ overwritten out.old (Some (numbers_of_fields line.now from step (length out.old))) }
 {
     let mut at = from;
     let mut n = 0;
@@ -137,7 +136,7 @@ pub fn parse_numbers(line: &[u8], from: usize, step: u32, out: &mut [u64]) -> bo
 // Reads a list: its count is the field `from`, and its numbers are the fields after that. A count above the length of `out` is refused.
 pub fn parse_list(line: &[u8], from: usize, out: &mut [u64]) -> Count
     ensures result_value { count_of result ≡ list_count line.now from (length out.old) }
-    ensures out_after { out.new ≡ overwritten out.old (some (list_numbers line.now from (length out.old))) }
+    ensures out_after { out.new ≡ overwritten out.old (Some (list_numbers line.now from (length out.old))) }
 {
     let Number::Value(count) = parse_number(field(line, from)) else {
         return Count::Bad;

@@ -3,8 +3,7 @@ use Prim.Native.Nat.{ℕ, suc, ◌+◌, ◌-◌, ◌≤◌, ◌<◌}
 use native.Mathlib.Omega.{arith}
 use Rattle.std.proofs.Math.Path.{◌≡◌, refl, sym}
 use Rattle.std.proofs.Common.{ap, ◌∙◌}
-use Rattle.std.specs.Prelude.{List, length}
-use Rattle.std.proofs.Math.Option.{Option, some, none}
+use Rattle.std.specs.Prelude.{List, length, Option, Some, None}
 use Rattle.refusal.specs.Refusal.{Guarded, answered, refused}
 use Rattle.refusal.specs.Guarded.{fault, guarded}
 use Rattle.refusal.proofs.GuardedLaws.{answered_is, never_refused, refused_list}
@@ -30,8 +29,8 @@ module _ (image segments types : List ℕ) (start : ℕ) where
   none_shown k x e = go (fault segments) refl
     where
       go : (f : Option ℕ) → f ≡ fault segments → 0 ≡ rows_shown image segments types start
-      go none h = absurd (never_refused segments x k e h)
-      go (some n) h = rw (rows_shown, ← h)
+      go None h = absurd (never_refused segments x k e h)
+      go (Some n) h = rw (rows_shown, ← h)
 
   -- a step that does not refuse
   abbrev pub Whole : Type 0
@@ -42,8 +41,8 @@ module _ (image segments types : List ℕ) (start : ℕ) where
   shown_whole x y e = go (fault segments) refl
     where
       go : (f : Option ℕ) → f ≡ fault segments → rows_shown image segments types start ≡ left 4096 0
-      go none h = rw (rows_shown, ← h)
-      go (some n) h =
+      go None h = rw (rows_shown, ← h)
+      go (Some n) h =
           let f : ◌≡◌ {A = Guarded (Option Found)} (answered y) (refused n) = e ∙ sym (refused_list segments (answered x) h) in
           let z : ◌≡◌ {A = ℕ} 0 1 = cc in
           absurd (omega arith)
@@ -52,19 +51,19 @@ module _ (image segments types : List ℕ) (start : ℕ) where
     one_left : 4096 - n ≡ suc (4096 - (n + 1))
     one_left = omega arith
 
-    pub row_shown : (f : Found) → answered (some f) ≡ guarded segments (answered (next_row image segments types start i)) → Showing (n + 1) f.next
+    pub row_shown : (f : Found) → answered (Some f) ≡ guarded segments (answered (next_row image segments types start i)) → Showing (n + 1) f.next
     unfolding stepped_rows
     row_shown f e =
-        let q : some f ≡ next_row image segments types start i = answered_is segments (next_row image segments types start i) (some f) e in
+        let q : Some f ≡ next_row image segments types start i = answered_is segments (next_row image segments types start i) (Some f) e in
         let more : left (4096 - n) i ≡ suc (left (4096 - (n + 1)) f.next) = rw (one_left, stepped_rows, ← q) in
         omega arith
 
-    pub rows_ended : answered none ≡ guarded segments (answered (next_row image segments types start i)) → n ≡ rows_shown image segments types start
+    pub rows_ended : answered None ≡ guarded segments (answered (next_row image segments types start i)) → n ≡ rows_shown image segments types start
     unfolding stepped_rows
     rows_ended e =
-        let q : none ≡ next_row image segments types start i = answered_is segments (next_row image segments types start i) none e in
+        let q : None ≡ next_row image segments types start i = answered_is segments (next_row image segments types start i) None e in
         let over : left (4096 - n) i ≡ 0 = rw (one_left, stepped_rows, ← q) in
-        omega (arith, shown_whole (next_row image segments types start i) none e)
+        omega (arith, shown_whole (next_row image segments types start i) None e)
 
   -- as many as may be
   pub rows_all : (n i : ℕ) → Showing n i → n ≡ 4096 → Whole → n ≡ rows_shown image segments types start
@@ -79,16 +78,16 @@ module _ (fields : List ℕ) (start k at : ℕ) (s : Step) (e : s ≡ field_step
   step_left : 4096 - k ≡ suc (4096 - (k + 1))
   step_left = omega arith
 
-  pub end_here : s.found ≡ none → walk_end fields start (4096 - k) at ≡ s.next
+  pub end_here : s.found ≡ None → walk_end fields start (4096 - k) at ≡ s.next
   unfolding walk_end
   end_here f =
-      let g : (field_step fields start at).found ≡ none = sym (ap (λ (x : Step). x.found) e) ∙ f in
+      let g : (field_step fields start at).found ≡ None = sym (ap (λ (x : Step). x.found) e) ∙ f in
       rw (step_left, walk_end, g) (ap (λ (x : Step). x.next) (sym e))
 
-  pub end_further : (d : FieldDescriptor) → s.found ≡ some d → walk_end fields start (4096 - k) at ≡ walk_end fields start (4096 - (k + 1)) s.next
+  pub end_further : (d : FieldDescriptor) → s.found ≡ Some d → walk_end fields start (4096 - k) at ≡ walk_end fields start (4096 - (k + 1)) s.next
   unfolding walk_end
   end_further d f =
-      let g : (field_step fields start at).found ≡ some d = sym (ap (λ (x : Step). x.found) e) ∙ f in
+      let g : (field_step fields start at).found ≡ Some d = sym (ap (λ (x : Step). x.found) e) ∙ f in
       rw (step_left, walk_end, g) (ap (λ (x : Step). walk_end fields start (4096 - (k + 1)) x.next) (sym e))
 
 pub end_over : (fields : List ℕ) (start k at : ℕ) → 4096 ≤ k → at ≡ walk_end fields start (4096 - k) at

@@ -1,9 +1,8 @@
 -- What the tests on a body say about its program.
-use Rattle.std.specs.Prelude.{ℕ, ◌+◌, ◌/◌, ◌%◌, ◌^◌, ◌≤◌, ◌<◌, ◌≡◌, List, [], Bool, true, false, length}
+use Rattle.std.specs.Prelude.{ℕ, ◌+◌, ◌/◌, ◌%◌, ◌^◌, ◌≤◌, ◌<◌, ◌≡◌, List, [], Bool, true, false, length, Option, Some, None}
 use Rattle.std.proofs.Math.Decide.{dec_lt}
 use Rattle.std.proofs.Common.{arith, ◌∙◌, le-leb}
 use Rattle.std.proofs.Math.Path.{sym, ap}
-use Rattle.std.proofs.Math.Option.{Option, some, none}
 use Rattle.std.proofs.lemmas.Bool.{lt-leb}
 use Rattle.util.specs.LittleEndian.{unsigned_in, signed_in}
 use Rattle.util.specs.Pointer.{relative_address}
@@ -61,7 +60,7 @@ module _ (image segments : List ℕ) (a n : ℕ) where
         ]
 
     module _ (k : List ℕ → Body) (z : 0 < n) where
-      pub no_body : length h < n → none ≡ run image segments (body_bytes a n k)
+      pub no_body : length h < n → None ≡ run image segments (body_bytes a n k)
       unfolding body_bytes run
       no_body l =
           elim (dec_lt (a + 20 + n) (2 ^ 64)) [
@@ -69,11 +68,11 @@ module _ (image segments : List ℕ) (a n : ℕ) where
             | no w ↦ simp (le-leb (2 ^ 64) (a + 20 + n) (omega arith))
           ]
 
-      pub body_at : (b : Body) → b ≡ k h → n ≤ length h → some b ≡ run image segments (body_bytes a n k)
+      pub body_at : (b : Body) → b ≡ k h → n ≤ length h → Some b ≡ run image segments (body_bytes a n k)
       unfolding body_bytes run
       body_at b eb l =
           let w = ends_below z l in
-          simp (lt-leb (2 ^ 64) (a + 20 + n) w) (ap some eb ∙ sym (run_bytes image segments (a + 20) n (λ h. done (k h)) h (e ∙ sym (part_below w)) z l))
+          simp (lt-leb (2 ^ 64) (a + 20 + n) w) (ap Some eb ∙ sym (run_bytes image segments (a + 20) n (λ h. done (k h)) h (e ∙ sym (part_below w)) z l))
 
 -- a body depends on the kind in the flags
 module _ (image segments : List ℕ) (a flags : ℕ) (r k : ContextDescriptorKind) (e : r ≡ context_kind flags) (t : r ≡ k) where
@@ -81,9 +80,9 @@ module _ (image segments : List ℕ) (a flags : ℕ) (r k : ContextDescriptorKin
   unfolding body
   body_kind x f = f ∙ ap (λ (j : ContextDescriptorKind). run image segments (body_of_kind j a flags)) (sym t ∙ e)
 
-  pub bodiless_kind : body_of_kind k a flags ≡ nothing → none ≡ run image segments (body a flags)
+  pub bodiless_kind : body_of_kind k a flags ≡ nothing → None ≡ run image segments (body a flags)
   unfolding run
-  bodiless_kind n = body_kind none (sym (ap (λ (p : Reads Body). run image segments p) n))
+  bodiless_kind n = body_kind None (sym (ap (λ (p : Reads Body). run image segments p) n))
 
 -- ---- the superclass's name
 

@@ -1,6 +1,5 @@
 -- What the definitions of bodies, of what follows them and of singleton records give for bytes that are written out.
-use Rattle.std.specs.Prelude.{ℕ, ◌-◌, ◌^◌, ◌≡◌, refl, List, [], ◌∷◌, ◌++◌, true, false}
-use Rattle.std.proofs.Math.Option.{some, none}
+use Rattle.std.specs.Prelude.{ℕ, ◌-◌, ◌^◌, ◌≡◌, refl, List, [], ◌∷◌, ◌++◌, true, false, Some, None}
 use Rattle.util.specs.LittleEndian.{little_endian, bytes_at, little_at, twos_complement, signed_at, unsigned_in, signed_in}
 use Rattle.util.specs.Pointer.{relative_pointer, relative_address}
 use Rattle.segment.specs.Segments.{segments_of, file_offset, decides, in_file}
@@ -45,31 +44,31 @@ pub record Bodies : Type 0 where
   pub of_struct_lem : struct_body two ≡ of_struct 2 9
   pub of_enum_lem : enum_body packed ≡ of_enum 3 5 4
   -- by the image and the flags
-  pub class_read : run (base ++ class) low_segment (body 0x1000 0xc0000010) ≡ some (of_class 0x1024 (fixed 0xfffffffc 3) 5 7 10)
-  pub struct_read : run (base ++ two) low_segment (body 0x1000 0x51) ≡ some (of_struct 2 9)
-  pub enum_read : run (base ++ packed) low_segment (body 0x1000 0x12) ≡ some (of_enum 3 5 4)
-  pub class_short : run (base ++ two) low_segment (body 0x1000 0x10) ≡ none
-  pub module_none : (image segments : List ℕ) (a : ℕ) → run image segments (body a 0x20000000) ≡ none
-  pub other_none : (image segments : List ℕ) (a : ℕ) → run image segments (body a 19) ≡ none
+  pub class_read : run (base ++ class) low_segment (body 0x1000 0xc0000010) ≡ Some (of_class 0x1024 (fixed 0xfffffffc 3) 5 7 10)
+  pub struct_read : run (base ++ two) low_segment (body 0x1000 0x51) ≡ Some (of_struct 2 9)
+  pub enum_read : run (base ++ packed) low_segment (body 0x1000 0x12) ≡ Some (of_enum 3 5 4)
+  pub class_short : run (base ++ two) low_segment (body 0x1000 0x10) ≡ None
+  pub module_none : (image segments : List ℕ) (a : ℕ) → run image segments (body a 0x20000000) ≡ None
+  pub other_none : (image segments : List ℕ) (a : ℕ) → run image segments (body a 19) ≡ None
   -- the last address of a struct, and the next one
-  pub last : run two (high_segment 8) (body (2 ^ 64 - 29) 17) ≡ some (of_struct 2 9)
-  pub past_last : (image segments : List ℕ) → run image segments (body (2 ^ 64 - 28) 17) ≡ none
-  pub past_last_class : (image segments : List ℕ) → run image segments (body (2 ^ 64 - 44) 16) ≡ none
+  pub last : run two (high_segment 8) (body (2 ^ 64 - 29) 17) ≡ Some (of_struct 2 9)
+  pub past_last : (image segments : List ℕ) → run image segments (body (2 ^ 64 - 28) 17) ≡ None
+  pub past_last_class : (image segments : List ℕ) → run image segments (body (2 ^ 64 - 44) 16) ≡ None
   -- what follows
-  pub after_plain : trailers 0x1000 0x10 (some (of_class 0x1024 (fixed 1 3) 5 7 10)) ≡ some (record { trailing = record { flags = 0x10; is_class = true; extra = 0 }; start = 0x102c })
-  pub after_resilient : trailers 0x1000 0x20000010 (some (of_class 0x1024 (resilient 0x1014 3) 5 7 10))
-      ≡ some (record { trailing = record { flags = 0x20000010; is_class = true; extra = 3 }; start = 0x102c })
-  pub after_struct : trailers 0x1000 0x11 (some (of_struct 2 9)) ≡ some (record { trailing = record { flags = 0x11; is_class = false; extra = 0 }; start = 0x101c })
-  pub after_enum : trailers 0x1000 0x12 (some (of_enum 3 5 4)) ≡ some (record { trailing = record { flags = 0x12; is_class = false; extra = 0 }; start = 0x101c })
+  pub after_plain : trailers 0x1000 0x10 (Some (of_class 0x1024 (fixed 1 3) 5 7 10)) ≡ Some (record { trailing = record { flags = 0x10; is_class = true; extra = 0 }; start = 0x102c })
+  pub after_resilient : trailers 0x1000 0x20000010 (Some (of_class 0x1024 (resilient 0x1014 3) 5 7 10))
+      ≡ Some (record { trailing = record { flags = 0x20000010; is_class = true; extra = 3 }; start = 0x102c })
+  pub after_struct : trailers 0x1000 0x11 (Some (of_struct 2 9)) ≡ Some (record { trailing = record { flags = 0x11; is_class = false; extra = 0 }; start = 0x101c })
+  pub after_enum : trailers 0x1000 0x12 (Some (of_enum 3 5 4)) ≡ Some (record { trailing = record { flags = 0x12; is_class = false; extra = 0 }; start = 0x101c })
   -- singletons
-  pub three : run (three_offsets 1 2 3) low_segment (singleton_init 0x1000) ≡ some (initialization 0x1001 0x1006 0x100b)
-  pub zeros : run (three_offsets 0 0 0) low_segment (singleton_init 0x1000) ≡ some (initialization 0 0 0)
+  pub three : run (three_offsets 1 2 3) low_segment (singleton_init 0x1000) ≡ Some (initialization 0x1001 0x1006 0x100b)
+  pub zeros : run (three_offsets 0 0 0) low_segment (singleton_init 0x1000) ≡ Some (initialization 0 0 0)
   -- the second slot of this one lies at 2^64
-  pub zeros_past : run (three_offsets 9 0 0) (high_segment 3) (singleton_init (2 ^ 64 - 4)) ≡ some (initialization 5 0 0)
-  pub incomplete_past : run (three_offsets 9 1 0) (high_segment 3) (singleton_init (2 ^ 64 - 4)) ≡ none
-  pub completion_past : run (three_offsets 9 0 1) (high_segment 3) (singleton_init (2 ^ 64 - 4)) ≡ none
-  pub pointer : run (three_offsets 0x20 0 0) low_segment (singleton_pointer 0x1000) ≡ some 0x1020
-  pub no_pointer : run (three_offsets 0 7 7) low_segment (singleton_pointer 0x1000) ≡ some 0
+  pub zeros_past : run (three_offsets 9 0 0) (high_segment 3) (singleton_init (2 ^ 64 - 4)) ≡ Some (initialization 5 0 0)
+  pub incomplete_past : run (three_offsets 9 1 0) (high_segment 3) (singleton_init (2 ^ 64 - 4)) ≡ None
+  pub completion_past : run (three_offsets 9 0 1) (high_segment 3) (singleton_init (2 ^ 64 - 4)) ≡ None
+  pub pointer : run (three_offsets 0x20 0 0) low_segment (singleton_pointer 0x1000) ≡ Some 0x1020
+  pub no_pointer : run (three_offsets 0 7 7) low_segment (singleton_pointer 0x1000) ≡ Some 0
 
 pub bodies : Bodies
 unfolding little_endian bytes_at little_at twos_complement signed_at unsigned_in signed_in relative_pointer relative_address segments_of file_offset decides in_file kind_of within bytes_place run class_body struct_body enum_body body_bytes body slot_target targets singleton_init singleton_pointer start_below

@@ -1,18 +1,17 @@
 -- Where the blocks of a body start.
-use Rattle.std.specs.Prelude.{ℕ, ◌^◌, ◌≤◌, ◌<◌, ◌≡◌, Bool}
+use Rattle.std.specs.Prelude.{ℕ, ◌^◌, ◌≤◌, ◌<◌, ◌≡◌, Bool, Option, Some, None}
 use Rattle.std.proofs.Common.{sym, ◌∙◌, ap, le-leb}
-use Rattle.std.proofs.Math.Option.{Option, some, none}
 use Rattle.std.proofs.lemmas.Bool.{lt-leb}
 use Rattle.type_body.specs.Body.{body_of}
 use Rattle.type_body.specs.Items.{Start, start_below, trailers}
 use Rattle.type_body.specs.declared.body.TypeBody.{TypeBody}
 
 module _ (s : Start) where
-  pub start_wraps : 2 ^ 64 ≤ s.start → none ≡ start_below s
+  pub start_wraps : 2 ^ 64 ≤ s.start → None ≡ start_below s
   unfolding start_below
   start_wraps w = simp (le-leb (2 ^ 64) s.start w)
 
-  pub start_below_lem : s.start < 2 ^ 64 → some s ≡ start_below s
+  pub start_below_lem : s.start < 2 ^ 64 → Some s ≡ start_below s
   unfolding start_below
   start_below_lem w = simp (lt-leb (2 ^ 64) s.start w)
 

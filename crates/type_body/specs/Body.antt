@@ -1,7 +1,6 @@
 -- The body of a row: docs/SPECIFICATION.md, "Bodies"; Metadata.h, `TargetClassDescriptor`, `TargetStructDescriptor`, `TargetEnumDescriptor`:
 -- what follows the 20 bytes that all descriptors have.
-use Rattle.std.specs.Prelude.{ℕ, ◌+◌, ◌/◌, ◌%◌, ◌^◌, List, [], Bool, true, false, cond, leb}
-use Rattle.std.proofs.Math.Option.{Option, some, none}
+use Rattle.std.specs.Prelude.{ℕ, ◌+◌, ◌/◌, ◌%◌, ◌^◌, List, [], Bool, true, false, cond, leb, Option, Some, None}
 use Rattle.util.specs.LittleEndian.{unsigned_in, signed_in}
 use Rattle.util.specs.Pointer.{relative_address}
 use Rattle.util.specs.Cstr.{Place}
@@ -103,10 +102,10 @@ trailing_start a (of_enum p w e) = a + 28
 
 -- the text beside a class's body: its superclass's name, at its address
 abbrev pub superclass_name : List ℕ → List ℕ → Option Body → Option Place
-superclass_name image segments (some (of_class s z m f v)) = text_place image segments s
-superclass_name image segments (some (of_struct f v)) = none
-superclass_name image segments (some (of_enum p w e)) = none
-superclass_name image segments none = none
+superclass_name image segments (Some (of_class s z m f v)) = text_place image segments s
+superclass_name image segments (Some (of_struct f v)) = None
+superclass_name image segments (Some (of_enum p w e)) = None
+superclass_name image segments None = None
 
 -- ---- what the calls' answers say
 
@@ -125,7 +124,7 @@ abbrev pub enum_of : EnumBody → Body
 enum_of e = of_enum e.num_payload_cases e.payload_size_offset e.num_empty_cases
 
 abbrev pub body_of : TypeBody → Option Body
-body_of (TypeBody.Class c) = some (class_of c)
-body_of (TypeBody.Struct s) = some (struct_of s)
-body_of (TypeBody.Enum e) = some (enum_of e)
-body_of TypeBody.Nothing = none
+body_of (TypeBody.Class c) = Some (class_of c)
+body_of (TypeBody.Struct s) = Some (struct_of s)
+body_of (TypeBody.Enum e) = Some (enum_of e)
+body_of TypeBody.Nothing = None

@@ -1,6 +1,5 @@
 -- What a slot has besides its row and body, as programs of reads: its blocks, and its singleton records. docs/SPECIFICATION.md, "Items, paths and the cut".
-use Rattle.std.specs.Prelude.{ℕ, ◌^◌, List, cond, leb}
-use Rattle.std.proofs.Math.Option.{Option, some, none}
+use Rattle.std.specs.Prelude.{ℕ, ◌^◌, List, cond, leb, Option, Some, None}
 use Rattle.runtime.specs.Reads.{Reads, bind}
 use Rattle.classtrailers.specs.Blocks.{Trailing, block}
 use Rattle.classtrailers.specs.Calls.{trailing_of}
@@ -20,9 +19,9 @@ slot_block types start i k =
 
 -- where a block lies, if nothing else of it is recorded
 abbrev pub place_of : BlockBody → Option ℕ
-place_of (BlockBody.At a) = some a
-place_of (BlockBody.Table o n a) = none
-place_of (BlockBody.Set s n) = none
+place_of (BlockBody.At a) = Some a
+place_of (BlockBody.Table o n a) = None
+place_of (BlockBody.Set s n) = None
 
 -- the record that lies there
 abbrev pub init_of_block : Block → Reads Initialization
@@ -46,12 +45,12 @@ pub record Start : Type 0 where
 
 -- made-up rows and bodies may have them start at or above 2^64: then there are none
 unfoldable pub start_below : Start → Option Start
-start_below s = cond (leb (2 ^ 64) s.start) none (some s)
+start_below s = cond (leb (2 ^ 64) s.start) None (Some s)
 
 abbrev pub trailers : ℕ → ℕ → Option Body → Option Start
-trailers a flags none = none
-trailers a flags (some b) = start_below (record { trailing = trailing flags b; start = trailing_start a b })
+trailers a flags None = None
+trailers a flags (Some b) = start_below (record { trailing = trailing flags b; start = trailing_start a b })
 
 abbrev pub trailers_of : TrailingRead → Option Start
-trailers_of (TrailingRead.Start t s) = some (record { trailing = trailing_of t; start = s })
-trailers_of TrailingRead.Nothing = none
+trailers_of (TrailingRead.Start t s) = Some (record { trailing = trailing_of t; start = s })
+trailers_of TrailingRead.Nothing = None

@@ -1,7 +1,6 @@
 -- Singleton records: docs/SPECIFICATION.md, "Singleton records"; Metadata.h, `TargetSingletonMetadataInitialization` (the
 -- initialization cache, the incomplete metadata, the completion function) and `TargetSingletonMetadataPointer`: relative pointers.
-use Rattle.std.specs.Prelude.{ℕ, ◌+◌, ◌^◌, List, cond, leb, eqb}
-use Rattle.std.proofs.Math.Option.{Option, some, none}
+use Rattle.std.specs.Prelude.{ℕ, ◌+◌, ◌^◌, List, cond, leb, eqb, Option, Some, None}
 use Rattle.util.specs.LittleEndian.{unsigned_in, signed_in}
 use Rattle.util.specs.Pointer.{relative_pointer, relative_address}
 use Rattle.runtime.specs.Reads.{Reads, done, nothing, bytes}
@@ -20,12 +19,12 @@ initialization c i f = record { cache = c; incomplete = i; completion = f }
 -- below 2^64
 unfoldable pub slot_target : ℕ → List ℕ → ℕ → Option ℕ
 slot_target a h o =
-    cond (eqb (unsigned_in 4 h o) 0) (some 0) (cond (leb (2 ^ 64) (a + o)) none (some (relative_pointer (a + o) (signed_in 4 h o))))
+    cond (eqb (unsigned_in 4 h o) 0) (Some 0) (cond (leb (2 ^ 64) (a + o)) None (Some (relative_pointer (a + o) (signed_in 4 h o))))
 
 -- what must exist before a program goes on
 abbrev pub needing : {A B : Type 0} → Option A → (A → Reads B) → Reads B
-needing none f = nothing
-needing (some x) f = f x
+needing None f = nothing
+needing (Some x) f = f x
 
 -- offsets at 0, 4 and 8
 unfoldable pub targets : ℕ → List ℕ → Reads Initialization
@@ -43,9 +42,9 @@ singleton_pointer a = bytes a 4 (λ h. done (relative_address a (signed_in 4 h 0
 -- ---- what the calls' answers say
 
 abbrev pub init_of : SingletonMetadataInit → Option Initialization
-init_of (SingletonMetadataInit.At c i f) = some (initialization c i f)
-init_of SingletonMetadataInit.Nothing = none
+init_of (SingletonMetadataInit.At c i f) = Some (initialization c i f)
+init_of SingletonMetadataInit.Nothing = None
 
 abbrev pub pointer_of : SingletonMetadataPointer → Option ℕ
-pointer_of (SingletonMetadataPointer.At v) = some v
-pointer_of SingletonMetadataPointer.Nothing = none
+pointer_of (SingletonMetadataPointer.At v) = Some v
+pointer_of SingletonMetadataPointer.Nothing = None

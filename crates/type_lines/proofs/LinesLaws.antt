@@ -1,9 +1,8 @@
 -- What pieces put one after the other say about the lines.
-use Rattle.std.specs.Prelude.{◌≡◌, ℕ, ◌+◌, ◌-◌, ◌/◌, ◌%◌, ◌^◌, ◌<◌, ◌≤◌, Bool, true, false, cond, List, [], ◌∷◌, ◌++◌, length, take, drop, ◌==◌, ◌≢◌, refl}
+use Rattle.std.specs.Prelude.{◌≡◌, ℕ, ◌+◌, ◌-◌, ◌/◌, ◌%◌, ◌^◌, ◌<◌, ◌≤◌, Bool, true, false, cond, List, [], ◌∷◌, ◌++◌, length, take, drop, ◌==◌, ◌≢◌, refl, Option, Some, None}
 use Rattle.std.proofs.Common.{mod-eq_of_lt, arith, sym, ◌∙◌, subst, append_assoc, length-append, length-drop, take-append-drop, take_at, length-take-le, drop-drop}
 use Rattle.std.proofs.Math.Nat.{zero-add}
 use Rattle.std.proofs.Math.Path.{ap}
-use Rattle.std.proofs.Math.Option.{Option, some, none}
 use Rattle.std.proofs.lemmas.List.{drop-append-le}
 use borrow.Author.Tests.{eq-eqb, ne_eqb}
 use borrow.Rule.Slice.PartMut.{put_mid, put_same}
@@ -92,7 +91,7 @@ module _ (image segments : List ℕ) (row : TypeRow) (b w : List ℕ) (at k : �
     pub name_put : (n : ℕ) → answered n ≡ mapped length answer → Put b at (name_text image segments row) (at + n) (put_mid at k b w)
     name_put n e =
         let l = name_length image segments row (length (take k (drop at b))) n e in
-        let q : w ≡ overwritten (take k (drop at b)) (some (qualified_name image segments row)) = ew ∙ ap (λ (g : Guarded (List ℕ)). overwritten (take k (drop at b)) (answer_of g)) l.0 in
+        let q : w ≡ overwritten (take k (drop at b)) (Some (qualified_name image segments row)) = ew ∙ ap (λ (g : Guarded (List ℕ)). overwritten (take k (drop at b)) (answer_of g)) l.0 in
         rw (text_is, l.0, l.1.0) (window_filled b at k fits (qualified_name image segments row) w q (omega (arith, l.1.0, l.1.1, window_length b at k fits)))
 
     window_same : (x : ℕ) → refused x ≡ mapped length answer → put_mid at k b w ≡ b
@@ -257,31 +256,31 @@ module _ (image segments types : List ℕ) (start : ℕ) (c : LineIter) where
   abbrev next : Guarded (Option (Line LineIter))
   next = answered (line_step image segments types start c)
 
-  pub step_done : (b : List ℕ) → c.ended ≡ true → Given next b b (answered none)
+  pub step_done : (b : List ℕ) → c.ended ≡ true → Given next b b (answered None)
   unfolding line_step
   step_done b e = rw e (refl, refl)
 
   module _ (b b' : List ℕ) (n : ℕ) (e : c.ended ≡ false) where
-    pub step_row : (f : Found) (g : ℕ) → some f ≡ next_row image segments types start c.slot → Put b 0 (row_line image segments f.row) n b' → g ≡ (c.given + 1) % 2 ^ 64
-        → Given next b b' (answered (some (record { text = take n b'; size = n; next = record { slot = f.next; given = g; ended = false } })))
+    pub step_row : (f : Found) (g : ℕ) → Some f ≡ next_row image segments types start c.slot → Put b 0 (row_line image segments f.row) n b' → g ≡ (c.given + 1) % 2 ^ 64
+        → Given next b b' (answered (Some (record { text = take n b'; size = n; next = record { slot = f.next; given = g; ended = false } })))
     unfolding line_step
     step_row f g s u eg =
         let p = line_put b _ b' n u in
         let long = u.ends ∙ zero-add _ in
-        rw (e, ← s) (λ i. answered (some (record { text = p.0 i; size = long i; next = record { slot = f.next; given = eg i; ended = false } })), p.1)
+        rw (e, ← s) (λ i. answered (Some (record { text = p.0 i; size = long i; next = record { slot = f.next; given = eg i; ended = false } })), p.1)
 
-    pub step_end : none ≡ next_row image segments types start c.slot → Put b 0 (end_line c.given) n b'
-        → Given next b b' (answered (some (record { text = take n b'; size = n; next = record { slot = 0; given = c.given; ended = true } })))
+    pub step_end : None ≡ next_row image segments types start c.slot → Put b 0 (end_line c.given) n b'
+        → Given next b b' (answered (Some (record { text = take n b'; size = n; next = record { slot = 0; given = c.given; ended = true } })))
     unfolding line_step
     step_end s u =
         let p = line_put b _ b' n u in
         let long = u.ends ∙ zero-add _ in
-        rw (e, ← s) (λ i. answered (some (record { text = p.0 i; size = long i; next = record { slot = 0; given = c.given; ended = true } })), p.1)
+        rw (e, ← s) (λ i. answered (Some (record { text = p.0 i; size = long i; next = record { slot = 0; given = c.given; ended = true } })), p.1)
 
 -- the test of the segments before a step
 module _ (segments : List ℕ) {W : Type 0} (g : Guarded (Option (Line W))) (b : List ℕ) where
-  pub line_refused : {n : ℕ} → some n ≡ fault segments → Given (guarded segments g) b b (refused n)
+  pub line_refused : {n : ℕ} → Some n ≡ fault segments → Given (guarded segments g) b b (refused n)
   line_refused h = (refused_list segments g h, ap (λ (x : Guarded (Option (Line W))). overwritten b (line_text x)) (refused_list segments g h))
 
-  pub line_accepted : (b' : List ℕ) (x : Guarded (Option (Line W))) → Given g b b' x → none ≡ fault segments → Given (guarded segments g) b b' x
+  pub line_accepted : (b' : List ℕ) (x : Guarded (Option (Line W))) → Given g b b' x → None ≡ fault segments → Given (guarded segments g) b b' x
   line_accepted b' x e h = (e.0 ∙ accepted_list segments g h, e.1 ∙ ap (λ (x : Guarded (Option (Line W))). overwritten b (line_text x)) (accepted_list segments g h))

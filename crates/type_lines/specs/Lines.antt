@@ -1,6 +1,5 @@
 -- The printed listing, line by line: docs/SPECIFICATION.md, "The printed listing".
-use Rattle.std.specs.Prelude.{ℕ, ◌+◌, ◌%◌, ◌^◌, true, false, cond, List, [], ◌∷◌, ◌++◌, map, length, take, ◌==◌}
-use Rattle.std.proofs.Math.Option.{Option, some, none}
+use Rattle.std.specs.Prelude.{ℕ, ◌+◌, ◌%◌, ◌^◌, true, false, cond, List, [], ◌∷◌, ◌++◌, map, length, take, ◌==◌, Option, Some, None}
 use Rattle.refusal.specs.Refusal.{Guarded, answered, refused, refusal_number}
 use Rattle.typedescriptor.specs.Row.{TypeRow}
 use Rattle.typedescriptor.specs.Slots.{Found, next_row, rows}
@@ -70,21 +69,21 @@ line t w = record { text = t; size = length t; next = w }
 
 -- the line of a step; none if it gives none
 abbrev pub line_text : {W : Type 0} → Guarded (Option (Line W)) → Option (List ℕ)
-line_text (answered none) = none
-line_text (answered (some l)) = some l.text
-line_text (refused n) = none
+line_text (answered None) = None
+line_text (answered (Some l)) = Some l.text
+line_text (refused n) = None
 
 -- the lines of the rows: that of the next row, or the last line
 abbrev pub line_at : List ℕ → List ℕ → ℕ → Option Found → Line LineIter
-line_at image segments given none = line (end_line given) (record { slot = 0; given = given; ended = true })
-line_at image segments given (some f) = line (row_line image segments f.row) (record { slot = f.next; given = (given + 1) % 2 ^ 64; ended = false })
+line_at image segments given None = line (end_line given) (record { slot = 0; given = given; ended = true })
+line_at image segments given (Some f) = line (row_line image segments f.row) (record { slot = f.next; given = (given + 1) % 2 ^ 64; ended = false })
 
 unfoldable pub line_step : List ℕ → List ℕ → List ℕ → ℕ → LineIter → Option (Line LineIter)
 line_step image segments types start c =
-    cond c.ended none (some (line_at image segments c.given (next_row image segments types start c.slot)))
+    cond c.ended None (Some (line_at image segments c.given (next_row image segments types start c.slot)))
 
 -- what a step's answer says, with the line's buffer after it
 abbrev pub line_answer : List ℕ → NextLine → Guarded (Option (Line LineIter))
-line_answer buffer (NextLine.Line n l) = answered (some (record { text = take n buffer; size = n; next = l }))
-line_answer buffer NextLine.Done = answered none
+line_answer buffer (NextLine.Line n l) = answered (Some (record { text = take n buffer; size = n; next = l }))
+line_answer buffer NextLine.Done = answered None
 line_answer buffer (NextLine.Refused x) = refused (refusal_number x)

@@ -1,12 +1,11 @@
 -- What a loop over the slots that writes a record for each row needs (`Going`: `start-going`, `passes`, `goes_on`, and at its end `full` or
 -- `ended`), whatever a record has; and that a call from the slot to go on from gives what one call with more room gives (`going_on`), and
 -- in the end all rows (`all-given`).
-use Rattle.std.specs.Prelude.{◌≡◌, ℕ, zero, suc, ◌+◌, ◌-◌, ◌<◌, ◌≤◌, max, Bool, true, false, List, [], ◌∷◌, ◌++◌, length, take, drop}
+use Rattle.std.specs.Prelude.{◌≡◌, ℕ, zero, suc, ◌+◌, ◌-◌, ◌<◌, ◌≤◌, max, Bool, true, false, List, [], ◌∷◌, ◌++◌, length, take, drop, Option, Some, None}
 use Rattle.std.proofs.Math.Decide.{dec_lt}
 use native.Mathlib.Omega.{arith}
 use Rattle.std.proofs.Math.Path.{refl}
 use Rattle.std.proofs.Common.{sym, ◌∙◌, ap, append_assoc, append-nil, length-append, take-append-drop, drop-drop, take_at, drop_at, length-take-le, le-leb}
-use Rattle.std.proofs.Math.Option.{Option, some, none}
 use Rattle.std.proofs.lemmas.Bool.{lt-leb}
 use Rattle.util.proofs.AnswersLaws.{told}
 use Rattle.util.specs.Buffer.{pasted, at_start}
@@ -192,10 +191,10 @@ module _ (recordOf : RowRecord) (image segments types : List ℕ) (start : ℕ) 
     resumed (suc n) i room e h k = go (λ room. resumed n (suc i) room (omega arith) h (omega arith)) (run image segments (slot_row types start i)) refl
       where
         go : ((room : ℕ) → Resumed n (suc i) room) → (x : Option TypeRow) → run image segments (slot_row types start i) ≡ x → Resumed (suc n) i room
-        go further none t =
+        go further None t =
             let w = further room in
             rw (rows_from, t) (record { together = w.together; done = w.done; more = w.more; onward = omega (arith, w.onward); to = w.to })
-        go further (some r) t =
+        go further (Some r) t =
             rw (rows_from, t) (row_resumed i r (rows_from image segments types start n (suc i)) room (rw (e, rows_from, t)) k further)
 
   module _ (i n : ℕ) where

@@ -1,7 +1,6 @@
 -- A type row: docs/SPECIFICATION.md, "Type rows"; Metadata.h, `TargetTypeContextDescriptor` (flags, parent and name of `TargetContextDescriptor`
 -- and its subclass, relative pointers of four bytes each).
-use Rattle.std.specs.Prelude.{ℕ, ◌+◌, ◌^◌, cond, List, nat_le}
-use Rattle.std.proofs.Math.Option.{Option, some, none}
+use Rattle.std.specs.Prelude.{ℕ, ◌+◌, ◌^◌, cond, List, nat_le, Option, Some, None}
 use Rattle.util.specs.LittleEndian.{unsigned_in, signed_in}
 use Rattle.util.specs.Pointer.{relative_pointer, relative_address}
 use Rattle.util.specs.Cstr.{Place, place, part_of}
@@ -53,5 +52,5 @@ row_of image r =
     }
 
 abbrev pub descriptor_of : List ℕ → Descriptor → Option TypeRow
-descriptor_of image (Descriptor.Row r) = some (row_of image r)
-descriptor_of image Descriptor.Nothing = none
+descriptor_of image (Descriptor.Row r) = Some (row_of image r)
+descriptor_of image Descriptor.Nothing = None

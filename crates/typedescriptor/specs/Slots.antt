@@ -1,7 +1,6 @@
 -- The types section: docs/SPECIFICATION.md, "Type rows": a list of slots of four bytes, each the offset of a descriptor from the slot's own
 -- address; a shorter last piece is not a slot. The address of a slot is the section's plus 4 for each slot before it, modulo 2^64.
-use Rattle.std.specs.Prelude.{ℕ, zero, suc, ◌+◌, ◌-◌, ◌*◌, ◌/◌, ◌%◌, ◌^◌, cond, List, [], ◌∷◌, length, ◌==◌, nat_lt}
-use Rattle.std.proofs.Math.Option.{Option, some, none}
+use Rattle.std.specs.Prelude.{ℕ, zero, suc, ◌+◌, ◌-◌, ◌*◌, ◌/◌, ◌%◌, ◌^◌, cond, List, [], ◌∷◌, length, ◌==◌, nat_lt, Option, Some, None}
 use Rattle.util.specs.LittleEndian.{unsigned_in, signed_in}
 use Rattle.util.specs.Pointer.{relative_pointer}
 use Rattle.runtime.specs.Reads.{Reads, nothing, run}
@@ -18,12 +17,12 @@ slot_address types start i = relative_pointer ((start + 4 * i) % 2 ^ 64) (signed
 -- that address, if the slot exists and its offset is not 0
 abbrev pub slot_descriptor : List ℕ → ℕ → ℕ → Option ℕ
 slot_descriptor types start i =
-    cond (nat_lt i (slots types)) (cond (unsigned_in 4 types (4 * i) == 0) none (some (slot_address types start i))) none
+    cond (nat_lt i (slots types)) (cond (unsigned_in 4 types (4 * i) == 0) None (Some (slot_address types start i))) None
 
 -- what is read there
 abbrev pub read_at : {A : Type 0} → Option ℕ → (ℕ → Reads A) → Reads A
-read_at none f = nothing
-read_at (some a) f = f a
+read_at None f = nothing
+read_at (Some a) f = f a
 
 -- the row of a slot
 unfoldable pub slot_row : List ℕ → ℕ → ℕ → Reads TypeRow
@@ -40,11 +39,11 @@ found i r = record { slot = i; row = r; next = i + 1 }
 
 -- the first row of `n` slots from slot `i` on: a slot without a row is passed over
 unfoldable pub first_row : List ℕ → List ℕ → List ℕ → ℕ → ℕ → ℕ → Option Found
-first_row image segments types start zero i = none
+first_row image segments types start zero i = None
 first_row image segments types start (suc n) i =
     elim (run image segments (slot_row types start i)) [
-      | none ↦ first_row image segments types start n (suc i)
-      | some r ↦ some (found i r)
+      | None ↦ first_row image segments types start n (suc i)
+      | Some r ↦ Some (found i r)
     ]
 
 -- the next row from a slot on
@@ -56,8 +55,8 @@ unfoldable pub rows_from : List ℕ → List ℕ → List ℕ → ℕ → ℕ �
 rows_from image segments types start zero i = []
 rows_from image segments types start (suc n) i =
     elim (run image segments (slot_row types start i)) [
-      | none ↦ rows_from image segments types start n (suc i)
-      | some r ↦ found i r ∷ rows_from image segments types start n (suc i)
+      | None ↦ rows_from image segments types start n (suc i)
+      | Some r ↦ found i r ∷ rows_from image segments types start n (suc i)
     ]
 
 -- the rows of the section
@@ -65,5 +64,5 @@ unfoldable pub rows : List ℕ → List ℕ → List ℕ → ℕ → List Found
 rows image segments types start = rows_from image segments types start (slots types) 0
 
 abbrev pub type_step_of : List ℕ → TypeStep → Option Found
-type_step_of image (TypeStep.Row i r c) = some (record { slot = i; row = row_of image r; next = c.slot })
-type_step_of image TypeStep.End = none
+type_step_of image (TypeStep.Row i r c) = Some (record { slot = i; row = row_of image r; next = c.slot })
+type_step_of image TypeStep.End = None

@@ -1,7 +1,6 @@
 -- What must follow a byte, from the number of the row that it starts: one law for every lead byte. Assumes nothing.
-use Rattle.std.specs.Prelude.{◌≡◌, ℕ, zero, suc, ◌≤◌, List, [], ◌∷◌}
+use Rattle.std.specs.Prelude.{◌≡◌, ℕ, zero, suc, ◌≤◌, List, [], ◌∷◌, Option, Some, None}
 use mathlib.Core.Path.{refl}
-use mathlib.Core.Option.{Option, some, none}
 use Rattle.utf8.specs.Table.{ByteRange}
 use Rattle.utf8.specs.Text.{following}
 use Rattle.utf8.specs.Utf8Laws.{within_true, within_false}
@@ -14,9 +13,9 @@ Row zero ((r ∷ rs) ∷ rows) b = (r.low ≤ b) × (b ≤ r.high)
 Row (suc k) ((r ∷ rs) ∷ rows) b = (r.low ≤ b → b ≤ r.high → ⊥) × Row k rows b
 
 abbrev pub after : ℕ → List (List ByteRange) → Option (List ByteRange)
-after k [] = none
+after k [] = None
 after k ([] ∷ rows) = after k rows
-after zero ((r ∷ rs) ∷ rows) = some rs
+after zero ((r ∷ rs) ∷ rows) = Some rs
 after (suc k) ((r ∷ rs) ∷ rows) = after k rows
 
 pub in_row : (k : ℕ) (rows : List (List ByteRange)) (b : ℕ) → Row k rows b → after k rows ≡ following rows b

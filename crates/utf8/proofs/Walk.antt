@@ -1,5 +1,5 @@
 -- Where a walk over the bytes stands, how it goes on by a byte, and how it ends: the laws of `scan_text`. Assumes nothing.
-use Rattle.std.specs.Prelude.{◌≡◌, ℕ, zero, suc, ◌+◌, ◌-◌, ◌<◌, ◌≤◌, Bool, true, false, ◌&&◌, ltb, leb, List, [], ◌∷◌, length, get_or, take, drop, replicate}
+use Rattle.std.specs.Prelude.{◌≡◌, ℕ, zero, suc, ◌+◌, ◌-◌, ◌<◌, ◌≤◌, Bool, true, false, ◌&&◌, ltb, leb, List, [], ◌∷◌, length, get_or, take, drop, replicate, Option, Some, None}
 use native.Mathlib.Nat.{not-suc-le-zero, zero-add, add-zero}
 use native.Mathlib.Numerals.{add-one}
 use native.Mathlib.Decide.{dec_lt}
@@ -10,7 +10,6 @@ use mathlib.Core.Bool.{and-eq-true_iff, and-false}
 use borrow.Author.Count.{below_more}
 use borrow.Author.Tests.{leb-true, ltb-true}
 use Rattle.utf8.specs.Plain.{Plain}
-use mathlib.Core.Option.{Option, some, none}
 use lib.ListN.{length-replicate, length-drop, drop_of_length-le}
 use lib.Seq.{drop-cons, get_or-drop, take_all}
 use Rattle.utf8.specs.Table.{ByteRange, table, ◌to◌}
@@ -58,7 +57,7 @@ module _ (s : List ℕ) (i : ℕ) (inside : i < length s) where
         size = omega (arith, w.size, ap length (here h));
       }
 
-  pub lead_step : (rs : List ByteRange) → (get_or s i 0 ≡ 0 → ⊥) → some rs ≡ following table (get_or s i 0) → ScanAt s i [] → ScanAt s (i + 1) rs
+  pub lead_step : (rs : List ByteRange) → (get_or s i 0 ≡ 0 → ⊥) → Some rs ≡ following table (get_or s i 0) → ScanAt s i [] → ScanAt s (i + 1) rs
   unfolding goes_on
   lead_step rs h e = step [] rs h (λ t. rw (← e, goes_on))
 
@@ -70,7 +69,7 @@ module _ (s : List ℕ) (i : ℕ) (inside : i < length s) where
   unfolding goes_on
   range_step r rs p l h = step (r ∷ rs) rs (λ e. omega arith) (λ t. rw (within_true r _ l h))
 
-  pub no_lead : (get_or s i 0 ≡ 0 → ⊥) → none ≡ following table (get_or s i 0) → goes_on (until_nul (drop i s)) [] ≡ false
+  pub no_lead : (get_or s i 0 ≡ 0 → ⊥) → None ≡ following table (get_or s i 0) → goes_on (until_nul (drop i s)) [] ≡ false
   unfolding goes_on
   no_lead h e = rw (here h, ← e, goes_on)
 
@@ -131,14 +130,14 @@ too_few s i more r h =
 
 -- what a walk that was left at i answers
 abbrev pub outcome : Bool → ℕ → Option ℕ
-outcome true i = some i
-outcome false i = none
+outcome true i = Some i
+outcome false i = None
 
 pub ends : (s : List ℕ) {i j : ℕ} {formed : Bool} → j ≡ i → formed ≡ true → ScanAt s i [] → until_nul (drop i s) ≡ [] → outcome formed j ≡ text_length s
 unfolding goes_on text_length
 ends s {i} p f w e =
     let g : goes_on (until_nul s) [] ≡ true = w.formed ∙ ap (λ t. goes_on t []) e in
-    rw (f, g, text_length) (ap some (omega (arith, w.size, ap length e)))
+    rw (f, g, text_length) (ap Some (omega (arith, w.size, ap length e)))
 
 pub ill_formed : (s : List ℕ) (j : ℕ) {i : ℕ} {rs : List ByteRange} {formed : Bool} → formed ≡ false → ScanAt s i rs → goes_on (until_nul (drop i s)) rs ≡ false → outcome formed j ≡ text_length s
 unfolding text_length

@@ -1,6 +1,5 @@
 -- Where the scan of a text stands, for the contracts inside it; no definition of a text rests on it.
-use Rattle.std.specs.Prelude.{◌≡◌, ℕ, ◌+◌, ◌<◌, ◌≤◌, List, [], ◌∷◌, length, drop, replicate}
-use Rattle.std.proofs.Math.Option.{some}
+use Rattle.std.specs.Prelude.{◌≡◌, ℕ, ◌+◌, ◌<◌, ◌≤◌, List, [], ◌∷◌, length, drop, replicate, Some}
 use Rattle.utf8.specs.Table.{ByteRange, table, ◌to◌}
 use Rattle.utf8.specs.Text.{following, goes_on, until_nul}
 
@@ -16,4 +15,4 @@ others n = replicate n (0x80 to 0xbf)
 -- every byte from `first` to `last` starts sequences whose second byte is from `low` to BF, with `more` bytes after it
 pub record RowOf (first last low more : ℕ) : Type 0 where
   pub bounds : (0 < first) × (0 < low) × (more ≤ 2)
-  pub each : (b : ℕ) → first ≤ b → b ≤ last → some (low to 0xbf ∷ others more) ≡ following table b
+  pub each : (b : ℕ) → first ≤ b → b ≤ last → Some (low to 0xbf ∷ others more) ≡ following table b

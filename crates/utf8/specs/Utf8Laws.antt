@@ -1,14 +1,13 @@
 -- What `wellFormed` accepts is well-formed by Table 3-7 (`utf8-sound`), and it accepts what is well-formed (`utf8-complete`). What
 -- `lead_limits` promises fixes its answer (`leads-injective`). The last laws say which bytes `untilNul` and `textLength` speak of.
 -- Assumes nothing.
-use Rattle.std.specs.Prelude.{◌≡◌, ℕ, zero, suc, ◌≤◌, Bool, true, false, List, [], ◌∷◌, ◌++◌, length, take, replicate}
+use Rattle.std.specs.Prelude.{◌≡◌, ℕ, zero, suc, ◌≤◌, Bool, true, false, List, [], ◌∷◌, ◌++◌, length, take, replicate, Option, Some, None}
 use Rattle.std.proofs.Common.{arith, sym, ap, subst, ◌∙◌, ⊎_elim, le-leb, leb-true}
 use Rattle.std.specs.Prelude.{refl}
 use mathlib.Core.List.Memᴰ
 use mathlib.Core.List.{Memᴰ}
 use Rattle.std.proofs.Math.Bool.{and-eq-true_iff}
 use Rattle.std.proofs.lemmas.Bool.{false≢true}
-use Rattle.std.proofs.Math.Option.{Option, some, none}
 use Rattle.std.proofs.lemmas.List.{length-replicate}
 use Rattle.utf8.specs.Table.{ByteRange, table, ◌to◌, Sequence, WellFormed}
 use Rattle.utf8.specs.LeadBytes.{Starts}
@@ -42,20 +41,20 @@ within_false r b out = go (in_range r b) refl
 starts_later : {row : List ByteRange} {rows : List (List ByteRange)} {b : ℕ} {rs : List ByteRange} → Starts rows b rs → Starts (row ∷ rows) b rs
 starts_later s = record { lead = s.lead; row = Memᴰ.tail s.row; bounds = s.bounds }
 
-pub following_starts : (rows : List (List ByteRange)) (b : ℕ) (rs : List ByteRange) → following rows b ≡ some rs → Starts rows b rs
+pub following_starts : (rows : List (List ByteRange)) (b : ℕ) (rs : List ByteRange) → following rows b ≡ Some rs → Starts rows b rs
 unfolding following
 following_starts [] b rs e = let z : ◌≡◌ {A = ℕ} 0 1 = cc in absurd (omega arith)
 following_starts ([] ∷ rows) b rs e = starts_later (following_starts rows b rs e)
 following_starts ((r ∷ rs') ∷ rows) b rs e = go (λ k. following_starts rows b rs k) (in_range r b) refl
   where
-    go : (following rows b ≡ some rs → Starts rows b rs) → (t : Bool) → in_range r b ≡ t → Starts ((r ∷ rs') ∷ rows) b rs
+    go : (following rows b ≡ Some rs → Starts rows b rs) → (t : Bool) → in_range r b ≡ t → Starts ((r ∷ rs') ∷ rows) b rs
     go later true w =
-        let f : some rs' ≡ some rs = rw (w, following) at e in
+        let f : Some rs' ≡ Some rs = rw (w, following) at e in
         record { lead = r; row = Memᴰ.head {x = r ∷ rs'} (cc); bounds = within_bounds r b w }
     go later false w = starts_later (later (rw (w, following) at e))
 
 -- the rows have different lead bytes, so the row of a lead byte is the one that is found
-starts_following : (n : ℕ) (rows : List (List ByteRange)) (b : ℕ) (rs : List ByteRange) → Ordered n rows → Starts rows b rs → (n ≤ b) × (following rows b ≡ some rs)
+starts_following : (n : ℕ) (rows : List (List ByteRange)) (b : ℕ) (rs : List ByteRange) → Ordered n rows → Starts rows b rs → (n ≤ b) × (following rows b ≡ Some rs)
 unfolding following
 starts_following n [] b rs o s = absurd (Memᴰ.not-nil s.row)
 starts_following n ([] ∷ rows) b rs o s = absurd o
@@ -65,13 +64,13 @@ starts_following n ((r ∷ rs') ∷ rows) b rs o s =
     let l : s.lead ≡ r = cc in
     let t : rs' ≡ rs = cc in
     let bounds : (r.low ≤ b) × (b ≤ r.high) = rw l at s.bounds in
-    (omega arith, rw (within_true r b bounds.0 bounds.1, following) (ap some t)))
+    (omega arith, rw (within_true r b bounds.0 bounds.1, following) (ap Some t)))
     (λ m.
     let later = starts_following (suc r.high) rows b rs o.2 (record { lead = s.lead; row = m; bounds = s.bounds }) in
     (omega arith, rw (within_false r b (λ l h. omega arith), following) later.1))
     (Memᴰ.cases_cons s.row)
 
-pub row_found : {b : ℕ} {rs : List ByteRange} → Starts table b rs → following table b ≡ some rs
+pub row_found : {b : ℕ} {rs : List ByteRange} → Starts table b rs → following table b ≡ Some rs
 row_found s = (starts_following 0 table _ _ table_ordered s).1
 
 -- where a text goes on in the pending ranges: a sequence of these, and then a well-formed text
@@ -89,8 +88,8 @@ split [] (r ∷ rs) e = absurd (false≢true e)
 split (b ∷ bs) [] e = go (λ rs k. split bs rs k) (following table b) refl
   where
     go : ((rs : List ByteRange) → goes_on bs rs ≡ true → Split rs bs) → (o : Option (List ByteRange)) → following table b ≡ o → Split [] (b ∷ bs)
-    go later none f = absurd (false≢true (rw (f, goes_on) at e))
-    go later (some rs) f =
+    go later None f = absurd (false≢true (rw (f, goes_on) at e))
+    go later (Some rs) f =
         let l = later rs (rw (f, goes_on) at e) in
         let s = following_starts table b rs f in
         let q = Sequence.byte s.bounds.0 s.bounds.1 l.sequence in
@@ -165,19 +164,19 @@ take_until_nul (zero ∷ s) = refl
 take_until_nul (suc b ∷ s) = ap (λ t. suc b ∷ t) (take_until_nul s)
 
 -- a text is all the bytes before the first NUL, and they are well-formed
-pub text_length_lem : (s : List ℕ) (n : ℕ) → text_length s ≡ some n → (n ≡ length (until_nul s)) × (well_formed (until_nul s) ≡ true)
+pub text_length_lem : (s : List ℕ) (n : ℕ) → text_length s ≡ Some n → (n ≡ length (until_nul s)) × (well_formed (until_nul s) ≡ true)
 unfolding text_length
 text_length_lem s n e = go (well_formed (until_nul s)) refl
   where
     go : (t : Bool) → well_formed (until_nul s) ≡ t → (n ≡ length (until_nul s)) × (well_formed (until_nul s) ≡ true)
-    go true w = let f : some (length (until_nul s)) ≡ some n = rw (w, text_length) at e in (cc, w)
-    go false w = let f : none ≡ some n = rw (w, text_length) at e in let z : ◌≡◌ {A = ℕ} 0 1 = cc in absurd (omega arith)
+    go true w = let f : Some (length (until_nul s)) ≡ Some n = rw (w, text_length) at e in (cc, w)
+    go false w = let f : None ≡ Some n = rw (w, text_length) at e in let z : ◌≡◌ {A = ℕ} 0 1 = cc in absurd (omega arith)
 
-pub text_length_le : (s : List ℕ) (n : ℕ) → text_length s ≡ some n → n ≤ length s
+pub text_length_le : (s : List ℕ) (n : ℕ) → text_length s ≡ Some n → n ≤ length s
 text_length_le s n e = omega (arith, text_length_lem s n e, until_nul_length s)
 
-pub text_bytes : (s : List ℕ) (n : ℕ) → text_length s ≡ some n → take n s ≡ until_nul s
+pub text_bytes : (s : List ℕ) (n : ℕ) → text_length s ≡ Some n → take n s ≡ until_nul s
 text_bytes s n e = rw (text_length_lem s n e).0 (take_until_nul s)
 
-pub text_well_formed : (s : List ℕ) (n : ℕ) → text_length s ≡ some n → WellFormed (take n s)
+pub text_well_formed : (s : List ℕ) (n : ℕ) → text_length s ≡ Some n → WellFormed (take n s)
 text_well_formed s n e = rw (text_bytes s n e) (utf8_sound _ (text_length_lem s n e).1)

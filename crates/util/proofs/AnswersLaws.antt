@@ -8,3 +8,7 @@ told f e t = sym (ap f t) ∙ e
 -- what it says, if the answer's promise `P` is not an equation
 pub case {ℓ κ} : {A : Type ℓ} (P : A → Type κ) {r k : A} → P r → r ≡ k → P k
 case P h t = subst P t h
+
+-- the same where the answer is itself what the contract speaks of
+pub known {ℓ} : {A : Type ℓ} {r k x : A} → r ≡ x → r ≡ k → k ≡ x
+known e t = sym t ∙ e

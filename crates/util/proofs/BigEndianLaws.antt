@@ -1,9 +1,8 @@
 -- One law for every width, as for little-endian numbers.
-use Rattle.std.specs.Prelude.{◌≡◌, ℕ, zero, suc, ◌+◌, ◌*◌, ◌^◌, ◌<◌, ◌≤◌, List, [], ◌∷◌, ◌++◌, reverse, length, take, drop, slice_index, refl}
+use Rattle.std.specs.Prelude.{◌≡◌, ℕ, zero, suc, ◌+◌, ◌*◌, ◌^◌, ◌<◌, ◌≤◌, List, [], ◌∷◌, ◌++◌, reverse, length, take, drop, slice_index, refl, Some, None}
 use Rattle.std.proofs.Common.{arith, ◌∙◌, ap, length-take, length-drop, take-suc, take-add, get_or-drop}
 use Rattle.std.proofs.Math.Path.{sym}
 use Rattle.std.proofs.lemmas.List.{reverse-append, length-reverse}
-use Rattle.std.proofs.Math.Option.{some, none}
 use Rattle.std.proofs.Math.Seq.{drop-drop}
 use Rattle.util.specs.LittleEndian.{little_endian}
 use Rattle.util.proofs.LittleEndianLaws.{little_append, bytes_found, bytes_nothing, bytes_within, bytes_beyond, bytes_value}
@@ -28,25 +27,25 @@ pub big_append : (xs ys : List ℕ) → big_endian (xs ++ ys) ≡ big_endian ys 
 big_append xs ys = ap little_endian (reverse-append xs ys) ∙ little_append (reverse ys) (reverse xs) ∙ rw length-reverse
 
 module _ (n : ℕ) (s : List ℕ) (off : ℕ) where
-  pub big_found : (v : ℕ) → off + n ≤ length s → v ≡ sum_to s off n → some v ≡ big_at n s off
+  pub big_found : (v : ℕ) → off + n ≤ length s → v ≡ sum_to s off n → Some v ≡ big_at n s off
   unfolding big_at
   big_found v h e = bytes_found big_endian n s off v h (e ∙ sym (big_sum n s off h))
 
-  pub big_nothing : length s < off + n → none ≡ big_at n s off
+  pub big_nothing : length s < off + n → None ≡ big_at n s off
   unfolding big_at
   big_nothing h = bytes_nothing big_endian n s off h
 
-  pub big_within : (v : ℕ) → some v ≡ big_at n s off → off + n ≤ length s
+  pub big_within : (v : ℕ) → Some v ≡ big_at n s off → off + n ≤ length s
   unfolding big_at
   big_within v e = bytes_within big_endian n s off v e
 
-  pub big_beyond : none ≡ big_at n s off → length s < off + n
+  pub big_beyond : None ≡ big_at n s off → length s < off + n
   unfolding big_at
   big_beyond e = bytes_beyond big_endian n s off e
 
 -- two runs of bytes make one number
 module _ (m n : ℕ) (s : List ℕ) (off : ℕ) where
-  pub big_join : (a b : ℕ) → some a ≡ big_at m s off → some b ≡ big_at n s (off + m) → some (b + 256 ^ n * a) ≡ big_at (m + n) s off
+  pub big_join : (a b : ℕ) → Some a ≡ big_at m s off → Some b ≡ big_at n s (off + m) → Some (b + 256 ^ n * a) ≡ big_at (m + n) s off
   unfolding big_at
   big_join a b e f =
       let h : off + m + n ≤ length s = bytes_within big_endian n s (off + m) b f in

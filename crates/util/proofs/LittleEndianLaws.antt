@@ -1,12 +1,10 @@
 -- One law for every width: what reading `n` bytes one by one and adding them up gives.
-use Rattle.std.specs.Prelude.{◌≡◌, ℕ, zero, suc, ◌+◌, ◌-◌, ◌*◌, ◌^◌, ◌<◌, ◌≤◌, List, [], ◌∷◌, ◌++◌, length, take, drop, ℤ, pos, negsuc, ◌-ℤ◌, slice_index, refl}
+use Rattle.std.specs.Prelude.{◌≡◌, ℕ, zero, suc, ◌+◌, ◌-◌, ◌*◌, ◌^◌, ◌<◌, ◌≤◌, List, [], ◌∷◌, ◌++◌, length, take, drop, ℤ, pos, negsuc, ◌-ℤ◌, slice_index, refl, Option, Some, None, option_map, unwrap_or}
 use Rattle.std.proofs.Common.{add-suc, add-zero, mul_assoc, ◌∙◌, length-take, drop-cons, drop-drop, take_all}
 use Rattle.std.proofs.Math.Nat.{pow-succ'}
 use Rattle.std.proofs.Math.Decide.{dec_le}
 use native.Mathlib.Omega.{arith}
 use Rattle.std.proofs.Math.Path.{sym, ap}
-use Rattle.std.proofs.Math.Option
-use Rattle.std.proofs.Math.Option.{Option, some, none, map}
 use Rattle.std.proofs.Math.ListN.{length-drop}
 use Rattle.std.proofs.Math.Seq.{take-add, length-take-le}
 use borrow.Author.Tests.{le-leb, lt-leb, lt-ltb, le-ltb}
@@ -34,71 +32,71 @@ little_append (b ∷ xs) ys = rw (little_append xs ys, pow-succ' 256 (length xs)
 
 -- what the bytes at an offset mean, for any reading `f` of them
 module _ (f : List ℕ → ℕ) (n : ℕ) (s : List ℕ) (off : ℕ) where
-  pub bytes_found : (v : ℕ) → off + n ≤ length s → v ≡ f (take n (drop off s)) → some v ≡ map f (bytes_at n s off)
+  pub bytes_found : (v : ℕ) → off + n ≤ length s → v ≡ f (take n (drop off s)) → Some v ≡ option_map f (bytes_at n s off)
   unfolding bytes_at
-  bytes_found v h e = simp (le-leb _ _ h) (ap some e)
+  bytes_found v h e = simp (le-leb _ _ h) (ap Some e)
 
-  pub bytes_nothing : length s < off + n → none ≡ map f (bytes_at n s off)
+  pub bytes_nothing : length s < off + n → None ≡ option_map f (bytes_at n s off)
   unfolding bytes_at
   bytes_nothing h = simp (lt-leb _ _ h)
 
   -- bytes that were read lie within
-  pub bytes_within : (v : ℕ) → some v ≡ map f (bytes_at n s off) → off + n ≤ length s
+  pub bytes_within : (v : ℕ) → Some v ≡ option_map f (bytes_at n s off) → off + n ≤ length s
   bytes_within v e =
       elim (dec_le (off + n) (length s)) [
         | yes h ↦ h
         | no h ↦
-            let g : ◌≡◌ {A = Option ℕ} (some v) none = e ∙ sym (bytes_nothing (omega arith)) in
+            let g : ◌≡◌ {A = Option ℕ} (Some v) None = e ∙ sym (bytes_nothing (omega arith)) in
             let z : ◌≡◌ {A = ℕ} 0 1 = cc in
             absurd (omega arith)
       ]
 
   -- and bytes that were not run past the end
-  pub bytes_beyond : none ≡ map f (bytes_at n s off) → length s < off + n
+  pub bytes_beyond : None ≡ option_map f (bytes_at n s off) → length s < off + n
   bytes_beyond e =
       elim (dec_le (off + n) (length s)) [
         | yes h ↦
-            let g : ◌≡◌ {A = Option ℕ} none (some (f (take n (drop off s)))) = e ∙ sym (bytes_found _ h refl) in
+            let g : ◌≡◌ {A = Option ℕ} None (Some (f (take n (drop off s)))) = e ∙ sym (bytes_found _ h refl) in
             let z : ◌≡◌ {A = ℕ} 0 1 = cc in
             absurd (omega arith)
         | no h ↦ omega arith
       ]
 
-  pub bytes_value : (v : ℕ) → some v ≡ map f (bytes_at n s off) → v ≡ f (take n (drop off s))
+  pub bytes_value : (v : ℕ) → Some v ≡ option_map f (bytes_at n s off) → v ≡ f (take n (drop off s))
   bytes_value v e =
-      let g : some v ≡ some (f (take n (drop off s))) = e ∙ sym (bytes_found _ (bytes_within v e) refl) in
+      let g : Some v ≡ Some (f (take n (drop off s))) = e ∙ sym (bytes_found _ (bytes_within v e) refl) in
       cc
 
 module _ (n : ℕ) (s : List ℕ) (off : ℕ) where
-  pub little_found : (v : ℕ) → off + n ≤ length s → v ≡ sum_from s off 0 n → some v ≡ little_at n s off
+  pub little_found : (v : ℕ) → off + n ≤ length s → v ≡ sum_from s off 0 n → Some v ≡ little_at n s off
   unfolding little_at
   little_found v h e =
       bytes_found little_endian n s off v h (e ∙ sym (little_sum n s off 0 (omega arith)) ∙ ap (λ (k : ℕ). little_endian (take n (drop k s))) (add-zero off))
 
-  pub little_nothing : length s < off + n → none ≡ little_at n s off
+  pub little_nothing : length s < off + n → None ≡ little_at n s off
   unfolding little_at
   little_nothing h = bytes_nothing little_endian n s off h
 
-  pub little_within : (v : ℕ) → some v ≡ little_at n s off → off + n ≤ length s
+  pub little_within : (v : ℕ) → Some v ≡ little_at n s off → off + n ≤ length s
   unfolding little_at
   little_within v e = bytes_within little_endian n s off v e
 
-  pub little_beyond : none ≡ little_at n s off → length s < off + n
+  pub little_beyond : None ≡ little_at n s off → length s < off + n
   unfolding little_at
   little_beyond e = bytes_beyond little_endian n s off e
 
-  pub little_value : (v : ℕ) → some v ≡ little_at n s off → v ≡ little_endian (take n (drop off s))
+  pub little_value : (v : ℕ) → Some v ≡ little_at n s off → v ≡ little_endian (take n (drop off s))
   unfolding little_at
   little_value v e = bytes_value little_endian n s off v e
 
   -- the same bytes, read as signed
-  pub signed_found : (v : ℕ) (z : ℤ) → some v ≡ little_at n s off → z ≡ twos_complement (8 * n) v → some z ≡ signed_at n s off
+  pub signed_found : (v : ℕ) (z : ℤ) → Some v ≡ little_at n s off → z ≡ twos_complement (8 * n) v → Some z ≡ signed_at n s off
   unfolding signed_at
-  signed_found v z e t = ap some t ∙ ap (map (twos_complement (8 * n))) e
+  signed_found v z e t = ap Some t ∙ ap (option_map (twos_complement (8 * n))) e
 
-  pub signed_nothing : none ≡ little_at n s off → none ≡ signed_at n s off
+  pub signed_nothing : None ≡ little_at n s off → None ≡ signed_at n s off
   unfolding signed_at
-  signed_nothing e = ap (map (twos_complement (8 * n))) e
+  signed_nothing e = ap (option_map (twos_complement (8 * n))) e
 
 -- two's complement, for its two halves
 module _ (bits n : ℕ) where
@@ -116,23 +114,23 @@ module _ (bits n : ℕ) where
 
 -- a number of a header
 module _ (n : ℕ) (s : List ℕ) (off : ℕ) where
-  pub unsigned_in_lem : (o : Option ℕ) → o ≡ little_at n s off → Option.get_or o 0 ≡ unsigned_in n s off
+  pub unsigned_in_lem : (o : Option ℕ) → o ≡ little_at n s off → unwrap_or o 0 ≡ unsigned_in n s off
   unfolding unsigned_in
-  unsigned_in_lem o e = ap (λ (x : Option ℕ). Option.get_or x 0) e
+  unsigned_in_lem o e = ap (λ (x : Option ℕ). unwrap_or x 0) e
 
-  pub signed_in_lem : (o : Option ℤ) → o ≡ signed_at n s off → Option.get_or o (pos 0) ≡ signed_in n s off
+  pub signed_in_lem : (o : Option ℤ) → o ≡ signed_at n s off → unwrap_or o (pos 0) ≡ signed_in n s off
   unfolding signed_in
-  signed_in_lem o e = ap (λ (x : Option ℤ). Option.get_or x (pos 0)) e
+  signed_in_lem o e = ap (λ (x : Option ℤ). unwrap_or x (pos 0)) e
 
 -- two runs of bytes make one number
 module _ (m n : ℕ) (s : List ℕ) (off : ℕ) where
-  pub little_join : (a b : ℕ) → some a ≡ little_at m s off → some b ≡ little_at n s (off + m) → some (a + 256 ^ m * b) ≡ little_at (m + n) s off
+  pub little_join : (a b : ℕ) → Some a ≡ little_at m s off → Some b ≡ little_at n s (off + m) → Some (a + 256 ^ m * b) ≡ little_at (m + n) s off
   unfolding little_at bytes_at
   little_join a b e f =
       let h : off + m + n ≤ length s = little_within n s (off + m) b f in
       let l : length (take m (drop off s)) ≡ m = length-take-le m (drop off s) (simp length-drop (omega arith)) in
       simp (le-leb (off + (m + n)) (length s) (omega arith))
-      (ap some
+      (ap Some
       (rw (little_value m s off a e, little_value n s (off + m) b f, take-add m n (drop off s), little_append, l, drop-drop)))
 
 -- a number in a part that is cut out for it
@@ -143,12 +141,12 @@ module _ (n : ℕ) (s : List ℕ) (off : ℕ) (p : List ℕ) (e : p ≡ take (of
       let m : off + n - off ≡ n = omega arith in
       let f : p ≡ take n (drop off s) = e ∙ ap (λ (k : ℕ). take k (drop off s)) m in
       let l : length p ≡ n = rw f (simp (length-take, length-drop) (omega arith)) in
-      simp (le-leb (0 + n) (length p) (omega arith), le-leb (off + n) (length s) h) (ap (λ (b : List ℕ). some (little_endian b)) (take_all n p (omega arith) ∙ f))
+      simp (le-leb (0 + n) (length p) (omega arith), le-leb (off + n) (length s) h) (ap (λ (b : List ℕ). Some (little_endian b)) (take_all n p (omega arith) ∙ f))
 
   pub unsigned_part : unsigned_in n p 0 ≡ unsigned_in n s off
   unfolding unsigned_in
-  unsigned_part = ap (λ (o : Option ℕ). Option.get_or o 0) little_part
+  unsigned_part = ap (λ (o : Option ℕ). unwrap_or o 0) little_part
 
   pub signed_part : signed_in n p 0 ≡ signed_in n s off
   unfolding signed_in signed_at
-  signed_part = ap (λ (o : Option ℕ). Option.get_or (map (twos_complement (8 * n)) o) (pos 0)) little_part
+  signed_part = ap (λ (o : Option ℕ). unwrap_or (option_map (twos_complement (8 * n)) o) (pos 0)) little_part

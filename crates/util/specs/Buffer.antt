@@ -1,6 +1,5 @@
 -- A piece of a text in a buffer: docs/SPECIFICATION.md, "The caller's buffers".
-use Rattle.std.specs.Prelude.{◌≡◌, ℕ, ◌+◌, Bool, cond, List, ◌++◌, length, take, drop, nat_le}
-use Rattle.std.proofs.Math.Option.{Option, some, none}
+use Rattle.std.specs.Prelude.{◌≡◌, ℕ, ◌+◌, Bool, cond, List, ◌++◌, length, take, drop, nat_le, Option, Some, None}
 
 -- the buffer with a piece at a place
 abbrev pub pasted : List ℕ → ℕ → List ℕ → List ℕ
@@ -12,8 +11,8 @@ at_start t buffer = t ++ drop (length t) buffer
 
 -- the buffer after a call that writes a text at its start: unchanged if the call writes none
 abbrev pub overwritten : List ℕ → Option (List ℕ) → List ℕ
-overwritten buffer none = buffer
-overwritten buffer (some t) = at_start t buffer
+overwritten buffer None = buffer
+overwritten buffer (Some t) = at_start t buffer
 
 abbrev pub fits_in : List ℕ → ℕ → List ℕ → Bool
 fits_in buffer at piece = nat_le (at + length piece) (length buffer)

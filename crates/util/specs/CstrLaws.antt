@@ -1,9 +1,8 @@
 -- What the tests on a part and on a text say about their definitions.
-use Rattle.std.specs.Prelude.{◌≡◌, ℕ, zero, suc, ◌+◌, ◌-◌, ◌<◌, ◌≤◌, Bool, true, false, cond, List, [], ◌∷◌, length, take, drop, refl}
+use Rattle.std.specs.Prelude.{◌≡◌, ℕ, zero, suc, ◌+◌, ◌-◌, ◌<◌, ◌≤◌, Bool, true, false, cond, List, [], ◌∷◌, length, take, drop, refl, Option, Some, None, option_map}
 use Rattle.std.proofs.Math.Nat.{add-sub_cancel_left}
 use Rattle.std.proofs.Common.{arith, sym, ◌∙◌, le-leb}
 use Rattle.std.proofs.Math.Path.{ap}
-use Rattle.std.proofs.Math.Option.{Option, some, none, map}
 use Rattle.std.proofs.Math.ListN.{length-drop}
 use Rattle.std.proofs.Math.Seq.{take_all}
 use Rattle.std.proofs.lemmas.Bool.{lt-leb}
@@ -24,16 +23,16 @@ module _ (s : List ℕ) (o n : ℕ) where
   part_out h = simp (lt-leb (o + n) (length s) h)
 
 module _ (s : List ℕ) (off : ℕ) where
-  pub text_past : length s < off → none ≡ text_at s off
+  pub text_past : length s < off → None ≡ text_at s off
   unfolding text_at
   text_past h = simp (lt-leb off (length s) h)
 
   -- the text of the bytes from the offset on, as a range of a slice gives them
-  pub text_scanned : (x : Option ℕ) → x ≡ text_length (take (length s - off) (drop off s)) → off ≤ length s → map (place off) x ≡ text_at s off
+  pub text_scanned : (x : Option ℕ) → x ≡ text_length (take (length s - off) (drop off s)) → off ≤ length s → option_map (place off) x ≡ text_at s off
   unfolding text_at
   text_scanned x e h =
       let all : take (length s - off) (drop off s) ≡ drop off s = take_all (length s - off) (drop off s) (simp length-drop (omega arith)) in
-      simp (le-leb off (length s) h) (ap (map (place off)) (e ∙ ap text_length all))
+      simp (le-leb off (length s) h) (ap (option_map (place off)) (e ∙ ap text_length all))
 
 -- the bytes before the first NUL are the first ones
 until_short : (s : List ℕ) → length (until_nul s) ≤ length s
@@ -53,6 +52,6 @@ pub fixed_text_lem : (s : List ℕ) → text_part s (text_at s 0) ≡ fixed_text
 unfolding text_at text_length fixed_text
 fixed_text_lem s = rw (le-leb 0 (length s) (omega arith)) (go (well_formed (until_nul s)))
   where
-    go : (w : Bool) → text_part s (map (place 0) (elim w [ true ↦ some (length (until_nul s)) | false ↦ none ])) ≡ cond w (until_nul s) []
+    go : (w : Bool) → text_part s (option_map (place 0) (elim w [ true ↦ Some (length (until_nul s)) | false ↦ None ])) ≡ cond w (until_nul s) []
     go true = part_in s 0 (length (until_nul s)) (omega (arith, until_short s)) ∙ until_first s
     go false = refl

@@ -1,6 +1,5 @@
 -- Numbers in bytes, little-endian, for every width: docs/SPECIFICATION.md, "Numbers in bytes".
-use Rattle.std.specs.Prelude.{◌≡◌, ℕ, ◌+◌, ◌-◌, ◌*◌, ◌^◌, ◌<◌, cond, List, [], ◌∷◌, length, take, drop, ℤ, pos, ◌-ℤ◌, nat_le, nat_lt}
-use Rattle.std.proofs.Math.Option.{Option, some, none, map, get_or}
+use Rattle.std.specs.Prelude.{◌≡◌, ℕ, ◌+◌, ◌-◌, ◌*◌, ◌^◌, ◌<◌, cond, List, [], ◌∷◌, length, take, drop, ℤ, pos, ◌-ℤ◌, nat_le, nat_lt, Option, Some, None, option_map, unwrap_or}
 use Rattle.util.specs.declared.read.ReadU16.{ReadU16}
 use Rattle.util.specs.declared.read.ReadU32.{ReadU32}
 use Rattle.util.specs.declared.read.ReadU64.{ReadU64}
@@ -13,40 +12,40 @@ little_endian (b ∷ bs) = b + 256 * little_endian bs
 
 -- `n` bytes from an offset on, unless they run past the end
 unfoldable pub bytes_at : ℕ → List ℕ → ℕ → Option (List ℕ)
-bytes_at n s off = cond (nat_le (off + n) (length s)) (some (take n (drop off s))) none
+bytes_at n s off = cond (nat_le (off + n) (length s)) (Some (take n (drop off s))) None
 
 unfoldable pub little_at : ℕ → List ℕ → ℕ → Option ℕ
-little_at n s off = map little_endian (bytes_at n s off)
+little_at n s off = option_map little_endian (bytes_at n s off)
 
 -- the number that `n` means in two's complement of `bits` bits
 unfoldable pub twos_complement : ℕ → ℕ → ℤ
 twos_complement bits n = cond (nat_lt n (2 ^ (bits - 1))) (pos n) (pos n -ℤ pos (2 ^ bits))
 
 unfoldable pub signed_at : ℕ → List ℕ → ℕ → Option ℤ
-signed_at n s off = map (twos_complement (8 * n)) (little_at n s off)
+signed_at n s off = option_map (twos_complement (8 * n)) (little_at n s off)
 
 -- the numbers in the bytes of a header, 0 if they would run past it
 unfoldable pub unsigned_in : ℕ → List ℕ → ℕ → ℕ
-unsigned_in n header off = get_or (little_at n header off) 0
+unsigned_in n header off = unwrap_or (little_at n header off) 0
 
 unfoldable pub signed_in : ℕ → List ℕ → ℕ → ℤ
-signed_in n header off = get_or (signed_at n header off) (pos 0)
+signed_in n header off = unwrap_or (signed_at n header off) (pos 0)
 
 abbrev pub u16_value : ReadU16 → Option ℕ
-u16_value (ReadU16.Value n) = some n
-u16_value ReadU16.Nothing = none
+u16_value (ReadU16.Value n) = Some n
+u16_value ReadU16.Nothing = None
 
 abbrev pub u32_value : ReadU32 → Option ℕ
-u32_value (ReadU32.Value n) = some n
-u32_value ReadU32.Nothing = none
+u32_value (ReadU32.Value n) = Some n
+u32_value ReadU32.Nothing = None
 
 abbrev pub u64_value : ReadU64 → Option ℕ
-u64_value (ReadU64.Value n) = some n
-u64_value ReadU64.Nothing = none
+u64_value (ReadU64.Value n) = Some n
+u64_value ReadU64.Nothing = None
 
 abbrev pub i32_value : ReadI32 → Option ℤ
-i32_value (ReadI32.Value n) = some n
-i32_value ReadI32.Nothing = none
+i32_value (ReadI32.Value n) = Some n
+i32_value ReadI32.Nothing = None
 
 -- a byte at a wider type
 pub record Widened (b r : ℕ) : Type 0 where

@@ -2,12 +2,11 @@
 -- (`entry-of`, `no-entry`, `an-entry`), a step's answers (`step_end`, `step_gives`, `step-moves`), and that a true mapping changes none
 -- (`step-mapped`); and the same for a step over the entries of a kind (`kind-end`, `kind-unreadable`, `kind-entry`), whose answer has the
 -- entry's words (`words-in`).
-use Rattle.std.specs.Prelude.{◌≡◌, ℕ, ◌+◌, ◌-◌, ◌*◌, ◌%◌, ◌^◌, ◌<◌, ◌≤◌, List, [], ◌∷◌, length, take, ◌≢◌, refl}
+use Rattle.std.specs.Prelude.{◌≡◌, ℕ, ◌+◌, ◌-◌, ◌*◌, ◌%◌, ◌^◌, ◌<◌, ◌≤◌, List, [], ◌∷◌, length, take, ◌≢◌, refl, Option, Some, None}
 use Rattle.std.proofs.Math.Nat.{mod-eq_of_lt}
 use Rattle.std.proofs.Common.{mul-le-mul_left, mul-lt-mul_of_pos_right, lt_of_le_of_lt, le_of_lt, sym, ap, ◌∙◌, length-take, length-drop}
 use Rattle.std.proofs.Math.Decide.{dec_le}
 use native.Mathlib.Omega.{arith}
-use Rattle.std.proofs.Math.Option.{Option, some, none}
 use borrow.Author.Tests.{le-leb, lt-leb, lt-ltb, le-ltb}
 use Rattle.util.specs.LittleEndian.{signed_in}
 use Rattle.util.specs.Pointer.{relative_address}
@@ -32,8 +31,8 @@ unfolding bytes_read
 whole image segments a n h e z = go (bytes_place image segments a n) refl
   where
     go : (x : Option ℕ) → bytes_place image segments a n ≡ x → n ≤ length h
-    go none f = absurd (z (ap length (e ∙ ap (bytes_from image n) f)))
-    go (some o) f =
+    go None f = absurd (z (ap length (e ∙ ap (bytes_from image n) f)))
+    go (Some o) f =
         let w : o + n ≤ length image = bytes_within image segments a n o (sym f) in
         omega (arith, simp (length-take, length-drop) at (ap length (e ∙ ap (bytes_from image n) f)))
 
@@ -105,17 +104,17 @@ module _ (image segments : List ℕ) (layout : Layout) (base k : ℕ) (some_word
       let f : a ≡ entry_address layout base k = ea ∙ mod-eq_of_lt (omega arith) in
       omega arith
 
-  pub no_entry : length h ≡ 0 → none ≡ run image segments (entry_at layout base k)
+  pub no_entry : length h ≡ 0 → None ≡ run image segments (entry_at layout base k)
   unfolding entry_at run
   no_entry n = go (dec_le (2 ^ 64) last)
     where
-      go : Dec (2 ^ 64 ≤ last) → none ≡ run image segments (entry_at layout base k)
+      go : Dec (2 ^ 64 ≤ last) → None ≡ run image segments (entry_at layout base k)
       go (yes w) = simp (le-leb (2 ^ 64) last w)
       go (no w) =
           let b : last < 2 ^ 64 = omega arith in
           simp (lt-leb (2 ^ 64) last b) (sym (run_no_bytes image segments (entry_address layout base k) (entry_size layout) k_of h (is_read b) (omega arith)))
 
-  pub an_entry : (length h ≢ 0) → (a : ℕ) (x : Entry) → a ≡ entry_address layout base k % 2 ^ 64 → x ≡ entry_of layout a h → some x ≡ run image segments (entry_at layout base k)
+  pub an_entry : (length h ≢ 0) → (a : ℕ) (x : Entry) → a ≡ entry_address layout base k % 2 ^ 64 → x ≡ entry_of layout a h → Some x ≡ run image segments (entry_at layout base k)
   unfolding entry_at run
   an_entry n a x ea ex =
       let t = is_there_lem n in
@@ -127,18 +126,18 @@ module _ (image segments : List ℕ) (layout : Layout) (base k : ℕ) (some_word
 -- ---- a step
 
 module _ (image segments : List ℕ) (layout : Layout) (c : EntryIter) where
-  pub step_end : c.count ≤ c.next → none ≡ entry_step image segments layout c
+  pub step_end : c.count ≤ c.next → None ≡ entry_step image segments layout c
   unfolding entry_step
   step_end h = simp (le-ltb c.next c.count h)
 
   pub step_gives : (x : Option Entry) → x ≡ run image segments (entry_at layout c.base_va c.next) → c.next < c.count
-      → some (record { found = x; next = moved c }) ≡ entry_step image segments layout c
+      → Some (record { found = x; next = moved c }) ≡ entry_step image segments layout c
   unfolding entry_step
   step_gives x e l = simp (lt-ltb c.next c.count l) (rw (← e))
 
   -- the same for a cursor that was moved
   pub step_moves : (x : Option Entry) (n : EntryIter) → x ≡ run image segments (entry_at layout c.base_va c.next) → n ≡ moved c → c.next < c.count
-      → some (record { found = x; next = n }) ≡ entry_step image segments layout c
+      → Some (record { found = x; next = n }) ≡ entry_step image segments layout c
   step_moves x n e f l = rw f (step_gives x e l)
 
   -- a true mapping changes no step
@@ -186,10 +185,10 @@ module _ (image segments : List ℕ) (kind : EntryKind) (c : EntryIter) where
 
     module _ (n : EntryIter) (en : n ≡ moved c) (l : c.next < c.count) where
       pub kind_unreadable : length h ≡ 0 → EntryStep.Unreadable n ≡ answer
-      kind_unreadable z = ap step_answer (step_moves image segments (kind_layout kind) c none n (no_entry image segments (kind_layout kind) c.base_va c.next (some_words kind) h bytes_sized z) en l)
+      kind_unreadable z = ap step_answer (step_moves image segments (kind_layout kind) c None n (no_entry image segments (kind_layout kind) c.base_va c.next (some_words kind) h bytes_sized z) en l)
 
       pub kind_entry : (length h ≢ 0) → (a : ℕ) (x : TableEntry) → a ≡ (c.base_va + size * c.next) % 2 ^ 64 → x ≡ table_entry (entry_of (kind_layout kind) a h)
           → EntryStep.Entry x n ≡ answer
       kind_entry z a x ea ex =
           ap (λ (y : TableEntry). EntryStep.Entry y n) ex
-          ∙ ap step_answer (step_moves image segments (kind_layout kind) c (some (entry_of (kind_layout kind) a h)) n (an_entry image segments (kind_layout kind) c.base_va c.next (some_words kind) h bytes_sized z a _ (at_sized a ea) refl) en l)
+          ∙ ap step_answer (step_moves image segments (kind_layout kind) c (Some (entry_of (kind_layout kind) a h)) n (an_entry image segments (kind_layout kind) c.base_va c.next (some_words kind) h bytes_sized z a _ (at_sized a ea) refl) en l)

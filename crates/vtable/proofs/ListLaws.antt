@@ -1,12 +1,11 @@
 -- What stepping gives, for every layout at once: the step after `k` steps from the start gives what the program of entry `k` gives, as long
 -- as no earlier entry is unreadable (`stepped-entry`); and the list of a caller who steps up to an unreadable entry or the end has the
 -- entries whose programs answer, in order, and no others (`entries-listed-all`).
-use Rattle.std.specs.Prelude.{◌≡◌, ℕ, zero, suc, ◌+◌, ◌<◌, ◌≤◌, Bool, true, false, cond, List, [], ◌∷◌, length, ◌≢◌, nat_lt}
+use Rattle.std.specs.Prelude.{◌≡◌, ℕ, zero, suc, ◌+◌, ◌<◌, ◌≤◌, Bool, true, false, cond, List, [], ◌∷◌, length, ◌≢◌, nat_lt, Option, Some, None}
 use Rattle.std.proofs.Math.Decide.{dec_lt}
 use Rattle.std.proofs.Common.{add-one, ◌∙◌, lt-ltb, le-ltb}
 use native.Mathlib.Omega.{arith}
 use Rattle.std.proofs.Math.Path.{refl, sym, ap}
-use Rattle.std.proofs.Math.Option.{Option, some, none}
 use Rattle.std.proofs.Math.ListN.{get_elem?}
 use Rattle.runtime.specs.Reads.{nothing, and_then, run}
 use Rattle.runtime.proofs.ReadsLaws.{run_bind}
@@ -25,10 +24,10 @@ module _ (image segments : List ℕ) (layout : Layout) where
   -- what the step after `n` steps gives; a step moves on past an unreadable entry
   unfoldable pub step_after : ℕ → EntryIter → Option Step
   step_after zero c = entry_step image segments layout c
-  step_after (suc n) c = elim (entry_step image segments layout c) [ none ↦ none | some s ↦ step_after n s.next ]
+  step_after (suc n) c = elim (entry_step image segments layout c) [ None ↦ None | Some s ↦ step_after n s.next ]
 
   after_by : (n : ℕ) (c : EntryIter) (x : Option Step) → entry_step image segments layout c ≡ x
-      → step_after (suc n) c ≡ (elim x as (λ _. Option Step) [ none ↦ none | some s ↦ step_after n s.next ])
+      → step_after (suc n) c ≡ (elim x as (λ _. Option Step) [ None ↦ None | Some s ↦ step_after n s.next ])
   unfolding step_after
   after_by n c x e = rw (step_after, e)
 
@@ -45,12 +44,12 @@ module _ (image segments : List ℕ) (layout : Layout) where
             ∙ ih (k + 1)
             ∙ ap (λ (j : ℕ). entry_step image segments layout (iter_at base count j)) (omega arith)
         go ih (no l) =
-            after_by n (iter_at base count k) none (sym (step_end image segments layout (iter_at base count k) (omega arith)))
+            after_by n (iter_at base count k) None (sym (step_end image segments layout (iter_at base count k) (omega arith)))
             ∙ step_end image segments layout (iter_at base count (suc n + k)) (omega arith)
 
     -- no earlier entry is unreadable
     abbrev pub Readable : ℕ → Type 0
-    Readable k = (j : ℕ) → j < k → run image segments (entry_at layout base j) ≢ none
+    Readable k = (j : ℕ) → j < k → run image segments (entry_at layout base j) ≢ None
 
     up_to_run : (k : ℕ) → Readable k → run image segments (up_to layout base k) ≡ run image segments (entry_at layout base k)
     unfolding up_to
@@ -58,12 +57,12 @@ module _ (image segments : List ℕ) (layout : Layout) where
     up_to_run (suc k) r = run_bind image segments (λ _. entry_at layout base (suc k)) (up_to layout base k) ∙ rw (up_to_run k (λ j l. r j (omega arith))) (go (run image segments (entry_at layout base k)) refl)
       where
         go : (x : Option Entry) → run image segments (entry_at layout base k) ≡ x → and_then x (λ _. run image segments (entry_at layout base (suc k))) ≡ run image segments (entry_at layout base (suc k))
-        go none e = absurd (r k (omega arith) e)
-        go (some a) e = refl
+        go None e = absurd (r k (omega arith) e)
+        go (Some a) e = refl
 
     -- stepping k + 1 times gives what the program of entry k gives
     pub stepped_entry : (k : ℕ) → k < count → Readable k
-        → step_after k (start base count) ≡ some (record { found = run image segments (entry layout base count k); next = iter_at base count (k + 1) })
+        → step_after k (start base count) ≡ Some (record { found = run image segments (entry layout base count k); next = iter_at base count (k + 1) })
     unfolding entry
     stepped_entry k l r =
         step_after_lem k 0
@@ -71,7 +70,7 @@ module _ (image segments : List ℕ) (layout : Layout) where
         ∙ sym (step_gives image segments layout (iter_at base count k) _ (simp (lt-ltb k count l) (up_to_run k r)) l)
 
     -- and past the last entry the end
-    pub stepped_entries_end : (k : ℕ) → count ≤ k → step_after k (start base count) ≡ none
+    pub stepped_entries_end : (k : ℕ) → count ≤ k → step_after k (start base count) ≡ None
     stepped_entries_end k l = step_after_lem k 0 ∙ sym (step_end image segments layout (iter_at base count (k + 0)) (omega arith))
 
   -- ---- as a list
@@ -83,8 +82,8 @@ module _ (image segments : List ℕ) (layout : Layout) where
     from i (suc k) = and_then (run image segments (entry_at layout base i)) (λ _. from (suc i) k)
 
     then_then : (x y : Option Entry) (z : Option Entry) → and_then x (λ _. and_then y (λ _. z)) ≡ and_then (and_then x (λ _. y)) (λ _. z)
-    then_then none y z = refl
-    then_then (some a) y z = refl
+    then_then None y z = refl
+    then_then (Some a) y z = refl
 
     from_last : (k i : ℕ) → from i (suc k) ≡ and_then (from i k) (λ _. run image segments (entry_at layout base (suc (k + i))))
     unfolding from
@@ -104,7 +103,7 @@ module _ (image segments : List ℕ) (layout : Layout) where
         ∙ sym (run_bind image segments (λ _. entry_at layout base (suc k)) (up_to layout base k))
 
     listed_by : (n i : ℕ) → i < count → (x : Option Entry) → run image segments (entry_at layout base i) ≡ x
-        → listed_entries image segments layout (suc n) (iter_at base count i) ≡ (elim x as (λ _. List Entry) [ none ↦ [] | some e ↦ e ∷ listed_entries image segments layout n (iter_at base count (i + 1)) ])
+        → listed_entries image segments layout (suc n) (iter_at base count i) ≡ (elim x as (λ _. List Entry) [ None ↦ [] | Some e ↦ e ∷ listed_entries image segments layout n (iter_at base count (i + 1)) ])
     unfolding listed_entries
     listed_by n i l x e = rw (listed_entries, sym (step_gives image segments layout (iter_at base count i) x (sym e) l))
 
@@ -113,36 +112,36 @@ module _ (image segments : List ℕ) (layout : Layout) where
     listed_none zero i l = refl
     listed_none (suc n) i l = rw (listed_entries, sym (step_end image segments layout (iter_at base count i) l))
 
-    from_none : (i k : ℕ) → run image segments (entry_at layout base i) ≡ none → from i k ≡ none
+    from_none : (i k : ℕ) → run image segments (entry_at layout base i) ≡ None → from i k ≡ None
     unfolding from
     from_none i zero e = e
     from_none i (suc k) e = rw e
 
-    from_some : (i k : ℕ) (a : Entry) → run image segments (entry_at layout base i) ≡ some a → from i (suc k) ≡ from (i + 1) k
+    from_some : (i k : ℕ) (a : Entry) → run image segments (entry_at layout base i) ≡ Some a → from i (suc k) ≡ from (i + 1) k
     unfolding from
     from_some i k a e = rw (e, add-one)
 
-    cond_none : (b : Bool) → ◌≡◌ {A = Option Entry} (cond b none none) none
+    cond_none : (b : Bool) → ◌≡◌ {A = Option Entry} (cond b None None) None
     cond_none true = refl
     cond_none false = refl
 
     -- what a list has at place `k`
     abbrev place : ℕ → ℕ → Option Entry
-    place i k = cond (nat_lt (k + i) count) (from i k) none
+    place i k = cond (nat_lt (k + i) count) (from i k) None
 
-    place_none : (i k : ℕ) → run image segments (entry_at layout base i) ≡ none → place i k ≡ none
+    place_none : (i k : ℕ) → run image segments (entry_at layout base i) ≡ None → place i k ≡ None
     place_none i k e = rw (from_none i k e) (cond_none (nat_lt (k + i) count))
 
-    place_some : (i k : ℕ) (a : Entry) → run image segments (entry_at layout base i) ≡ some a → place i (suc k) ≡ place (i + 1) k
+    place_some : (i k : ℕ) (a : Entry) → run image segments (entry_at layout base i) ≡ Some a → place i (suc k) ≡ place (i + 1) k
     place_some i k a e =
         let j : suc k + i ≡ k + (i + 1) = omega arith in
         rw (from_some i k a e, j)
 
-    place_first : (i : ℕ) (a : Entry) → i < count → run image segments (entry_at layout base i) ≡ some a → place i 0 ≡ some a
+    place_first : (i : ℕ) (a : Entry) → i < count → run image segments (entry_at layout base i) ≡ Some a → place i 0 ≡ Some a
     unfolding from
     place_first i a l e = let j : 0 + i < count = omega arith in simp (lt-ltb (0 + i) count j) e
 
-    place_past : (i k : ℕ) → count ≤ i → place i k ≡ none
+    place_past : (i k : ℕ) → count ≤ i → place i k ≡ None
     place_past i k l = let j : count ≤ k + i = omega arith in simp (le-ltb (k + i) count j)
 
     listed_at : (n i k : ℕ) → k < n → get_elem? (listed_entries image segments layout n (iter_at base count i)) k ≡ place i k
@@ -151,10 +150,10 @@ module _ (image segments : List ℕ) (layout : Layout) where
       where
         with_first : ((j : ℕ) → j < n → get_elem? (listed_entries image segments layout n (iter_at base count (i + 1))) j ≡ place (i + 1) j) → i < count
             → (x : Option Entry) → run image segments (entry_at layout base i) ≡ x → (k : ℕ) → k < suc n
-            → get_elem? (elim x as (λ _. List Entry) [ none ↦ [] | some e ↦ e ∷ listed_entries image segments layout n (iter_at base count (i + 1)) ]) k ≡ place i k
-        with_first ih h none e k l = sym (place_none i k e)
-        with_first ih h (some a) e zero l = sym (place_first i a h e)
-        with_first ih h (some a) e (suc k) l = ih k (omega arith) ∙ sym (place_some i k a e)
+            → get_elem? (elim x as (λ _. List Entry) [ None ↦ [] | Some e ↦ e ∷ listed_entries image segments layout n (iter_at base count (i + 1)) ]) k ≡ place i k
+        with_first ih h None e k l = sym (place_none i k e)
+        with_first ih h (Some a) e zero l = sym (place_first i a h e)
+        with_first ih h (Some a) e (suc k) l = ih k (omega arith) ∙ sym (place_some i k a e)
 
         go : ((j : ℕ) → j < n → get_elem? (listed_entries image segments layout n (iter_at base count (i + 1))) j ≡ place (i + 1) j) → Dec (i < count)
             → get_elem? (listed_entries image segments layout (suc n) (iter_at base count i)) k ≡ place i k
@@ -164,9 +163,9 @@ module _ (image segments : List ℕ) (layout : Layout) where
     -- entry `k` of the list of a caller who steps `n` times is what its program reads
     pub listed_entry : (n k : ℕ) → k < n → get_elem? (listed_entries image segments layout n (start base count)) k ≡ run image segments (entry layout base count k)
     unfolding entry run
-    listed_entry n k l = listed_at n 0 k l ∙ rw (from_start k) (ap (λ (j : ℕ). cond (nat_lt j count) (run image segments (up_to layout base k)) none) (omega arith) ∙ go (nat_lt k count))
+    listed_entry n k l = listed_at n 0 k l ∙ rw (from_start k) (ap (λ (j : ℕ). cond (nat_lt j count) (run image segments (up_to layout base k)) None) (omega arith) ∙ go (nat_lt k count))
       where
-        go : (b : Bool) → cond b (run image segments (up_to layout base k)) none ≡ run image segments (cond b (up_to layout base k) nothing)
+        go : (b : Bool) → cond b (run image segments (up_to layout base k)) None ≡ run image segments (cond b (up_to layout base k) nothing)
         go true = refl
         go false = refl
 
@@ -176,16 +175,16 @@ module _ (image segments : List ℕ) (layout : Layout) where
     few (suc n) i = go (few n (i + 1)) (dec_lt i count)
       where
         with_first : length (listed_entries image segments layout n (iter_at base count (i + 1))) ≤ n → (x : Option Entry)
-            → length {A = Entry} (elim x as (λ _. List Entry) [ none ↦ [] | some e ↦ e ∷ listed_entries image segments layout n (iter_at base count (i + 1)) ]) ≤ suc n
-        with_first ih none = omega arith
-        with_first ih (some a) = omega arith
+            → length {A = Entry} (elim x as (λ _. List Entry) [ None ↦ [] | Some e ↦ e ∷ listed_entries image segments layout n (iter_at base count (i + 1)) ]) ≤ suc n
+        with_first ih None = omega arith
+        with_first ih (Some a) = omega arith
 
         go : length (listed_entries image segments layout n (iter_at base count (i + 1))) ≤ n → Dec (i < count) → length (listed_entries image segments layout (suc n) (iter_at base count i)) ≤ suc n
         go ih (yes h) = rw (listed_by n i h (run image segments (entry_at layout base i)) refl) (with_first ih (run image segments (entry_at layout base i)))
         go ih (no h) = rw (listed_none (suc n) i (omega arith)) (omega arith)
 
     -- past a list's end there is nothing
-    past_end : (l : List Entry) (k : ℕ) → length l ≤ k → get_elem? l k ≡ none
+    past_end : (l : List Entry) (k : ℕ) → length l ≤ k → get_elem? l k ≡ None
     past_end [] k h = refl
     past_end (a ∷ l) zero h = absurd (omega arith)
     past_end (a ∷ l) (suc k) h = past_end l k (omega arith)

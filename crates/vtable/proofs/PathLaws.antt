@@ -1,10 +1,9 @@
 -- The path of an entry, all entries up to it (docs/SPECIFICATION.md, "Items, paths and the cut"), as an equation; and what the words of an entry say, by examples.
-use Rattle.std.specs.Prelude.{◌≡◌, ℕ, zero, suc, ◌+◌, ◌-◌, ◌^◌, ◌<◌, ◌≤◌, List, [], ◌∷◌, ◌++◌, length, take, drop}
+use Rattle.std.specs.Prelude.{◌≡◌, ℕ, zero, suc, ◌+◌, ◌-◌, ◌^◌, ◌<◌, ◌≤◌, List, [], ◌∷◌, ◌++◌, length, take, drop, Option, Some, None, unwrap_or}
 use Rattle.std.proofs.Math.Decide.{dec_le, dec_lt}
 use native.Mathlib.Omega.{arith}
 use Rattle.std.proofs.Math.Path.{refl, ap}
 use Rattle.std.proofs.Common.{sym, ◌∙◌, le-leb, lt-ltb, le-ltb}
-use Rattle.std.proofs.Math.Option.{Option, some, none, get_or}
 use Rattle.std.proofs.lemmas.Bool.{lt-leb}
 use Rattle.util.specs.LittleEndian.{little_endian, bytes_at, little_at, twos_complement, signed_at, unsigned_in, signed_in}
 use Rattle.util.specs.Pointer.{relative_pointer, relative_address}
@@ -16,7 +15,7 @@ use Rattle.vtable.specs.Entries.{Layout, method, override, default_override, pre
 
 -- where an address lies in the file, 0 if it does not
 abbrev pub offset_or_zero : List ℕ → ℕ → ℕ
-offset_or_zero segments a = get_or (file_offset (segments_of segments) a) 0
+offset_or_zero segments a = unwrap_or (file_offset (segments_of segments) a) 0
 
 -- the bytes of the entries 0 to `k` in the file, one range to an entry
 unfoldable pub ranges : List ℕ → Layout → ℕ → ℕ → List Range
@@ -25,14 +24,14 @@ ranges segments layout base (suc k) = ranges segments layout base k ++ (bytes_ra
 
 -- an entry's bytes lie in the image, at the offset of its address
 pub record Placed (image segments : List ℕ) (layout : Layout) (base k : ℕ) : Type 0 where
-  pub at : file_offset (segments_of segments) (entry_address layout base k) ≡ some (offset_or_zero segments (entry_address layout base k))
+  pub at : file_offset (segments_of segments) (entry_address layout base k) ≡ Some (offset_or_zero segments (entry_address layout base k))
   pub inside : offset_or_zero segments (entry_address layout base k) + entry_size layout ≤ length image
   pub below : entry_address layout base k + (entry_size layout - 4) < 2 ^ 64
 
 module _ (image segments : List ℕ) (layout : Layout) (base : ℕ) where
   -- ---- an entry by itself
 
-  module _ (k : ℕ) (e : Entry) (there : run image segments (entry_at layout base k) ≡ some e) where
+  module _ (k : ℕ) (e : Entry) (there : run image segments (entry_at layout base k) ≡ Some e) where
     abbrev last : ℕ
     last = entry_address layout base k + (entry_size layout - 4)
 
@@ -45,7 +44,7 @@ module _ (image segments : List ℕ) (layout : Layout) (base : ℕ) where
       where
         go : Dec (2 ^ 64 ≤ last) → last < 2 ^ 64
         go (yes w) =
-            let f : ◌≡◌ {A = Option Entry} none (some e) = simp (le-leb (2 ^ 64) last w) at there in
+            let f : ◌≡◌ {A = Option Entry} None (Some e) = simp (le-leb (2 ^ 64) last w) at there in
             let z : ◌≡◌ {A = ℕ} 0 1 = cc in
             absurd (omega arith)
         go (no w) = omega arith
@@ -57,8 +56,8 @@ module _ (image segments : List ℕ) (layout : Layout) (base : ℕ) where
     pub placed : Placed image segments layout base k
     placed =
         let w = bytes_read_lem image segments (entry_address layout base k) e (entry_size layout) says (rw program at there) in
-        let q : offset_or_zero segments (entry_address layout base k) ≡ w.offset = ap (λ (x : Option ℕ). get_or x 0) w.at in
-        record { at = w.at ∙ ap some (sym q); inside = omega (arith, w.inside); below = last_below }
+        let q : offset_or_zero segments (entry_address layout base k) ≡ w.offset = ap (λ (x : Option ℕ). unwrap_or x 0) w.at in
+        record { at = w.at ∙ ap Some (sym q); inside = omega (arith, w.inside); below = last_below }
 
     own_path : path image segments (entry_at layout base k) ≡ bytes_range (offset_or_zero segments (entry_address layout base k)) (entry_size layout) ∷ []
     unfolding path
@@ -69,8 +68,8 @@ module _ (image segments : List ℕ) (layout : Layout) (base : ℕ) where
     unfolding run
     own_words =
         let w = bytes_read_lem image segments (entry_address layout base k) e (entry_size layout) says (rw program at there) in
-        let q : offset_or_zero segments (entry_address layout base k) ≡ w.offset = ap (λ (x : Option ℕ). get_or x 0) w.at in
-        let f : some (entry_of layout (entry_address layout base k) (take (entry_size layout) (drop w.offset image))) ≡ some e = w.goes in
+        let q : offset_or_zero segments (entry_address layout base k) ≡ w.offset = ap (λ (x : Option ℕ). unwrap_or x 0) w.at in
+        let f : Some (entry_of layout (entry_address layout base k) (take (entry_size layout) (drop w.offset image))) ≡ Some e = w.goes in
         let g : e ≡ entry_of layout (entry_address layout base k) (take (entry_size layout) (drop w.offset image)) = cc in
         rw q g
 
@@ -79,18 +78,18 @@ module _ (image segments : List ℕ) (layout : Layout) (base : ℕ) where
   -- the entry before an entry that can be read, and that entry itself
   record Both (k : ℕ) (e : Entry) : Type 0 where
     before : Entry
-    was : run image segments (up_to layout base k) ≡ some before
-    is : run image segments (entry_at layout base (suc k)) ≡ some e
+    was : run image segments (up_to layout base k) ≡ Some before
+    is : run image segments (entry_at layout base (suc k)) ≡ Some e
 
-  both : (k : ℕ) (e : Entry) → run image segments (up_to layout base (suc k)) ≡ some e → Both k e
+  both : (k : ℕ) (e : Entry) → run image segments (up_to layout base (suc k)) ≡ Some e → Both k e
   unfolding up_to
   both k e there = go (run image segments (up_to layout base k)) refl (sym (run_bind image segments (λ _. entry_at layout base (suc k)) (up_to layout base k)) ∙ there)
     where
-      go : (x : Option Entry) → run image segments (up_to layout base k) ≡ x → and_then x (λ _. run image segments (entry_at layout base (suc k))) ≡ some e → Both k e
-      go none t f = let z : ◌≡◌ {A = ℕ} 0 1 = cc in absurd (omega arith)
-      go (some a) t f = record { before = a; was = t; is = f }
+      go : (x : Option Entry) → run image segments (up_to layout base k) ≡ x → and_then x (λ _. run image segments (entry_at layout base (suc k))) ≡ Some e → Both k e
+      go None t f = let z : ◌≡◌ {A = ℕ} 0 1 = cc in absurd (omega arith)
+      go (Some a) t f = record { before = a; was = t; is = f }
 
-  up_to_path : (k : ℕ) (e : Entry) → run image segments (up_to layout base k) ≡ some e → path image segments (up_to layout base k) ≡ ranges segments layout base k
+  up_to_path : (k : ℕ) (e : Entry) → run image segments (up_to layout base k) ≡ Some e → path image segments (up_to layout base k) ≡ ranges segments layout base k
   unfolding up_to ranges
   up_to_path zero e there = own_path 0 e there
   up_to_path (suc k) e there =
@@ -98,7 +97,7 @@ module _ (image segments : List ℕ) (layout : Layout) (base : ℕ) where
       path_bind image segments (λ _. entry_at layout base (suc k)) (up_to layout base k)
       ∙ rw (b.was, up_to_path k b.before b.was, own_path (suc k) e b.is)
 
-  up_to_placed : (k : ℕ) (e : Entry) → run image segments (up_to layout base k) ≡ some e → (j : ℕ) → j ≤ k → Placed image segments layout base j
+  up_to_placed : (k : ℕ) (e : Entry) → run image segments (up_to layout base k) ≡ Some e → (j : ℕ) → j ≤ k → Placed image segments layout base j
   unfolding up_to
   up_to_placed zero e there j l = let z : j ≡ 0 = omega arith in rw z (placed 0 e there)
   up_to_placed (suc k) e there j l = go (up_to_placed k b.before b.was) (dec_le j k)
@@ -110,12 +109,12 @@ module _ (image segments : List ℕ) (layout : Layout) (base : ℕ) where
       go ih (yes h) = ih j h
       go ih (no h) = let z : j ≡ suc k = omega arith in rw z (placed (suc k) e b.is)
 
-  up_to_own : (k : ℕ) (e : Entry) → run image segments (up_to layout base k) ≡ some e → run image segments (entry_at layout base k) ≡ some e
+  up_to_own : (k : ℕ) (e : Entry) → run image segments (up_to layout base k) ≡ Some e → run image segments (entry_at layout base k) ≡ Some e
   unfolding up_to
   up_to_own zero e there = there
   up_to_own (suc k) e there = (both k e there).is
 
-  module _ (count k : ℕ) (e : Entry) (there : run image segments (entry layout base count k) ≡ some e) where
+  module _ (count k : ℕ) (e : Entry) (there : run image segments (entry layout base count k) ≡ Some e) where
     is_program : (k < count) × (entry layout base count k ≡ up_to layout base k)
     unfolding entry run
     is_program = go (dec_lt k count)
@@ -123,7 +122,7 @@ module _ (image segments : List ℕ) (layout : Layout) (base : ℕ) where
         go : Dec (k < count) → (k < count) × (entry layout base count k ≡ up_to layout base k)
         go (yes l) = (l, simp (lt-ltb k count l))
         go (no l) =
-            let f : ◌≡◌ {A = Option Entry} none (some e) = simp (le-ltb k count (omega arith)) at there in
+            let f : ◌≡◌ {A = Option Entry} None (Some e) = simp (le-ltb k count (omega arith)) at there in
             let z : ◌≡◌ {A = ℕ} 0 1 = cc in
             absurd (omega arith)
 
@@ -158,7 +157,7 @@ abbrev pub high_segments : List ℕ
 high_segments = 18446744073709551592 ∷ 23 ∷ 0 ∷ 24 ∷ []
 
 abbrev answered : ℕ → List ℕ → Option Entry
-answered a xs = some (record { address = a; words = xs })
+answered a xs = Some (record { address = a; words = xs })
 
 abbrev sample : Layout → ℕ → ℕ → Option Entry
 sample layout count k = run sample_image sample_segments (entry layout 4096 count k)
@@ -175,8 +174,8 @@ pub record EntryPathsWorked : Type 0 where
   -- flags 8; offset 256 from 4116
   pub method_2 : sample method 3 2 ≡ answered 4112 (8 ∷ (4372 ∷ []))
   -- a table of two has no third entry; a fourth one is past the image
-  pub no_method_2 : sample method 2 2 ≡ none
-  pub no_method_3 : sample method 4 3 ≡ none
+  pub no_method_2 : sample method 2 2 ≡ None
+  pub no_method_3 : sample method 4 3 ≡ None
   -- 16 from 4096, -4 from 4100, 0x04030201 from 4104
   pub override_0 : sample override 2 0 ≡ answered 4096 (4112 ∷ (4096 ∷ (67310089 ∷ [])))
   pub override_1 : sample override 2 1 ≡ answered 4108 (0 ∷ (4120 ∷ (4372 ∷ [])))
@@ -187,8 +186,8 @@ pub record EntryPathsWorked : Type 0 where
   -- at 2^64 - 8 a method's words lie below 2^64, and an override's third does not; at 2^64 - 4 a method's second does not
   pub high_method : high method 18446744073709551608 ≡ answered 18446744073709551608 (8 ∷ (252 ∷ []))
   pub high_override : high override 18446744073709551604 ≡ answered 18446744073709551604 (0 ∷ (0 ∷ (252 ∷ [])))
-  pub no_override : run (sample_image ++ sample_image) high_segments (entry override 18446744073709551608 1 0) ≡ none
-  pub no_method : run (sample_image ++ sample_image) high_segments (entry method 18446744073709551612 1 0) ≡ none
+  pub no_override : run (sample_image ++ sample_image) high_segments (entry override 18446744073709551608 1 0) ≡ None
+  pub no_method : run (sample_image ++ sample_image) high_segments (entry method 18446744073709551612 1 0) ≡ None
   pub high_special : high prespecialization 18446744073709551612 ≡ answered 18446744073709551612 (252 ∷ [])
 
 pub entry_paths_worked : EntryPathsWorked

@@ -1,8 +1,7 @@
 -- The entries of a table: docs/SPECIFICATION.md, "Entries"; Metadata.h, `TargetMethodDescriptor`, `TargetMethodOverrideDescriptor`,
 -- `TargetMethodDefaultOverrideDescriptor`, and the canonical specialized metadata. One definition covers them all, over what the
 -- words of an entry are.
-use Rattle.std.specs.Prelude.{ℕ, zero, suc, ◌+◌, ◌-◌, ◌*◌, ◌^◌, cond, List, [], ◌∷◌, length, nat_le, nat_lt, slice_index}
-use Rattle.std.proofs.Math.Option.{Option, some, none}
+use Rattle.std.specs.Prelude.{ℕ, zero, suc, ◌+◌, ◌-◌, ◌*◌, ◌^◌, cond, List, [], ◌∷◌, length, nat_le, nat_lt, slice_index, Option, Some, None}
 use Rattle.std.specs.Borrow.{Bor}
 use Rattle.util.specs.LittleEndian.{unsigned_in, signed_in}
 use Rattle.util.specs.Pointer.{relative_address}
@@ -103,7 +102,7 @@ pub record Step : Type 0 where
 
 unfoldable pub entry_step : List ℕ → List ℕ → Layout → EntryIter → Option Step
 entry_step image segments layout c =
-    cond (nat_lt c.next c.count) (some (record { found = run image segments (entry_at layout c.base_va c.next); next = moved c })) none
+    cond (nat_lt c.next c.count) (Some (record { found = run image segments (entry_at layout c.base_va c.next); next = moved c })) None
 
 -- the bytes of entry `k` of a table of entries of `size` bytes, `stride` bytes from one to the next, as the calls hand them on: none if
 -- one of the entry's words, the last of which is at `size` - 4, does not lie below 2^64
@@ -118,12 +117,12 @@ table_entry e = record { address = e.address; first = slice_index e.words 0; sec
 
 -- the answer of a step
 abbrev pub found_answer : Option Entry → EntryIter → EntryStep
-found_answer none c = EntryStep.Unreadable c
-found_answer (some e) c = EntryStep.Entry (table_entry e) c
+found_answer None c = EntryStep.Unreadable c
+found_answer (Some e) c = EntryStep.Entry (table_entry e) c
 
 abbrev pub step_answer : Option Step → EntryStep
-step_answer none = EntryStep.End
-step_answer (some s) = found_answer s.found s.next
+step_answer None = EntryStep.End
+step_answer (Some s) = found_answer s.found s.next
 
 -- the walk that holds the image and the segments
 abbrev pub method_walk_from : EntryIter → Bor (List ℕ) → Bor (List ℕ) → MethodWalk

@@ -1,6 +1,5 @@
 -- The list of a caller who steps over a table.
-use Rattle.std.specs.Prelude.{ℕ, zero, suc, List, [], ◌∷◌}
-use Rattle.std.proofs.Math.Option.{none, some}
+use Rattle.std.specs.Prelude.{ℕ, zero, suc, List, [], ◌∷◌, Some, None}
 use Rattle.vtable.specs.declared.iter.EntryIter.{EntryIter}
 use Rattle.vtable.specs.Entries.{Layout, Entry, entry_step}
 
@@ -10,6 +9,6 @@ module _ (image segments : List ℕ) (layout : Layout) where
   listed_entries zero c = []
   listed_entries (suc n) c =
       elim (entry_step image segments layout c) [
-        | none ↦ []
-        | some s ↦ elim s.found [ none ↦ [] | some e ↦ e ∷ listed_entries n s.next ]
+        | None ↦ []
+        | Some s ↦ elim s.found [ None ↦ [] | Some e ↦ e ∷ listed_entries n s.next ]
       ]

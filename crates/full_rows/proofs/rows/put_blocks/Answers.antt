@@ -1,7 +1,7 @@
+use Rattle.std.specs.Prelude.{Some}
 use native.Mathlib.Omega.{arith}
 use Prim.Native.Nat.{◌+◌, ◌*◌}
 use mathlib.Core.Path.{refl}
-use mathlib.Core.Option.{some}
 use Rattle.util.proofs.AnswersLaws.{told}
 use Rattle.classtrailers.specs.Calls.{kind_read_of, block_at_of}
 use Rattle.full_rows.specs.FullRows.{block_four}
@@ -23,7 +23,7 @@ put_block-requires-in-Last c = omega (arith, c.requires, c.loop-row.invariant.lo
 
 pub put_zeros-requires : goal.put_zeros-requires
 put_zeros-requires c = let l = c.loop-row in
-    let same = pasted_long l.buffer (block_four (some c.in-Last.block)) _ (c.args.at + 4 * l.row) c.put_block-in-Last.ensures (omega (arith, c.requires, l.invariant.long, c.loop-row-test.true, block_long (some c.in-Last.block))) in
+    let same = pasted_long l.buffer (block_four (Some c.in-Last.block)) _ (c.args.at + 4 * l.row) c.put_block-in-Last.ensures (omega (arith, c.requires, l.invariant.long, c.loop-row-test.true, block_long (Some c.in-Last.block))) in
     omega (arith, c.requires, l.invariant.long, c.loop-row-test.true, same)
 
 pub returns-in-Last : goal.returns-in-Last

@@ -1,6 +1,6 @@
+use Rattle.std.specs.Prelude.{None}
 use native.Mathlib.Omega.{arith}
 use mathlib.Core.Path.{◌∙◌}
-use mathlib.Core.Option.{none}
 use Rattle.segment.proofs.SegmentsLaws.{wraps, told, lookup_end}
 use Rattle.segment.proofs.MappingLaws.{passed_none, passed_above, passed_below, passed_empty, located}
 use Rattle.segment.proofs.segment.locate.Goals as goal
@@ -14,7 +14,7 @@ overflow_sub-vmaddr c = omega (arith, c.type_inv.segments c.loop-i.i)
 
 pub returns-then-vmaddr-vmsize : goal.returns-then-vmaddr-vmsize
 returns-then-vmaddr-vmsize c =
-    told c.args.segments.now c.loop-i.i _ _ c.loop-i.invariant.1.sought none (wraps _ _ (omega arith)) (omega arith)
+    told c.args.segments.now c.loop-i.i _ _ c.loop-i.invariant.1.sought None (wraps _ _ (omega arith)) (omega arith)
 
 pub clip-requires : goal.clip-requires
 clip-requires c =

@@ -1,7 +1,7 @@
 -- `test_lines::hex::parse_bytes` meets its contract. Each refusal is a test of `hexBytes` or of `fitting` that fails.
+use Rattle.std.specs.Prelude.{Some}
 use native.Mathlib.Omega.{arith}
 use mathlib.Core.Path.{sym, ◌∙◌, ap}
-use mathlib.Core.Option.{some}
 use Rattle.test_lines.proofs.LinesLaws.{bytes_dash, bytes_empty, bytes_odd, bytes_other, bytes_read_lem, fitting_none, fitting_all, fitting_short, pairs_length, answered}
 use borrow.Author.Tests.{not-true, not-false}
 use Rattle.test_lines.proofs.hex.parse_bytes.Goals as goal
@@ -35,4 +35,4 @@ returns c =
     let s = a.s.now in
     let digits = sym (not-false _ c.if-not-all_digits.false-raw) ∙ c.all_digits.ensures in
     let got = answered a.out.now _ _ (fitting_all a.out.now _ _ (bytes_read_lem s (sym c.if-same.false ∙ c.same.ensures) (omega arith) (omega arith) digits) (omega (arith, pairs_length s))) in
-    (record { result_value = ap some (sym (pairs_length s)) ∙ got.0; out_after = c.write_pairs.ensures ∙ got.1 })
+    (record { result_value = ap Some (sym (pairs_length s)) ∙ got.0; out_after = c.write_pairs.ensures ∙ got.1 })

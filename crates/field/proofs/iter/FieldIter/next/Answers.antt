@@ -1,6 +1,6 @@
 -- `field::iter::FieldIter::next` meets its contract: each `return` is a case of `fieldStep`.
+use Rattle.std.specs.Prelude.{Some}
 use Rattle.std.proofs.Common.{ap, ◌∙◌, arith, rules}
-use mathlib.Core.Option.{some}
 use Rattle.vtable.proofs.EntriesLaws.{product}
 use Rattle.field.proofs.FieldsLaws.{not_headed, is_headed, no_header, overruns, passes}
 use Rattle.field.proofs.iter.FieldIter.next.Goals as goal
@@ -21,4 +21,4 @@ pub returns-then-address-gt18446744073709551611 : goal.returns-then-address-gt18
 returns-then-address-gt18446744073709551611 c = passes _ _ _ (omega arith) _ c.part-header.ensures _ _ c.u32_at.ensures c.u16_at.ensures _ _ c.wrapping_add_u64-address.ensures.value (not_headed c.wrapping_add_u64-address.result _ (omega arith)) (omega arith)
 
 pub returns : goal.returns
-returns c = passes _ _ _ (omega arith) _ c.part-header.ensures _ _ c.u32_at.ensures c.u16_at.ensures _ _ c.wrapping_add_u64-address.ensures.value (ap some c.field_descriptor.ensures ∙ is_headed _ _ (omega arith)) (omega arith)
+returns c = passes _ _ _ (omega arith) _ c.part-header.ensures _ _ c.u32_at.ensures c.u16_at.ensures _ _ c.wrapping_add_u64-address.ensures.value (ap Some c.field_descriptor.ensures ∙ is_headed _ _ (omega arith)) (omega arith)
