@@ -1,10 +1,8 @@
 -- A text in a list of bytes, as a computation: up to the first NUL or to the end; it exists only if it is well-formed.
 use Rattle.std.specs.Prelude.{ℕ, zero, suc, Bool, true, false, ◌&&◌, List, [], ◌∷◌, length, replicate, nat_le, Option, Some, None}
 use Rattle.utf8.specs.Table.{ByteRange, table, ◌to◌}
-use Rattle.utf8.specs.declared.Scan.{Scan}
 use Rattle.utf8.specs.declared.Lead.{Lead}
 use Rattle.utf8.specs.declared.Lead.TheVariants.{Alone, Tail, Invalid}
-use Rattle.utf8.specs.declared.Scan.TheVariants.{Text, IllFormed}
 
 abbrev pub in_range : ByteRange → ℕ → Bool
 in_range r b = nat_le r.low b && nat_le b r.high
@@ -35,10 +33,6 @@ until_nul (suc b ∷ s) = suc b ∷ until_nul s
 -- docs/SPECIFICATION.md, "Texts": the length of the text at the start of these bytes, if it is well-formed
 unfoldable pub text_length : List ℕ → Option ℕ
 text_length s = elim (well_formed (until_nul s)) [ true ↦ Some (length (until_nul s)) | false ↦ None ]
-
-abbrev pub scanned : Scan → Option ℕ
-scanned (Text n) = Some n
-scanned IllFormed = None
 
 -- what a lead byte's limits say about the bytes after it: one-to-one (`Utf8Laws.leads-injective`)
 abbrev pub leads : Lead → Option (List ByteRange)

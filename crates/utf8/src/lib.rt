@@ -6,16 +6,7 @@ ghost use Rattle.std.specs.Prelude.{◌≡◌, ◌+◌, ◌<◌, ◌≤◌, true
 ghost use Rattle.utf8.specs.Plain.{Plain};
 ghost use Rattle.utf8.specs.Table.{table};
 ghost use Rattle.utf8.specs.ScanAt.{ScanAt, RowOf};
-ghost use Rattle.utf8.specs.Text.{text_length, scanned, following, leads};
-
-// What the bytes at the start of a slice are.
-#[derive(Clone, Copy)]
-pub enum Scan {
-    // A well-formed text of this many bytes, and then a NUL or the slice's end.
-    Text(usize),
-    // Not a text: some sequence before the first NUL is ill-formed.
-    IllFormed,
-}
+ghost use Rattle.utf8.specs.Text.{text_length, following, leads};
 
 // What a lead byte requires of the bytes after it.
 #[derive(Clone, Copy)]
@@ -206,9 +197,9 @@ fn stretch(at: usize, end: usize) -> usize
 }
 
 // The scan from `at` on, where the first byte is that is not ASCII. Most texts have none, and stay out of it.
-fn scan_from(s: &[u8], at: usize) -> Scan
+fn scan_from(s: &[u8], at: usize) -> Option<usize>
     requires { (at ≤ length s.now) × ScanAt s.now at [] }
-    ensures { scanned result ≡ text_length s.now }
+    ensures { result ≡ text_length s.now }
 {
     let mut i = at;
     let mut formed = true;
@@ -257,25 +248,26 @@ fn scan_from(s: &[u8], at: usize) -> Scan
         i = blocks(s, i);
     }
     if formed {
-        Scan::Text(i)
+        Some(i)
     } else {
-        Scan::IllFormed
+        None
     }
 }
 
-pub fn scan_text(s: &[u8]) -> Scan
-    ensures { scanned result ≡ text_length s.now }
+// The length of the text at the slice's start, which a NUL or the slice's end ends. `None` if a sequence before the first NUL is ill-formed.
+pub fn scan_text(s: &[u8]) -> Option<usize>
+    ensures { result ≡ text_length s.now }
 {
     let mut i = plain_prefix(s);
     while i < s.len() {
         let b = s[i];
         if b == 0 {
-            return Scan::Text(i);
+            return Some(i);
         }
         if b >= 0x80 {
             return scan_from(s, i);
         }
         i += 1;
     }
-    Scan::Text(i)
+    Some(i)
 }

@@ -1,6 +1,5 @@
 use native.Mathlib.Omega.{arith}
 use native.Mathlib.Nat.{add-zero}
-use Rattle.std.specs.Prelude.{true}
 use Rattle.utf8.proofs.Walk.{block_lead, block_tail, tail_done}
 use Rattle.utf8.proofs.row_block.Goals as goal
 
