@@ -1,5 +1,5 @@
 -- Signed numbers as the checker leaves them: read back from their bits. Each law says what a need asks of them.
-use Rattle.std.proofs.Common.{◌≡◌, ℕ, zero, suc, ◌+◌, ◌-◌, ◌%◌, ◌^◌, ◌<◌, ◌≤◌, true, false, T, ℤ, pos, negsuc, ◌-ℤ◌, nat_abs, sym, refl, ap, ◌∙◌, subst, true≢false, arith, to_z-of_z, w32, w64, Fits, SFits, to_z, of_z, le-ltb, lt-ltb, le-leb}
+use Rattle.std.proofs.Common.{◌≡◌, ℕ, suc, ◌+◌, ◌-◌, ◌%◌, ◌^◌, ◌<◌, ◌≤◌, true, false, T, ℤ, pos, negsuc, ◌-ℤ◌, nat_abs, sym, ap, ◌∙◌, subst, true≢false, arith, to_z-of_z, w32, w64, Fits, SFits, to_z, of_z, le-ltb, lt-ltb, le-leb}
 use native.Mathlib.Decide.{dec_lt}
 use mathlib.Core.Path.{subst⁻¹}
 use mathlib.Core.Bool.{false≢true}

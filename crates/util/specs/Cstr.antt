@@ -1,13 +1,8 @@
 -- A text at an offset: docs/SPECIFICATION.md, "Texts".
 use Rattle.std.specs.Prelude.{ℕ, ◌+◌, cond, List, [], length, take, drop, nat_le, Option, Some, None, option_map}
 use Rattle.utf8.specs.Text.{text_length, until_nul, well_formed}
-use Rattle.util.specs.declared.cstr.Text.{Text}
-use Rattle.util.specs.declared.cstr.Text.TheVariants.{At, Nothing}
-
 -- a part of a list of bytes
-pub record Place : Type 0 where
-  pub start : ℕ
-  pub size : ℕ
+pub use Rattle.util.specs.declared.cstr.Place.{Place}
 
 abbrev pub place : ℕ → ℕ → Place
 place o n = record { start = o; size = n }
@@ -19,10 +14,6 @@ text_at s off = cond (nat_le off (length s)) (option_map (place off) (text_lengt
 -- the bytes of a part, none if it does not lie within
 unfoldable pub part_of : List ℕ → Place → List ℕ
 part_of s p = cond (nat_le (p.start + p.size) (length s)) (take p.size (drop p.start s)) []
-
-abbrev pub text_of : Text → Option Place
-text_of (At o n) = Some (place o n)
-text_of Nothing = None
 
 -- the bytes of a text, none if there is none
 abbrev pub text_part : List ℕ → Option Place → List ℕ

@@ -1,9 +1,5 @@
 -- Numbers in bytes, little-endian, for every width: docs/SPECIFICATION.md, "Numbers in bytes".
 use Rattle.std.specs.Prelude.{◌≡◌, ℕ, ◌+◌, ◌-◌, ◌*◌, ◌^◌, ◌<◌, cond, List, [], ◌∷◌, length, take, drop, ℤ, pos, ◌-ℤ◌, nat_le, nat_lt, Option, Some, None, option_map, unwrap_or}
-use Rattle.util.specs.declared.read.ReadU16.{ReadU16}
-use Rattle.util.specs.declared.read.ReadU32.{ReadU32}
-use Rattle.util.specs.declared.read.ReadU64.{ReadU64}
-use Rattle.util.specs.declared.read.ReadI32.{ReadI32}
 
 -- the number that has these bytes, the lowest first
 unfoldable pub little_endian : List ℕ → ℕ
@@ -30,22 +26,6 @@ unsigned_in n header off = unwrap_or (little_at n header off) 0
 
 unfoldable pub signed_in : ℕ → List ℕ → ℕ → ℤ
 signed_in n header off = unwrap_or (signed_at n header off) (pos 0)
-
-abbrev pub u16_value : ReadU16 → Option ℕ
-u16_value (ReadU16.Value n) = Some n
-u16_value ReadU16.Nothing = None
-
-abbrev pub u32_value : ReadU32 → Option ℕ
-u32_value (ReadU32.Value n) = Some n
-u32_value ReadU32.Nothing = None
-
-abbrev pub u64_value : ReadU64 → Option ℕ
-u64_value (ReadU64.Value n) = Some n
-u64_value ReadU64.Nothing = None
-
-abbrev pub i32_value : ReadI32 → Option ℤ
-i32_value (ReadI32.Value n) = Some n
-i32_value ReadI32.Nothing = None
 
 -- a byte at a wider type
 pub record Widened (b r : ℕ) : Type 0 where

@@ -1,14 +1,12 @@
 // Texts that end at a NUL or at the end of their bytes.
 ghost use Rattle.std.specs.Prelude.{◌≡◌};
-ghost use Rattle.util.specs.Cstr.{place, part_of, text_at, text_of, text_part, fixed_text};
-
-use utf8::Scan;
+ghost use Rattle.util.specs.Cstr.{place, part_of, text_at, text_part, fixed_text};
 
 // Where a text lies; its length does not count the NUL.
 #[derive(Clone, Copy)]
-pub enum Text {
-    At { place: usize, length: usize },
-    Nothing,
+pub struct Place {
+    pub start: usize,
+    pub size: usize,
 }
 
 // A part of a slice; empty if it does not lie within the slice.
@@ -27,25 +25,25 @@ pub fn part(s: &[u8], start: usize, length: usize) -> &[u8]
 }
 
 // The text at an offset, if the offset is at most the length and the text is well-formed UTF-8.
-pub fn read_cstr_at(data: &[u8], off: usize) -> Text
-    ensures { text_of result ≡ text_at «data».now off }
+pub fn read_cstr_at(data: &[u8], off: usize) -> Option<Place>
+    ensures { result ≡ text_at «data».now off }
 {
     if data.len() < off {
-        return Text::Nothing;
+        return None;
     }
     match utf8::scan_text(&data[off..]) {
-        Scan::Text(length) => Text::At { place: off, length },
-        Scan::IllFormed => Text::Nothing,
+        Some(size) => Some(Place { start: off, size }),
+        None => None,
     }
 }
 
 // The part of the bytes that an answer is about; empty if there is none.
-pub fn text_part(data: &[u8], text: Text) -> &[u8]
-    ensures { result.now ≡ text_part «data».now (text_of text) }
+pub fn text_part(data: &[u8], text: Option<Place>) -> &[u8]
+    ensures { result.now ≡ text_part «data».now text }
 {
     match text {
-        Text::At { place, length } => part(data, place, length),
-        Text::Nothing => &data[..0],
+        Some(place) => part(data, place.start, place.size),
+        None => &data[..0],
     }
 }
 

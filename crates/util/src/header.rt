@@ -4,14 +4,14 @@ ghost use Rattle.util.specs.LittleEndian.{unsigned_in, signed_in};
 ghost use Rattle.util.specs.Pointer.{relative_address, relative_pointer};
 
 use crate::pointer::{relative_address, relative_pointer};
-use crate::read::{ReadI32, ReadU16, ReadU32, read_i32_le_at, read_u16_le_at, read_u32_le_at};
+use crate::read::{read_i32_le_at, read_u16_le_at, read_u32_le_at};
 
 pub fn u16_at(header: &[u8], off: usize) -> u16
     ensures { result ≡ unsigned_in 2 header.now off }
 {
     match read_u16_le_at(header, off) {
-        ReadU16::Value(n) => n,
-        ReadU16::Nothing => 0,
+        Some(n) => n,
+        None => 0,
     }
 }
 
@@ -19,8 +19,8 @@ pub fn u32_at(header: &[u8], off: usize) -> u32
     ensures { result ≡ unsigned_in 4 header.now off }
 {
     match read_u32_le_at(header, off) {
-        ReadU32::Value(n) => n,
-        ReadU32::Nothing => 0,
+        Some(n) => n,
+        None => 0,
     }
 }
 
@@ -28,8 +28,8 @@ pub fn i32_at(header: &[u8], off: usize) -> i32
     ensures { result ≡ signed_in 4 header.now off }
 {
     match read_i32_le_at(header, off) {
-        ReadI32::Value(n) => n,
-        ReadI32::Nothing => 0,
+        Some(n) => n,
+        None => 0,
     }
 }
 

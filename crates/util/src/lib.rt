@@ -10,10 +10,7 @@ mod read;
 
 pub use big_endian::{read_u32_be_at, read_u64_be_at};
 pub use buffer::put;
-pub use cstr::{Text, cstr_at, cstr_from_fixed, part, read_cstr_at, text_part};
+pub use cstr::{Place, cstr_at, cstr_from_fixed, part, read_cstr_at, text_part};
 pub use header::{address_in, i32_at, pointer_in, u16_at, u32_at};
 pub use pointer::{relative_address, relative_pointer};
-pub use read::{
-    ReadI32, ReadU16, ReadU32, ReadU64, read_i32_le_at, read_u16_le_at, read_u32_le_at,
-    read_u64_le_at,
-};
+pub use read::{read_i32_le_at, read_u16_le_at, read_u32_le_at, read_u64_le_at};

@@ -1,30 +1,6 @@
 // Little-endian numbers at an offset of a slice.
 ghost use Rattle.std.specs.Prelude.{◌≡◌};
-ghost use Rattle.util.specs.LittleEndian.{little_at, signed_at, u16_value, u32_value, u64_value, i32_value, twos_complement, Widened};
-
-#[derive(Clone, Copy)]
-pub enum ReadU16 {
-    Value(u16),
-    Nothing,
-}
-
-#[derive(Clone, Copy)]
-pub enum ReadU32 {
-    Value(u32),
-    Nothing,
-}
-
-#[derive(Clone, Copy)]
-pub enum ReadU64 {
-    Value(u64),
-    Nothing,
-}
-
-#[derive(Clone, Copy)]
-pub enum ReadI32 {
-    Value(i32),
-    Nothing,
-}
+ghost use Rattle.util.specs.LittleEndian.{little_at, signed_at, twos_complement, Widened};
 
 fn byte16(b: u8) -> u16
     ensures { Widened b result }
@@ -38,28 +14,28 @@ pub fn byte32(b: u8) -> u32
     b as u32
 }
 
-pub fn read_u16_le_at(data: &[u8], off: usize) -> ReadU16
-    ensures { u16_value result ≡ little_at 2 «data».now off }
+pub fn read_u16_le_at(data: &[u8], off: usize) -> Option<u16>
+    ensures { result ≡ little_at 2 «data».now off }
 {
     if data.len() < 2 {
-        return ReadU16::Nothing;
+        return None;
     }
     if data.len() - 2 < off {
-        return ReadU16::Nothing;
+        return None;
     }
-    ReadU16::Value(byte16(data[off]) + 256 * byte16(data[off + 1]))
+    Some(byte16(data[off]) + 256 * byte16(data[off + 1]))
 }
 
-pub fn read_u32_le_at(data: &[u8], off: usize) -> ReadU32
-    ensures { u32_value result ≡ little_at 4 «data».now off }
+pub fn read_u32_le_at(data: &[u8], off: usize) -> Option<u32>
+    ensures { result ≡ little_at 4 «data».now off }
 {
     if data.len() < 4 {
-        return ReadU32::Nothing;
+        return None;
     }
     if data.len() - 4 < off {
-        return ReadU32::Nothing;
+        return None;
     }
-    ReadU32::Value(
+    Some(
         byte32(data[off])
             + 256
                 * (byte32(data[off + 1])
@@ -68,15 +44,15 @@ pub fn read_u32_le_at(data: &[u8], off: usize) -> ReadU32
 }
 
 // Two halves of four bytes.
-pub fn read_u64_le_at(data: &[u8], off: usize) -> ReadU64
-    ensures { u64_value result ≡ little_at 8 «data».now off }
+pub fn read_u64_le_at(data: &[u8], off: usize) -> Option<u64>
+    ensures { result ≡ little_at 8 «data».now off }
 {
     match read_u32_le_at(data, off) {
-        ReadU32::Value(low) => match read_u32_le_at(data, off + 4) {
-            ReadU32::Value(high) => ReadU64::Value(low as u64 + 0x1_0000_0000 * (high as u64)),
-            ReadU32::Nothing => ReadU64::Nothing,
+        Some(low) => match read_u32_le_at(data, off + 4) {
+            Some(high) => Some(low as u64 + 0x1_0000_0000 * (high as u64)),
+            None => None,
         },
-        ReadU32::Nothing => ReadU64::Nothing,
+        None => None,
     }
 }
 
@@ -91,11 +67,11 @@ fn signed(n: u32) -> i32
     }
 }
 
-pub fn read_i32_le_at(data: &[u8], off: usize) -> ReadI32
-    ensures { i32_value result ≡ signed_at 4 «data».now off }
+pub fn read_i32_le_at(data: &[u8], off: usize) -> Option<i32>
+    ensures { result ≡ signed_at 4 «data».now off }
 {
     match read_u32_le_at(data, off) {
-        ReadU32::Value(n) => ReadI32::Value(signed(n)),
-        ReadU32::Nothing => ReadI32::Nothing,
+        Some(n) => Some(signed(n)),
+        None => None,
     }
 }
