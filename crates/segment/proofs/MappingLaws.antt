@@ -2,14 +2,10 @@
 use Rattle.std.specs.Prelude.{ℕ, ◌+◌, ◌-◌, ◌^◌, ◌≤◌, ◌<◌, min, max, ◌≡◌, refl, true, false, List, ◌∷◌, length, drop, get_or, ltb, Option, Some, None}
 use Rattle.std.proofs.Math.Decide.{dec_lt}
 use Rattle.std.proofs.Common.{arith, sym, ap, ◌∙◌, subst, ltb-true, eq-eqb, ne_eqb}
-use Rattle.segment.specs.Segments.{Segment, segments_of, file_offset, decides, in_file, decided, offset_of}
+use Rattle.segment.specs.Segments.{Segment, segments_of, file_offset, decides, in_file}
 use Rattle.segment.proofs.SegmentsLaws.{below, above, empty, held, past_file, offset_wraps, in_file_lem, segment_at, told, left}
 use Rattle.segment.specs.Mapping.{LocatedNear, with_mapping, TrueMapping, Has, Exact, Located, Covered, Part, Clipped}
 use Rattle.segment.specs.declared.segment.Mapping.{Mapping}
-use Rattle.segment.specs.declared.segment.Around.{Around}
-use Rattle.segment.specs.declared.segment.FileOffset.{FileOffset}
-use Rattle.segment.specs.declared.segment.Lookup.{Lookup}
-use Rattle.segment.specs.declared.segment.Lookup.TheVariants.{Answer, Next}
 
 -- what the mapping itself says of an address
 abbrev first : Mapping → Segment
@@ -27,12 +23,12 @@ asked segments m v h =
           rw (eq-eqb m.size 0 (omega arith), ← d)
     ]
 
-module _ (segments : List ℕ) (m : Mapping) (v : ℕ) (h : m.vmaddr < 2 ^ 64) (r : Lookup) (e : decided r ≡ decides (first m) v) where
-  pub near_answer : (o : FileOffset) → r ≡ Answer o → offset_of o ≡ file_offset (segments_of (with_mapping m segments)) v
+module _ (segments : List ℕ) (m : Mapping) (v : ℕ) (h : m.vmaddr < 2 ^ 64) (r : Option (Option ℕ)) (e : r ≡ decides (first m) v) where
+  pub near_answer : (o : Option ℕ) → r ≡ Some o → o ≡ file_offset (segments_of (with_mapping m segments)) v
   unfolding file_offset
   near_answer o t = rw (asked segments m v h, ← e, t)
 
-  pub near_next : (x : Option ℕ) → r ≡ Next → x ≡ file_offset (segments_of segments) v → x ≡ file_offset (segments_of (with_mapping m segments)) v
+  pub near_next : (x : Option ℕ) → r ≡ None → x ≡ file_offset (segments_of segments) v → x ≡ file_offset (segments_of (with_mapping m segments)) v
   unfolding file_offset
   near_next x t f = f ∙ rw (asked segments m v h, ← e, t)
 
@@ -157,18 +153,18 @@ module _ (l : List ℕ) (a low high i : ℕ) (p : Passed l a low high i) (ends :
     around_mapped : TrueMapping l m
     around_mapped = mapped l m (omega (arith, w.to)) w.fits (λ v f t. around_exact.offset v (record { from = f; to = t }))
 
-  pub located : (r : Around) → Clipped low high (segment_at l i) a r → Located l a r
-  located (Around.Mapping m) w = (around_mapped m w, w.has, around_exact m w)
-  located Around.Nothing w = told l i a _ p.sought None w h
+  pub located : (r : Option Mapping) → Clipped low high (segment_at l i) a r → Located l a r
+  located (Some m) w = (around_mapped m w, w.has, around_exact m w)
+  located None w = told l i a _ p.sought None w h
 
 -- ---- what `locate` promises fixes the address's offset, and the answer if it has none
 
-pub located_offset : (segments : List ℕ) (v : ℕ) (m : Mapping) → Located segments v (Around.Mapping m) → file_offset (segments_of segments) v ≡ Some (m.fileoff + (v - m.vmaddr))
+pub located_offset : (segments : List ℕ) (v : ℕ) (m : Mapping) → Located segments v (Some m) → file_offset (segments_of segments) v ≡ Some (m.fileoff + (v - m.vmaddr))
 located_offset segments v m w = w.2.offset v w.1
 
-pub located_nowhere : (segments : List ℕ) (v : ℕ) (r : Around) → None ≡ file_offset (segments_of segments) v → Located segments v r → r ≡ Around.Nothing
-located_nowhere segments v Around.Nothing e w = refl
-located_nowhere segments v (Around.Mapping m) e w =
+pub located_nowhere : (segments : List ℕ) (v : ℕ) (r : Option Mapping) → None ≡ file_offset (segments_of segments) v → Located segments v r → r ≡ None
+located_nowhere segments v None e w = refl
+located_nowhere segments v (Some m) e w =
     let f : None ≡ Some (m.fileoff + (v - m.vmaddr)) = e ∙ located_offset segments v m w in
     let z : ◌≡◌ {A = ℕ} 0 1 = cc in
     absurd (omega arith)
@@ -182,12 +178,12 @@ module _ (m : Mapping) (v : ℕ) where
   pub has_within : m.vmaddr ≤ v → ltb (v - m.vmaddr) m.size ≡ true → Has m v
   has_within h e = record { from = h; to = omega (arith, ltb-true (v - m.vmaddr) m.size e) }
 
-pub near_found : (segments : List ℕ) (m : Mapping) (v : ℕ) (r : Around) → Located segments v r → LocatedNear segments m v r
-near_found segments m v (Around.Mapping r) l = (λ w. l.0, l.1)
-near_found segments m v Around.Nothing l = l
+pub near_found : (segments : List ℕ) (m : Mapping) (v : ℕ) (r : Option Mapping) → Located segments v r → LocatedNear segments m v r
+near_found segments m v (Some r) l = (λ w. l.0, l.1)
+near_found segments m v None l = l
 
-pub near_mapped : (segments : List ℕ) (m : Mapping) (v : ℕ) (r : Around) (n : Mapping) → r ≡ Around.Mapping n → LocatedNear segments m v r → TrueMapping segments m → TrueMapping segments n
+pub near_mapped : (segments : List ℕ) (m : Mapping) (v : ℕ) (r : Option Mapping) (n : Mapping) → r ≡ Some n → LocatedNear segments m v r → TrueMapping segments m → TrueMapping segments n
 near_mapped segments m v r n e l = (subst (LocatedNear segments m v) e l).0
 
-pub near_nowhere : (segments : List ℕ) (m : Mapping) (v : ℕ) (r : Around) → r ≡ Around.Nothing → LocatedNear segments m v r → None ≡ file_offset (segments_of segments) v
+pub near_nowhere : (segments : List ℕ) (m : Mapping) (v : ℕ) (r : Option Mapping) → r ≡ None → LocatedNear segments m v r → None ≡ file_offset (segments_of segments) v
 near_nowhere segments m v r e l = subst (LocatedNear segments m v) e l

@@ -4,10 +4,7 @@ use Rattle.std.proofs.Common.{add-zero, arith, sym, ap, ◌∙◌, drop-drop, ge
 use Rattle.std.proofs.Math.Decide.{dec_lt}
 use Rattle.std.proofs.Math.ListN.{length, length-drop}
 use borrow.Author.Tests.{le-leb, lt-leb, lt-ltb, le-ltb}
-use Rattle.segment.specs.Segments.{Segment, segments_of, file_offset, decides, in_file, decided, offset_of}
-use Rattle.segment.specs.declared.segment.FileOffset.{FileOffset}
-use Rattle.segment.specs.declared.segment.Lookup.{Lookup}
-use Rattle.segment.specs.declared.segment.Lookup.TheVariants.{Answer, Next}
+use Rattle.segment.specs.Segments.{Segment, segments_of, file_offset, decides, in_file}
 
 module _ (s : Segment) (v : ℕ) where
   pub wraps : 2 ^ 64 ≤ s.vmaddr + s.vmsize → Some None ≡ decides s v
@@ -102,11 +99,11 @@ module _ (l : List ℕ) (i v : ℕ) where
     unfolding file_offset
     left e h = inv ∙ rw (segments_step h, ← e)
 
-    pub lookup_answer : (r : Lookup) (o : FileOffset) → decided r ≡ decides (segment_at l i) v → r ≡ Answer o → i + 4 ≤ length l → offset_of o ≡ x
-    lookup_answer r o e t = told (offset_of o) (ap decided (sym t) ∙ e)
+    pub lookup_answer : (r : Option (Option ℕ)) (o : Option ℕ) → r ≡ decides (segment_at l i) v → r ≡ Some o → i + 4 ≤ length l → o ≡ x
+    lookup_answer r o e t = told o (sym t ∙ e)
 
-    pub lookup_next : (r : Lookup) → decided r ≡ decides (segment_at l i) v → r ≡ Next → i + 4 ≤ length l → x ≡ file_offset (segments_of (drop (i + 4) l)) v
-    lookup_next r e t = left (ap decided (sym t) ∙ e)
+    pub lookup_next : (r : Option (Option ℕ)) → r ≡ decides (segment_at l i) v → r ≡ None → i + 4 ≤ length l → x ≡ file_offset (segments_of (drop (i + 4) l)) v
+    lookup_next r e t = left (sym t ∙ e)
 
     pub lookup_end : length l < i + 4 → None ≡ x
     unfolding file_offset

@@ -3,11 +3,9 @@ use Rattle.std.specs.Prelude.{ℕ, ◌+◌, ◌-◌, ◌^◌, ◌≤◌, ◌<◌
 use Rattle.std.proofs.Math.Decide.{dec_lt}
 use Rattle.std.proofs.Common.{arith, ◌∙◌, ap}
 use Rattle.std.proofs.Math.ListN.{length, length-drop}
-use Rattle.segment.specs.Segments.{Segment, segments_of, file_offset, decides, in_file, decided, offset_of}
+use Rattle.segment.specs.Segments.{Segment, segments_of, file_offset, decides, in_file}
 use Rattle.segment.proofs.SegmentsLaws.{wraps, below, above, no_bytes, held, past_file, offset_wraps, in_file_lem, segment_at, segments_step, segments_end}
 use Rattle.segment.specs.VmAddress.{turned, vm_address}
-use Rattle.segment.specs.declared.segment.FileOffset.{FileOffset}
-use Rattle.segment.specs.declared.segment.Lookup.{Lookup}
 
 -- what a segment that is turned round by hand says, with its `m` bytes in both
 pub by_hand : (s : Segment) (o m : ℕ) (y : Option (Option ℕ)) → m ≡ min s.vmsize s.filesize
@@ -16,11 +14,11 @@ by_hand s o m y e d = rw e at d
 
 -- `x`, what the numbers from `i` on say, is what the segment there says, or what those after it say
 module _ (l : List ℕ) (i o : ℕ) (x : Option ℕ) (inv : x ≡ vm_address (segments_of (drop i l)) o) where
-  pub turn_answer : (r : Lookup) (a : FileOffset) (y : Option ℕ) → decided r ≡ decides (turned (segment_at l i)) o → r ≡ Lookup.Answer a → y ≡ offset_of a → i + 4 ≤ length l → y ≡ x
+  pub turn_answer : (r : Option (Option ℕ)) (a : Option ℕ) → r ≡ decides (turned (segment_at l i)) o → r ≡ Some a → i + 4 ≤ length l → a ≡ x
   unfolding vm_address file_offset
-  turn_answer r a y e t v h = v ∙ rw (inv, segments_step l i o h, ← e, t)
+  turn_answer r a e t h = rw (inv, segments_step l i o h, ← e, t)
 
-  pub turn_next : (r : Lookup) → decided r ≡ decides (turned (segment_at l i)) o → r ≡ Lookup.Next → i + 4 ≤ length l → x ≡ vm_address (segments_of (drop (i + 4) l)) o
+  pub turn_next : (r : Option (Option ℕ)) → r ≡ decides (turned (segment_at l i)) o → r ≡ None → i + 4 ≤ length l → x ≡ vm_address (segments_of (drop (i + 4) l)) o
   unfolding vm_address file_offset
   turn_next r e t h = inv ∙ rw (segments_step l i o h, ← e, t)
 

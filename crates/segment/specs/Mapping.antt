@@ -1,8 +1,7 @@
 -- Addresses that the segments map to the file one after the other. A true mapping saves a walk over the segments and changes no answer.
-use Rattle.std.specs.Prelude.{ℕ, ◌+◌, ◌-◌, ◌^◌, ◌≤◌, ◌<◌, ◌≡◌, cond, List, ◌∷◌, eqb, Some, None}
+use Rattle.std.specs.Prelude.{ℕ, ◌+◌, ◌-◌, ◌^◌, ◌≤◌, ◌<◌, ◌≡◌, cond, List, ◌∷◌, eqb, Option, Some, None}
 use Rattle.segment.specs.Segments.{Segment, segments_of, file_offset, decides}
 use Rattle.segment.specs.declared.segment.Mapping.{Mapping}
-use Rattle.segment.specs.declared.segment.Around.{Around}
 
 -- the segments' numbers with a mapping before them as one more segment: what a call that takes a mapping answers by. A mapping without
 -- addresses adds nothing: with `NO_MAPPING` this computes to the segments.
@@ -24,14 +23,14 @@ pub record Exact (segments : List ℕ) (m : Mapping) : Type 0 where
 
 -- the answer of `locate`: a mapping that has the address, or that this address is not in the file. How many addresses around it the
 -- mapping has is left open.
-abbrev pub Located : List ℕ → ℕ → Around → Type 0
-Located segments v (Around.Mapping m) = TrueMapping segments m × Has m v × Exact segments m
-Located segments v Around.Nothing = None ≡ file_offset (segments_of segments) v
+abbrev pub Located : List ℕ → ℕ → Option Mapping → Type 0
+Located segments v (Some m) = TrueMapping segments m × Has m v × Exact segments m
+Located segments v None = None ≡ file_offset (segments_of segments) v
 
 -- the same with the caller's mapping, which is the answer if it has the address: the answer is true if the caller's mapping is
-abbrev pub LocatedNear : List ℕ → Mapping → ℕ → Around → Type 0
-LocatedNear segments m v (Around.Mapping r) = (TrueMapping segments m → TrueMapping segments r) × Has r v
-LocatedNear segments m v Around.Nothing = None ≡ file_offset (segments_of segments) v
+abbrev pub LocatedNear : List ℕ → Mapping → ℕ → Option Mapping → Type 0
+LocatedNear segments m v (Some r) = (TrueMapping segments m → TrueMapping segments r) × Has r v
+LocatedNear segments m v None = None ≡ file_offset (segments_of segments) v
 
 -- a segment covers an address that is one of those from `low` up to `high`; `high` is 2^64 - 1 where nothing bounds it
 pub record Covered (low high : ℕ) (s : Segment) (v : ℕ) : Type 0 where
@@ -49,6 +48,6 @@ pub record Part (low high : ℕ) (s : Segment) (v : ℕ) (m : Mapping) : Type 0 
   pub offset : m.fileoff + s.vmaddr ≡ s.fileoff + m.vmaddr
 
 -- or that the segment does not have the address in the file
-abbrev pub Clipped : ℕ → ℕ → Segment → ℕ → Around → Type 0
-Clipped low high s v (Around.Mapping m) = Part low high s v m
-Clipped low high s v Around.Nothing = Some None ≡ decides s v
+abbrev pub Clipped : ℕ → ℕ → Segment → ℕ → Option Mapping → Type 0
+Clipped low high s v (Some m) = Part low high s v m
+Clipped low high s v None = Some None ≡ decides s v

@@ -1,8 +1,6 @@
 -- From an address to a file offset: docs/SPECIFICATION.md, "File offsets". A segment is the four
 -- numbers of a `segment_command_64` of mach-o/loader.h that say where it lies.
 use Rattle.std.specs.Prelude.{ℕ, ◌+◌, ◌-◌, ◌^◌, List, [], ◌∷◌, Bool, cond, ◌&&◌, ◌||◌, leb, ltb, Option, Some, None, unwrap_or}
-use Rattle.segment.specs.declared.segment.FileOffset.{FileOffset}
-use Rattle.segment.specs.declared.segment.Lookup.{Lookup}
 
 pub record Segment : Type 0 where
   pub vmaddr : ℕ
@@ -26,7 +24,7 @@ covers s v = leb s.vmaddr v && ltb v (s.vmaddr + s.vmsize) && ltb 0 s.filesize
 unfoldable pub in_file : Segment → ℕ → Option ℕ
 in_file s d = cond (leb s.filesize d || leb (2 ^ 64) (s.fileoff + d)) None (Some (s.fileoff + d))
 
--- what a segment says of an address: `none` leaves it to the next segment
+-- what a segment says of an address: `None` leaves it to the next segment
 unfoldable pub decides : Segment → ℕ → Option (Option ℕ)
 decides s v =
     cond (leb (2 ^ 64) (s.vmaddr + s.vmsize)) (Some None)
@@ -36,11 +34,3 @@ decides s v =
 unfoldable pub file_offset : List Segment → ℕ → Option ℕ
 file_offset [] v = None
 file_offset (s ∷ ss) v = unwrap_or (decides s v) (file_offset ss v)
-
-abbrev pub offset_of : FileOffset → Option ℕ
-offset_of (FileOffset.At o) = Some o
-offset_of FileOffset.Nothing = None
-
-abbrev pub decided : Lookup → Option (Option ℕ)
-decided (Lookup.Answer o) = Some (offset_of o)
-decided Lookup.Next = None

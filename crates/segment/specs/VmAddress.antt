@@ -1,8 +1,7 @@
 -- From a file offset to an address (docs/SPECIFICATION.md, "File offsets"): the segments seen from the file. The first file bytes of a
 -- `segment_command_64` (mach-o/loader.h) lie at its first addresses, and the file bytes past `vmsize` at none.
-use Rattle.std.specs.Prelude.{ℕ, min, List, map, Option, Some, None}
+use Rattle.std.specs.Prelude.{ℕ, min, List, map, Option}
 use Rattle.segment.specs.Segments.{Segment, file_offset}
-use Rattle.segment.specs.declared.file_offset.VmAddress.{VmAddress}
 
 -- offsets and addresses exchanged, and only what has both
 abbrev pub turned : Segment → Segment
@@ -11,7 +10,3 @@ turned s = record { vmaddr = s.fileoff; vmsize = min s.vmsize s.filesize; fileof
 -- the address is to the turned segments what the offset is to the segments
 unfoldable pub vm_address : List Segment → ℕ → Option ℕ
 vm_address segments o = file_offset (map turned segments) o
-
-abbrev pub address_of : VmAddress → Option ℕ
-address_of (VmAddress.At v) = Some v
-address_of VmAddress.Nothing = None

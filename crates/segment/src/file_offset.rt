@@ -1,43 +1,27 @@
 // From a file offset to an address, by the segments: the way back from `vm_to_file_offset_in`.
 ghost use Rattle.std.specs.Prelude.{◌≡◌};
-ghost use Rattle.segment.specs.Segments.{segments_of, offset_of};
-ghost use Rattle.segment.specs.VmAddress.{vm_address, address_of};
+ghost use Rattle.segment.specs.Segments.{segments_of};
+ghost use Rattle.segment.specs.VmAddress.{vm_address};
 
-use crate::segment::{FileOffset, Lookup, look_up, lower};
-
-#[derive(Clone, Copy)]
-pub enum VmAddress {
-    At(u64),
-    Nothing,
-}
-
-// An offset in a segment that is turned round is an address.
-fn as_address(found: FileOffset) -> VmAddress
-    ensures { address_of result ≡ offset_of found }
-{
-    match found {
-        FileOffset::At(n) => VmAddress::At(n),
-        FileOffset::Nothing => VmAddress::Nothing,
-    }
-}
+use crate::segment::{look_up, lower};
 
 // The address of a file offset. A last piece of fewer than four numbers is not a segment. `mapped` is how many of a segment's file bytes
 // have an address.
-pub fn file_offset_to_vm_in(segments: &[u64], offset: u64) -> VmAddress
-    ensures { address_of result ≡ vm_address (segments_of segments.now) offset }
+pub fn file_offset_to_vm_in(segments: &[u64], offset: u64) -> Option<u64>
+    ensures { result ≡ vm_address (segments_of segments.now) offset }
 {
     let mut i = 0;
     while 4 <= segments.len() - i {
         let mapped = lower(segments[i + 1], segments[i + 3]);
         let found = look_up(segments[i + 2], mapped, segments[i], mapped, offset);
         match found {
-            Lookup::Answer(address) => {
-                return as_address(address);
+            Some(address) => {
+                return address;
             }
-            Lookup::Next => {
+            None => {
                 i += 4;
             }
         }
     }
-    VmAddress::Nothing
+    None
 }

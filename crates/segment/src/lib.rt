@@ -5,8 +5,7 @@
 mod file_offset;
 mod segment;
 
-pub use file_offset::{VmAddress, file_offset_to_vm_in};
+pub use file_offset::file_offset_to_vm_in;
 pub use segment::{
-    Around, FileOffset, Mapping, NO_MAPPING, locate, locate_near, vm_to_file_offset_in,
-    vm_to_file_offset_near,
+    Mapping, NO_MAPPING, locate, locate_near, vm_to_file_offset_in, vm_to_file_offset_near,
 };

@@ -1,49 +1,43 @@
 // From an address to a file offset, by the segments: the caller's list of numbers, four to a segment.
 ghost use Rattle.std.specs.Prelude.{◌≡◌, true, ◌+◌, ◌≤◌, ◌<◌, ◌^◌, min, max};
-ghost use Rattle.segment.specs.Segments.{file_offset, segments_of, decides, offset_of, decided};
+ghost use Rattle.segment.specs.Segments.{file_offset, segments_of, decides};
 ghost use Rattle.segment.specs.Mapping.{LocatedNear, Has, Covered, Clipped, Located, with_mapping};
 
-#[derive(Clone, Copy)]
-pub enum FileOffset {
-    At(u64),
-    Nothing,
-}
-
-// What one segment says of an address: the answer, or that the next segment decides.
-#[derive(Clone, Copy)]
-pub enum Lookup {
-    Answer(FileOffset),
-    Next,
-}
-
-pub fn look_up(vmaddr: u64, vmsize: u64, fileoff: u64, filesize: u64, address: u64) -> Lookup
-    ensures { decided result ≡ decides (record { vmaddr = vmaddr; vmsize = vmsize; fileoff = fileoff; filesize = filesize }) address }
+// What one segment says of an address: its file offset, if it has one, or `None` where the next segment decides.
+pub fn look_up(
+    vmaddr: u64,
+    vmsize: u64,
+    fileoff: u64,
+    filesize: u64,
+    address: u64,
+) -> Option<Option<u64>>
+    ensures { result ≡ decides (record { vmaddr = vmaddr; vmsize = vmsize; fileoff = fileoff; filesize = filesize }) address }
 {
     if vmsize > u64::MAX - vmaddr {
-        return Lookup::Answer(FileOffset::Nothing);
+        return Some(None);
     }
     if address < vmaddr {
-        return Lookup::Next;
+        return None;
     }
     let delta = address - vmaddr;
     if vmsize <= delta {
-        return Lookup::Next;
+        return None;
     }
     if filesize == 0 {
-        return Lookup::Next;
+        return None;
     }
     if filesize <= delta {
-        return Lookup::Answer(FileOffset::Nothing);
+        return Some(None);
     }
     if delta > u64::MAX - fileoff {
-        return Lookup::Answer(FileOffset::Nothing);
+        return Some(None);
     }
-    Lookup::Answer(FileOffset::At(fileoff + delta))
+    Some(Some(fileoff + delta))
 }
 
 // The file offset of an address. A last piece of fewer than four numbers is not a segment.
-pub fn vm_to_file_offset_in(segments: &[u64], vmaddr: u64) -> FileOffset
-    ensures { offset_of result ≡ file_offset (segments_of segments.now) vmaddr }
+pub fn vm_to_file_offset_in(segments: &[u64], vmaddr: u64) -> Option<u64>
+    ensures { result ≡ file_offset (segments_of segments.now) vmaddr }
 {
     let mut i = 0;
     while 4 <= segments.len() - i {
@@ -55,15 +49,15 @@ pub fn vm_to_file_offset_in(segments: &[u64], vmaddr: u64) -> FileOffset
             vmaddr,
         );
         match found {
-            Lookup::Answer(offset) => {
+            Some(offset) => {
                 return offset;
             }
-            Lookup::Next => {
+            None => {
                 i += 4;
             }
         }
     }
-    FileOffset::Nothing
+    None
 }
 
 // Addresses that lie one after the other in the file: `size` of them from `vmaddr` on, the first at `fileoff`.
@@ -80,14 +74,6 @@ pub const NO_MAPPING: Mapping = Mapping {
     size: 0,
     fileoff: 0,
 };
-
-// What is in the file around an address.
-#[derive(Clone, Copy)]
-pub enum Around {
-    Mapping(Mapping),
-    // Not even the address itself.
-    Nothing,
-}
 
 pub fn lower(a: u64, b: u64) -> u64
     ensures { result ≡ min a b }
@@ -111,19 +97,19 @@ fn clip(
     fileoff: u64,
     filesize: u64,
     address: u64,
-) -> Around
+) -> Option<Mapping>
     requires { Covered low high (record { vmaddr = vmaddr; vmsize = vmsize; fileoff = fileoff; filesize = filesize }) address }
     ensures { Clipped low high (record { vmaddr = vmaddr; vmsize = vmsize; fileoff = fileoff; filesize = filesize }) address result }
 {
     let delta = address - vmaddr;
     if delta >= filesize {
-        return Around::Nothing;
+        return None;
     }
     if delta > u64::MAX - fileoff {
-        return Around::Nothing;
+        return None;
     }
     if filesize > u64::MAX - fileoff {
-        return Around::Mapping(Mapping {
+        return Some(Mapping {
             vmaddr: address,
             size: 1,
             fileoff: fileoff + delta,
@@ -131,16 +117,17 @@ fn clip(
     }
     let start = higher(low, vmaddr);
     let end = lower(high, vmaddr + lower(vmsize, filesize));
-    Around::Mapping(Mapping {
+    Some(Mapping {
         vmaddr: start,
         size: end - start,
         fileoff: fileoff + (start - vmaddr),
     })
 }
 
-// What is in the file around an address: those addresses of its segment about which no earlier segment decides. The tests are those of
+// What is in the file around an address: those addresses of its segment about which no earlier segment decides, or `None` where not even
+// the address itself is in the file. The tests are those of
 // `look_up`; on each way past a segment one bound moves at most.
-pub fn locate(segments: &[u64], address: u64) -> Around
+pub fn locate(segments: &[u64], address: u64) -> Option<Mapping>
     ensures { Located segments.now address result }
 {
     let mut low = 0;
@@ -150,7 +137,7 @@ pub fn locate(segments: &[u64], address: u64) -> Around
         let vmaddr = segments[i];
         let vmsize = segments[i + 1];
         if u64::MAX - vmaddr < vmsize {
-            return Around::Nothing;
+            return None;
         }
         if address < vmaddr {
             high = lower(high, vmaddr);
@@ -175,7 +162,7 @@ pub fn locate(segments: &[u64], address: u64) -> Around
         }
         i += 4;
     }
-    Around::Nothing
+    None
 }
 
 // Whether an address is one of the mapping's.
@@ -189,19 +176,19 @@ fn has(mapping: Mapping, address: u64) -> bool
 }
 
 // What is in the file around an address: the caller's mapping, if it has the address, or what `locate` finds.
-pub fn locate_near(segments: &[u64], mapping: Mapping, address: u64) -> Around
+pub fn locate_near(segments: &[u64], mapping: Mapping, address: u64) -> Option<Mapping>
     ensures { LocatedNear segments.now mapping address result }
 {
     if has(mapping, address) {
-        return Around::Mapping(mapping);
+        return Some(mapping);
     }
     locate(segments, address)
 }
 
 // The file offset of an address, without a walk over the segments if the mapping has it: the mapping is tried before them, as one more
 // segment.
-pub fn vm_to_file_offset_near(segments: &[u64], mapping: Mapping, vmaddr: u64) -> FileOffset
-    ensures { offset_of result ≡ file_offset (segments_of (with_mapping mapping segments.now)) vmaddr }
+pub fn vm_to_file_offset_near(segments: &[u64], mapping: Mapping, vmaddr: u64) -> Option<u64>
+    ensures { result ≡ file_offset (segments_of (with_mapping mapping segments.now)) vmaddr }
 {
     let found = look_up(
         mapping.vmaddr,
@@ -211,7 +198,7 @@ pub fn vm_to_file_offset_near(segments: &[u64], mapping: Mapping, vmaddr: u64) -
         vmaddr,
     );
     match found {
-        Lookup::Answer(offset) => offset,
-        Lookup::Next => vm_to_file_offset_in(segments, vmaddr),
+        Some(offset) => offset,
+        None => vm_to_file_offset_in(segments, vmaddr),
     }
 }

@@ -7,16 +7,16 @@ use Rattle.segment.proofs.segment.vm_to_file_offset_in.Goals as goal
 pub loop-i-init : goal.loop-i-init
 loop-i-init c = (omega arith, refl)
 
-pub returns-in-Answer : goal.returns-in-Answer
-returns-in-Answer c =
+pub returns-in-Some : goal.returns-in-Some
+returns-in-Some c =
     lookup_answer c.args.segments.now c.loop-i.i c.args.vmaddr _ c.loop-i.invariant.1 _ _
-    c.look_up-found.ensures c.in-Answer.is (omega arith)
+    c.look_up-found.ensures c.in-Some.is (omega arith)
 
 pub loop-i-preserved : goal.loop-i-preserved
 loop-i-preserved c = (
   search rules,
   lookup_next c.args.segments.now c.loop-i.i c.args.vmaddr _ c.loop-i.invariant.1 _
-      c.look_up-found.ensures c.in-Next.is (omega arith),
+      c.look_up-found.ensures c.in-None.is (omega arith),
 )
 
 pub returns : goal.returns

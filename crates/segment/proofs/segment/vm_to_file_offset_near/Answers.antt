@@ -3,8 +3,8 @@ use native.Mathlib.Omega.{arith}
 use Rattle.segment.proofs.MappingLaws.{near_answer, near_next}
 use Rattle.segment.proofs.segment.vm_to_file_offset_near.Goals as goal
 
-pub returns-in-Answer : goal.returns-in-Answer
-returns-in-Answer c = near_answer _ _ _ (omega arith) _ c.look_up-found.ensures _ c.in-Answer.is
+pub returns-in-Some : goal.returns-in-Some
+returns-in-Some c = near_answer _ _ _ (omega arith) _ c.look_up-found.ensures _ c.in-Some.is
 
-pub returns-in-Next : goal.returns-in-Next
-returns-in-Next c = near_next _ _ _ (omega arith) _ c.look_up-found.ensures _ c.in-Next.is c.vm_to_file_offset_in.ensures
+pub returns-in-None : goal.returns-in-None
+returns-in-None c = near_next _ _ _ (omega arith) _ c.look_up-found.ensures _ c.in-None.is c.vm_to_file_offset_in.ensures
