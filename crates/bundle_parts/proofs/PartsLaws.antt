@@ -1,9 +1,8 @@
 -- What the reads of the code, one after the other, say about the segments; and that the segment with a number is the one with that number
 -- in the list of all. Assumes nothing.
-use Rattle.std.specs.Prelude.{ℕ, zero, suc, ◌+◌, ◌*◌, ◌/◌, ◌%◌, ◌≤◌, ◌<◌, min, ◌≡◌, refl, List, [], ◌∷◌, ◌++◌, length, take, drop, get_or, set, Some, None}
+use Rattle.std.specs.Prelude.{ℕ, zero, suc, ◌+◌, ◌*◌, ◌/◌, ◌%◌, ◌≤◌, ◌<◌, min, ◌≡◌, refl, List, [], ◌∷◌, ◌++◌, length, take, drop, get_or, set, Some, None, slice_get}
 use Rattle.std.proofs.Math.Decide.{dec_le}
 use Rattle.std.proofs.Common.{add-one, arith, sym, ◌∙◌, ap, append_assoc, length-set, length-append, length-drop, take_at, drop-drop, drop-cons, length-take-le, le-leb}
-use Rattle.std.proofs.Math.ListN.{get_elem?}
 use Rattle.std.proofs.lemmas.List.{set_at}
 use Rattle.std.proofs.lemmas.Bool.{lt-leb}
 use Rattle.util.specs.LittleEndian.{little_endian}
@@ -184,15 +183,15 @@ segment_later body k =
     later o at e = rw (e, drop-drop)
 
 -- so the segment with a number is the one with that number among all
-segment_nth : (n : ℕ) (body : List ℕ) (k : ℕ) → n ≡ length body / 32 → segment_in body k ≡ get_elem? (segments_of (numbers (4 * n) body)) k
+segment_nth : (n : ℕ) (body : List ℕ) (k : ℕ) → n ≡ length body / 32 → segment_in body k ≡ slice_get (segments_of (numbers (4 * n) body)) k
 unfolding numbers segments_of
 segment_nth zero body k e = sym (segment_past body k (omega arith))
 segment_nth (suc n) body zero e =
-    sym (segment_there body 0 _ _ _ _ refl refl refl refl (omega arith)) ∙ ap (λ (l : List Segment). get_elem? l 0) (sym (all_of n body))
+    sym (segment_there body 0 _ _ _ _ refl refl refl refl (omega arith)) ∙ ap (λ (l : List Segment). slice_get l 0) (sym (all_of n body))
 segment_nth (suc n) body (suc k) e =
     segment_later body k
     ∙ segment_nth n (drop 32 body) k (omega (arith, length-drop 32 body))
-    ∙ ap (λ (l : List Segment). get_elem? l (suc k)) (sym (all_of n body))
+    ∙ ap (λ (l : List Segment). slice_get l (suc k)) (sym (all_of n body))
 
-pub segment_listed : (s : List ℕ) (l : Layout) (k : ℕ) → segment_in (segment_bytes s l) k ≡ get_elem? (segments_of (segment_numbers s l)) k
+pub segment_listed : (s : List ℕ) (l : Layout) (k : ℕ) → segment_in (segment_bytes s l) k ≡ slice_get (segments_of (segment_numbers s l)) k
 segment_listed s l k = segment_nth (length (segment_bytes s l) / 32) (segment_bytes s l) k refl

@@ -4,9 +4,9 @@ use Rattle.std.proofs.Math.Decide.{dec_le}
 use native.Mathlib.Omega.{arith}
 use Rattle.std.proofs.Common.{add-one, pow-suc, mul-le-mul_right, sub-eq-zero_of_le, ◌∙◌, le-leb}
 use Rattle.std.proofs.Math.Path.{◌≡◌, refl, sym, ap}
-use Rattle.std.specs.Prelude.{List, [], ◌∷◌, map, Bool, length, leb, Option, Some, None, option_map}
+use Rattle.std.specs.Prelude.{List, [], ◌∷◌, map, Bool, length, leb, Option, Some, None, option_map, slice_get}
 use Rattle.std.proofs.Math.Bool.{true, false, cond}
-use Rattle.std.proofs.Math.ListN.{get_elem?, get_or-eq_default}
+use Rattle.std.proofs.Math.ListN.{get_or-eq_default}
 use Rattle.std.specs.Int.Count.{ones, ones_step}
 use Rattle.std.proofs.lemmas.Bool.{lt-leb}
 use Rattle.runtime.specs.Reads.{done, run, and_then}
@@ -86,7 +86,7 @@ no_row n t h = rw (get_or-eq_default block_table (plain BlockKind.Generic (λ _.
 pub kind_as : (n k : ℕ) (x : Option BlockKind) → n ≡ k → x ≡ kind_numbered k → x ≡ kind_numbered n
 kind_as n k x e f = rw e f
 
-past_end : (l : List BlockKind) (n : ℕ) → length l ≤ n → None ≡ get_elem? l n
+past_end : (l : List BlockKind) (n : ℕ) → length l ≤ n → None ≡ slice_get l n
 past_end [] n h = refl
 past_end (a ∷ l) zero h = absurd (omega arith)
 past_end (a ∷ l) (suc n) h = past_end l n (omega arith)
@@ -99,7 +99,7 @@ none_past : (n : ℕ) → None ≡ kind_numbered n → 11 ≤ n
 unfolding kind_numbered
 none_past n e = there (map (λ (r : BlockRow). r.kind) block_table) n e
   where
-    there : (l : List BlockKind) (n : ℕ) → None ≡ get_elem? l n → length l ≤ n
+    there : (l : List BlockKind) (n : ℕ) → None ≡ slice_get l n → length l ≤ n
     there [] n e = omega arith
     there (a ∷ l) zero e = let z : ◌≡◌ {A = ℕ} 0 1 = cc in absurd (omega arith)
     there (a ∷ l) (suc n) e = omega (arith, there l n e)

@@ -1,7 +1,6 @@
 -- The trailing blocks, in one table: docs/SPECIFICATION.md, "Trailing blocks"; Metadata.h, the trailing objects of `TargetClassDescriptor`,
 -- `TargetStructDescriptor` and `TargetEnumDescriptor`, in their order.
-use Rattle.std.specs.Prelude.{ℕ, zero, suc, ◌+◌, ◌-◌, ◌*◌, ◌/◌, ◌^◌, ◌%◌, List, [], ◌∷◌, map, Bool, true, false, cond, ◌&&◌, get_or, leb, eqb, Option, Some, None, option_map}
-use Rattle.std.proofs.Math.ListN.{get_elem?}
+use Rattle.std.specs.Prelude.{ℕ, zero, suc, ◌+◌, ◌-◌, ◌*◌, ◌/◌, ◌^◌, ◌%◌, List, [], ◌∷◌, map, Bool, true, false, cond, ◌&&◌, get_or, leb, eqb, Option, Some, None, option_map, slice_get}
 use Rattle.util.specs.LittleEndian.{unsigned_in}
 use Rattle.context.specs.Bits.{bit, low}
 use Rattle.context.specs.Context.{is_generic, has_invertible_protocols, kind_specific_flags}
@@ -166,7 +165,7 @@ row_number BlockKind.DefaultOverrideTable = 10
 
 -- the kind with a number in the table's order, and that kind if a descriptor has a block of it
 unfoldable pub kind_numbered : ℕ → Option BlockKind
-kind_numbered n = get_elem? (map (λ (r : BlockRow). r.kind) block_table) n
+kind_numbered n = slice_get (map (λ (r : BlockRow). r.kind) block_table) n
 
 unfoldable pub kind_there : Trailing → ℕ → Option BlockKind
 kind_there t n = cond ((row_at n).there t) (kind_numbered n) None

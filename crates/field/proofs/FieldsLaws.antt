@@ -1,12 +1,11 @@
 -- What the calls' tests say about the fields section: when a step stays (`no_header`, `overruns`) and when it moves (`passes`); and what
 -- stepping gives: the step after `k` steps gives descriptor `k` (`stepped-descriptor`), and the list of a caller who steps until there is
 -- none has those whose programs answer, in order, and no others (`descriptors-listed-all`).
-use Rattle.std.specs.Prelude.{◌≡◌, ℕ, zero, suc, ◌+◌, ◌*◌, ◌%◌, ◌^◌, ◌<◌, ◌≤◌, List, [], ◌∷◌, length, ◌≢◌, Option, Some, None}
+use Rattle.std.specs.Prelude.{◌≡◌, ℕ, zero, suc, ◌+◌, ◌*◌, ◌%◌, ◌^◌, ◌<◌, ◌≤◌, List, [], ◌∷◌, length, ◌≢◌, Option, Some, None, slice_get}
 use Rattle.std.proofs.Math.Decide.{dec_lt}
 use native.Mathlib.Omega.{arith}
 use Rattle.std.proofs.Math.Path.{refl, sym}
 use Rattle.std.proofs.Common.{ap, ◌∙◌}
-use Rattle.std.proofs.Math.ListN.{get_elem?}
 use borrow.Author.Tests.{le-leb, lt-leb, lt-ltb, le-ltb}
 use Rattle.util.specs.LittleEndian.{unsigned_in, signed_in}
 use Rattle.util.specs.Pointer.{relative_address}
@@ -122,18 +121,18 @@ module _ (fields : List ℕ) (vmaddr : ℕ) where
   listed_descriptors zero at = []
   listed_descriptors (suc n) at = elim (found_at at) [ None ↦ [] | Some d ↦ d ∷ listed_descriptors n (next_of at) ]
 
-  listed_at : (n k at : ℕ) → k < n → get_elem? (listed_descriptors n at) k ≡ descriptor_from fields vmaddr at k
+  listed_at : (n k at : ℕ) → k < n → slice_get (listed_descriptors n at) k ≡ descriptor_from fields vmaddr at k
   unfolding listed_descriptors descriptor_from
   listed_at zero k at l = absurd (omega arith)
   listed_at (suc n) zero at l = go (found_at at)
     where
-      go : (x : Option FieldDescriptor) → get_elem? {A = FieldDescriptor} (elim x as (λ _. List FieldDescriptor) [ None ↦ [] | Some d ↦ d ∷ listed_descriptors n (next_of at) ]) 0 ≡ x
+      go : (x : Option FieldDescriptor) → slice_get {A = FieldDescriptor} (elim x as (λ _. List FieldDescriptor) [ None ↦ [] | Some d ↦ d ∷ listed_descriptors n (next_of at) ]) 0 ≡ x
       go None = refl
       go (Some d) = refl
   listed_at (suc n) (suc k) at l = go (found_at at) (listed_at n k (next_of at) (omega arith))
     where
-      go : (x : Option FieldDescriptor) → get_elem? (listed_descriptors n (next_of at)) k ≡ descriptor_from fields vmaddr (next_of at) k
-          → get_elem? {A = FieldDescriptor} (elim x as (λ _. List FieldDescriptor) [ None ↦ [] | Some d ↦ d ∷ listed_descriptors n (next_of at) ]) (suc k)
+      go : (x : Option FieldDescriptor) → slice_get (listed_descriptors n (next_of at)) k ≡ descriptor_from fields vmaddr (next_of at) k
+          → slice_get {A = FieldDescriptor} (elim x as (λ _. List FieldDescriptor) [ None ↦ [] | Some d ↦ d ∷ listed_descriptors n (next_of at) ]) (suc k)
           ≡ and_then x (λ _. descriptor_from fields vmaddr (next_of at) k)
       go None ih = refl
       go (Some d) ih = ih
@@ -148,7 +147,7 @@ module _ (fields : List ℕ) (vmaddr : ℕ) where
       go None ih = omega arith
       go (Some d) ih = omega arith
 
-  past_end : (l : List FieldDescriptor) (k : ℕ) → length l ≤ k → get_elem? l k ≡ None
+  past_end : (l : List FieldDescriptor) (k : ℕ) → length l ≤ k → slice_get l k ≡ None
   past_end [] k h = refl
   past_end (d ∷ l) zero h = absurd (omega arith)
   past_end (d ∷ l) (suc k) h = past_end l k (omega arith)
@@ -175,11 +174,11 @@ module _ (fields : List ℕ) (vmaddr : ℕ) where
 
     -- the list of a caller who steps until there is no descriptor: its descriptor `k` is what the program of descriptor `k` gives, for every `k`;
     -- as many steps as the section has room for headers are enough
-    pub descriptors_listed_all : (n k : ℕ) → length fields < 16 * (n + 1) → get_elem? (listed_descriptors n 0) k ≡ run image segments (descriptor_at fields vmaddr k)
+    pub descriptors_listed_all : (n k : ℕ) → length fields < 16 * (n + 1) → slice_get (listed_descriptors n 0) k ≡ run image segments (descriptor_at fields vmaddr k)
     unfolding descriptor_at
     descriptors_listed_all n k h = go (dec_lt k n) ∙ run_given (descriptor_from fields vmaddr 0 k)
       where
-        go : Dec (k < n) → get_elem? (listed_descriptors n 0) k ≡ descriptor_from fields vmaddr 0 k
+        go : Dec (k < n) → slice_get (listed_descriptors n 0) k ≡ descriptor_from fields vmaddr 0 k
         go (yes l) = listed_at n k 0 l
         go (no l) = past_end (listed_descriptors n 0) k (omega (arith, length_listed n 0)) ∙ sym (few k 0 (omega arith))
 

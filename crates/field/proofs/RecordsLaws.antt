@@ -1,10 +1,9 @@
 -- Records are entries, and the laws of their steps are those of entries (crate `vtable`): the step after `k` steps gives what the program
 -- of record `k` gives, as long as no earlier record is unreadable (`stepped-record`); and the list of a caller who steps up to an
 -- unreadable record or the end has the records whose programs answer, in order, and no others (`records-listed-all`).
-use Rattle.std.specs.Prelude.{◌≡◌, ℕ, zero, suc, ◌+◌, ◌^◌, ◌<◌, ◌≤◌, List, [], ◌∷◌, Option, Some, None, option_map}
+use Rattle.std.specs.Prelude.{◌≡◌, ℕ, zero, suc, ◌+◌, ◌^◌, ◌<◌, ◌≤◌, List, [], ◌∷◌, Option, Some, None, option_map, slice_get}
 use Rattle.std.proofs.Math.Path.{refl, ap}
 use Rattle.std.proofs.Common.{sym, ◌∙◌, le-leb}
-use Rattle.std.proofs.Math.ListN.{get_elem?}
 use Rattle.std.proofs.lemmas.Bool.{lt-leb}
 use Rattle.segment.specs.Mapping.{with_mapping, TrueMapping}
 use Rattle.segment.specs.declared.segment.Mapping.{Mapping}
@@ -112,8 +111,8 @@ module _ (image segments : List ℕ) where
         after_entries size k (start base count) ∙ ap (option_map (sized size)) (stepped_entry image segments (record_layout size) base count k l r)
 
     -- the list of a caller who steps to the end: its record `k` is what the program of record `k` reads, for every `k`
-    pub records_listed_all : (n k : ℕ) → count ≤ n → get_elem? (listed_records n (records_of d)) k ≡ run image segments (field_record base size count k)
-    records_listed_all n k c = ap (λ (l : List Entry). get_elem? l k) (listed_entries_lem size n (start base count)) ∙ entries-all image segments (record_layout size) base count n k c
+    pub records_listed_all : (n k : ℕ) → count ≤ n → slice_get (listed_records n (records_of d)) k ≡ run image segments (field_record base size count k)
+    records_listed_all n k c = ap (λ (l : List Entry). slice_get l k) (listed_entries_lem size n (start base count)) ∙ entries-all image segments (record_layout size) base count n k c
 
     module _ (fields : List ℕ) (vmaddr j : ℕ) (there : run image segments (descriptor_at fields vmaddr j) ≡ Some d) where
       -- as an item: record `k` of descriptor `j`
@@ -121,5 +120,5 @@ module _ (image segments : List ℕ) where
       unfolding descriptor_record
       record_of k = run_bind image segments (λ e. field_record (records_base e.address) e.field_record_size e.num_fields k) (descriptor_at fields vmaddr j) ∙ rw there
 
-      pub listed_records_lem : (n k : ℕ) → count ≤ n → get_elem? (listed_records n (records_of d)) k ≡ run image segments (descriptor_record fields vmaddr j k)
+      pub listed_records_lem : (n k : ℕ) → count ≤ n → slice_get (listed_records n (records_of d)) k ≡ run image segments (descriptor_record fields vmaddr j k)
       listed_records_lem n k c = records_listed_all n k c ∙ sym (record_of k)

@@ -7,9 +7,9 @@ use native.Mathlib.Omega.{arith}
 use Rattle.std.proofs.Math.Path.{◌≡◌, refl, sym}
 use Rattle.std.proofs.Common.{◌∙◌, ap, take-take, drop-drop}
 use mathlib.Core.List.{List, [], ◌∷◌, ◌++◌}
-use Rattle.std.specs.Prelude.{Bool, ◌&&◌, take, drop, ltb, Option, Some, None, option_map}
+use Rattle.std.specs.Prelude.{Bool, ◌&&◌, take, drop, ltb, Option, Some, None, option_map, slice_get}
 use Rattle.std.proofs.Math.Bool.{true, false, cond}
-use Rattle.std.proofs.Math.ListN.{length, get_elem?}
+use Rattle.std.proofs.Math.ListN.{length}
 use borrow.Author.Tests.{ltb-true, lt-ltb, le-ltb, le-leb, lt-leb}
 use Rattle.segment.specs.Segments.{segments_of, file_offset}
 use Rattle.util.specs.LittleEndian.{little_endian, bytes_at, little_at}
@@ -141,7 +141,7 @@ static_offsets a flags = bind (body a flags) (λ b. bind (metadata_at (blocks_st
 abbrev pub offset_list : List ℕ → Offsets → List ℕ
 offset_list image v = u32s v.count (take (4 * v.count) (drop v.place image))
 
-u32s_nth : (n k : ℕ) (h : List ℕ) → k < n → get_elem? (u32s n h) k ≡ Some (little_endian (take 4 (drop (4 * k) h)))
+u32s_nth : (n k : ℕ) (h : List ℕ) → k < n → slice_get (u32s n h) k ≡ Some (little_endian (take 4 (drop (4 * k) h)))
 unfolding u32s
 u32s_nth zero k h l = absurd (omega arith)
 u32s_nth (suc n) zero h l = refl
@@ -149,7 +149,7 @@ u32s_nth (suc n) (suc k) h l =
     let e : 4 * suc k ≡ 4 + 4 * k = omega arith in
     u32s_nth n k (drop 4 h) (omega arith) ∙ rw (e, drop-drop)
 
-u32s_past : (n k : ℕ) (h : List ℕ) → n ≤ k → get_elem? (u32s n h) k ≡ None
+u32s_past : (n k : ℕ) (h : List ℕ) → n ≤ k → slice_get (u32s n h) k ≡ None
 unfolding u32s
 u32s_past zero k h l = refl
 u32s_past (suc n) zero h l = absurd (omega arith)
@@ -171,10 +171,10 @@ module _ (image : List ℕ) (v : Offsets) (whole : v.place + 4 * v.count ≤ len
       ∙ simp (le-leb (v.place + 4 * k + 4) (length image) (omega arith))
 
   -- and the offset `k` is the number `k` of the list
-  pub offset_nth : get_elem? (offset_list image v) k ≡ offset_in image v k
+  pub offset_nth : slice_get (offset_list image v) k ≡ offset_in image v k
   offset_nth = go (dec_lt k v.count)
     where
-      go : Dec (k < v.count) → get_elem? (offset_list image v) k ≡ offset_in image v k
+      go : Dec (k < v.count) → slice_get (offset_list image v) k ≡ offset_in image v k
       go (yes h) =
           u32s_nth v.count k (take (4 * v.count) (drop v.place image)) h
           ∙ rw (part_bytes 4 (4 * k) (4 * v.count) (drop v.place image) (omega arith), drop-drop)
@@ -243,16 +243,16 @@ module _ (image segments : List ℕ) where
 
   -- what `field_offset` answers for what was found is the number in the program's list
   listed : (k : ℕ) (x : Option (List ℕ)) (y : Option Offsets) → x ≡ option_map (offset_list image) y
-      → ((v : Offsets) → y ≡ Some v → v.place + 4 * v.count ≤ length image) → and_then x (λ l. get_elem? l k) ≡ and_then y (λ v. offset_in image v k)
+      → ((v : Offsets) → y ≡ Some v → v.place + 4 * v.count ≤ length image) → and_then x (λ l. slice_get l k) ≡ and_then y (λ v. offset_in image v k)
   listed k x None e w = rw e
   listed k x (Some v) e w = rw e (offset_nth image v (w v refl) k)
 
   pub offset_listed : (b : Body) (m k : ℕ)
-      → and_then (run image segments (field_offsets b m)) (λ l. get_elem? l k) ≡ and_then (offsets_place image segments (Some b) m) (λ v. offset_in image v k)
+      → and_then (run image segments (field_offsets b m)) (λ l. slice_get l k) ≡ and_then (offsets_place image segments (Some b) m) (λ v. offset_in image v k)
   offset_listed b m k = listed k _ _ (offsets_run b m) (offsets_within (Some b) m)
 
   pub static_listed : (a flags k : ℕ)
-      → and_then (run image segments (static_offsets a flags)) (λ l. get_elem? l k) ≡ and_then (static_place image segments a flags) (λ v. offset_in image v k)
+      → and_then (run image segments (static_offsets a flags)) (λ l. slice_get l k) ≡ and_then (static_place image segments a flags) (λ v. offset_in image v k)
   static_listed a flags k = listed k _ _ (static_run a flags) (static_within a flags)
 
 -- ---- the path

@@ -1,8 +1,7 @@
 -- What full rows give are items of the listing: the block of a kind is the slot's (`kind-listed`), and the methods of a record's vtable, as
 -- a walk over it or a whole table gives them (`table-listed` of `entry_tables`), are the slot's (`row-methods`, `no-row-methods`).
-use Rattle.std.specs.Prelude.{ℕ, ◌≡◌, refl, List, Option, Some, None, option_map}
+use Rattle.std.specs.Prelude.{ℕ, ◌≡◌, refl, List, Option, Some, None, option_map, slice_get}
 use Rattle.std.proofs.Common.{arith, sym, ap, ◌∙◌}
-use Rattle.std.proofs.Math.ListN.{get_elem?}
 use Rattle.runtime.specs.Reads.{run}
 use Rattle.classtrailers.specs.Blocks.{table_block}
 use Rattle.classtrailers.specs.declared.block.Block.{Block}
@@ -34,7 +33,7 @@ module _ (image segments : List ℕ) (s : Sections) (i : ℕ) (r : TypeRow) (is_
 
   -- method `k` of the vtable is item `k`
   pub row_methods : (offset count base : ℕ) → of_kind BlockKind.VTable ≡ Some (table_block BlockKind.VTable offset count base) → (k : ℕ)
-      → option_map Answer.entry (get_elem? (listed_entries image segments method count (start base count)) k) ≡ run image segments (item s (Key.entry i EntryKind.methods k))
+      → option_map Answer.entry (slice_get (listed_entries image segments method count (start base count)) k) ≡ run image segments (item s (Key.entry i EntryKind.methods k))
   row_methods offset count base e k =
       items.methods_listed image segments s i count base count k (omega arith) offset (sym (kind_listed BlockKind.VTable) ∙ ap (option_map Answer.block) e)
 

@@ -8,9 +8,8 @@ use Rattle.std.proofs.Math.Decide.{dec_lt}
 use Rattle.std.proofs.Common.{arith, ◌∙◌, lt-ltb, le-ltb}
 use Rattle.std.proofs.Math.Path.{◌≡◌, refl, sym, ap}
 use mathlib.Core.List.{List, [], ◌∷◌, map}
-use Rattle.std.specs.Prelude.{Bool, cond, length, take, drop, leb, ltb, Option, Some, None, option_map}
+use Rattle.std.specs.Prelude.{Bool, cond, length, take, drop, leb, ltb, Option, Some, None, option_map, slice_get}
 use Rattle.std.proofs.Math.Bool.{true, false}
-use Rattle.std.proofs.Math.ListN.{get_elem?}
 use Rattle.runtime.specs.Reads.{Reads, done, nothing, and_then, run, bind}
 use Rattle.runtime.proofs.ReadsLaws.{run_bind}
 use Rattle.runtime.proofs.PathLaws.{bytes_read_lem}
@@ -133,7 +132,7 @@ abbrev pub block_kinds : List BlockKind
 block_kinds = map (λ (r : BlockRow). r.kind) block_table
 
 -- each kind is one of them
-pub kind_in : (k : BlockKind) → get_elem? block_kinds (row_number k) ≡ Some k
+pub kind_in : (k : BlockKind) → slice_get block_kinds (row_number k) ≡ Some k
 kind_in BlockKind.Generic = refl
 kind_in BlockKind.ResilientSuperclass = refl
 kind_in BlockKind.ForeignMetadataInit = refl
@@ -228,14 +227,14 @@ module _ (image segments : List ℕ) (s : Sections) (i : ℕ) (r : TypeRow) (is_
 
   -- ---- contexts
 
-  past_end : (l : List Context) (k : ℕ) → length l ≤ k → get_elem? l k ≡ None
+  past_end : (l : List Context) (k : ℕ) → length l ≤ k → slice_get l k ≡ None
   past_end [] k h = refl
   past_end (c ∷ l) zero h = absurd (omega arith)
   past_end (c ∷ l) (suc k) h = past_end l k (omega arith)
 
   -- a walk that starts at the row's parent: 256 steps or more give a list whose context `k` is item `k`, for every `k`
   pub contexts_listed : (n k : ℕ) → contexts_most ≤ n
-      → option_map (λ (c : Context). Answer.context c.header) (get_elem? (steppedContexts image segments n r.parent 0) k) ≡ run image segments (item s (Key.context i k))
+      → option_map (λ (c : Context). Answer.context c.header) (slice_get (steppedContexts image segments n r.parent 0) k) ≡ run image segments (item s (Key.context i k))
   unfolding item context_of_slot run context_at with_name
   contexts_listed n k h =
       rw (stepped_chain_all image segments n r.parent h) (go (dec_lt k contexts_most) ∙ sym (run_map image segments Answer.context (context_of_slot s i k)))
@@ -245,7 +244,7 @@ module _ (image segments : List ℕ) (s : Sections) (i : ℕ) (r : TypeRow) (is_
       header (Some h) = refl
 
       go : Dec (k < contexts_most)
-          → option_map (λ (c : Context). Answer.context c.header) (get_elem? (chain image segments contexts_most r.parent) k)
+          → option_map (λ (c : Context). Answer.context c.header) (slice_get (chain image segments contexts_most r.parent) k)
           ≡ option_map Answer.context (run image segments (context_of_slot s i k))
       go (yes l) =
           let its : run image segments (context_of_slot s i k) ≡ run image segments (header_at k r.parent)
@@ -257,7 +256,7 @@ module _ (image segments : List ℕ) (s : Sections) (i : ℕ) (r : TypeRow) (is_
 
   -- and its name is the text beside that item, place and bytes
   pub contexts_named : (strings : List ℕ) (start n k : ℕ) → contexts_most ≤ n
-      → option_map of_name (and_then (get_elem? (steppedContexts image segments n r.parent 0) k) (λ c. c.name)) ≡ beside_of image segments strings start s (NameKey.context i k)
+      → option_map of_name (and_then (slice_get (steppedContexts image segments n r.parent 0) k) (λ c. c.name)) ≡ beside_of image segments strings start s (NameKey.context i k)
   unfolding context_of_slot run context_at with_name context_name
   contexts_named strings start n k h =
       rw (stepped_chain_all image segments n r.parent h)
@@ -272,7 +271,7 @@ module _ (image segments : List ℕ) (s : Sections) (i : ℕ) (r : TypeRow) (is_
       named (Some h) = refl
 
       go : Dec (k < contexts_most)
-          → and_then (get_elem? (chain image segments contexts_most r.parent) k) (λ c. c.name)
+          → and_then (slice_get (chain image segments contexts_most r.parent) k) (λ c. c.name)
           ≡ and_then (run image segments (context_of_slot s i k)) (λ h. run image segments (name h.address h.flags))
       go (yes l) =
           let its : run image segments (context_of_slot s i k) ≡ run image segments (header_at k r.parent)
@@ -336,7 +335,7 @@ module _ (image segments : List ℕ) (s : Sections) (i : ℕ) where
 
       -- a walk that starts at them: as many steps as there are entries, or more, give a list whose entry `k` is item `k`, for every `k`
       pub entries_listed : (t : Table) → table_of x ≡ Some t → (n k : ℕ) → t.count ≤ n
-          → option_map Answer.entry (get_elem? (listed_entries image segments (entry_layout e) n (start t.base t.count)) k) ≡ run image segments (item s (Key.entry i e k))
+          → option_map Answer.entry (slice_get (listed_entries image segments (entry_layout e) n (start t.base t.count)) k) ≡ run image segments (item s (Key.entry i e k))
       unfolding item entry_of_slot
       entries_listed t is-table n k h =
           let p : Block → Reads Entry = λ b. needing (table_of b) (λ t. entry (entry_layout e) t.base t.count k) in
@@ -349,7 +348,7 @@ module _ (image segments : List ℕ) (s : Sections) (i : ℕ) where
   module _ (count base n k : ℕ) (h : count ≤ n) where
     -- the entries that a walk from a table's start gives
     abbrev steps : Layout → Option Answer
-    steps layout = option_map Answer.entry (get_elem? (listed_entries image segments layout n (start base count)) k)
+    steps layout = option_map Answer.entry (slice_get (listed_entries image segments layout n (start base count)) k)
 
     pub methods_listed : (offset : ℕ) → run image segments (item s (Key.block i BlockKind.VTable)) ≡ Some (Answer.block (table_block BlockKind.VTable offset count base))
         → steps method ≡ run image segments (item s (Key.entry i EntryKind.methods k))
@@ -397,7 +396,7 @@ module _ (image segments : List ℕ) (s : Sections) (i : ℕ) where
 module _ (image segments : List ℕ) (s : Sections) where
   -- a walk over the fields section: as many steps as it has room for headers give a list whose descriptor `k` is item `k`, for every `k`
   pub descriptors_listed : (n k : ℕ) → length s.fields < 16 * (n + 1)
-      → option_map Answer.field_descriptor (get_elem? (listed_descriptors s.fields s.fields_start n 0) k) ≡ run image segments (item s (Key.field_descriptor k))
+      → option_map Answer.field_descriptor (slice_get (listed_descriptors s.fields s.fields_start n 0) k) ≡ run image segments (item s (Key.field_descriptor k))
   unfolding item
   descriptors_listed n k h =
       ap (option_map Answer.field_descriptor) (descriptors-all s.fields s.fields_start image segments n k h)
@@ -415,7 +414,7 @@ module _ (image segments : List ℕ) (s : Sections) where
     -- a walk over a descriptor's records: as many steps as it has records, or more, give a list whose record `k` is item `k`, for every `k`
     pub records_listed : (d : FieldDescriptor) → run image segments (item s (Key.field_descriptor j)) ≡ Some (Answer.field_descriptor d)
         → (n k : ℕ) → d.num_fields ≤ n
-        → option_map Answer.field_record (get_elem? (steppedRecords image segments n (records_of d)) k) ≡ run image segments (item s (Key.field_record j k))
+        → option_map Answer.field_record (slice_get (steppedRecords image segments n (records_of d)) k) ≡ run image segments (item s (Key.field_record j k))
     unfolding item
     records_listed d is-descriptor n k h =
         ap (option_map Answer.field_record)

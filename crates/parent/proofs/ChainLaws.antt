@@ -2,11 +2,10 @@
 use Prim.Native.Nat.{ℕ, zero, suc, ◌+◌, ◌-◌, ◌≤◌, ◌<◌, min}
 use Rattle.std.proofs.Math.Decide.{dec_le}
 use native.Mathlib.Omega.{arith}
-use Rattle.std.specs.Prelude.{◌≡◌, true, false, Option, Some, None, option_map}
+use Rattle.std.specs.Prelude.{◌≡◌, true, false, Option, Some, None, option_map, slice_get}
 use Rattle.std.proofs.Math.Path.{refl, ap}
 use Rattle.std.proofs.Common.{sym, ◌∙◌}
 use mathlib.Core.List.{List, [], ◌∷◌}
-use Rattle.std.proofs.Math.ListN.{get_elem?}
 use Rattle.std.proofs.Math.Dec.{leb-suc-suc}
 use Rattle.std.proofs.lemmas.Bool.{lt-leb}
 use Rattle.runtime.specs.Reads.{and_then, run}
@@ -31,18 +30,18 @@ module _ (image segments : List ℕ) where
   next_by k a x e = rw (run_bind image segments (λ h. header_at k h.parent) (header a), e)
 
   -- context `k` of the chain is what its program reads
-  pub chain_at : (n k a : ℕ) → k < n → get_elem? (chain image segments n a) k ≡ context_at image segments k a
+  pub chain_at : (n k a : ℕ) → k < n → slice_get (chain image segments n a) k ≡ context_at image segments k a
   unfolding context_at header_at
   chain_at zero k a h = absurd (omega arith)
   chain_at (suc n) zero a h = go (run image segments (header a)) refl
     where
-      go : (x : Option Header) → run image segments (header a) ≡ x → get_elem? (chain image segments (suc n) a) 0 ≡ option_map (with_name image segments) (run image segments (header a))
+      go : (x : Option Header) → run image segments (header a) ≡ x → slice_get (chain image segments (suc n) a) 0 ≡ option_map (with_name image segments) (run image segments (header a))
       go None e = rw (chain_by n a None e, e)
       go (Some h) e = rw (chain_by n a (Some h) e, e)
   chain_at (suc n) (suc k) a h = go (run image segments (header a)) refl (λ b. chain_at n k b (omega arith))
     where
-      go : (x : Option Header) → run image segments (header a) ≡ x → ((b : ℕ) → get_elem? (chain image segments n b) k ≡ context_at image segments k b)
-          → get_elem? (chain image segments (suc n) a) (suc k) ≡ context_at image segments (suc k) a
+      go : (x : Option Header) → run image segments (header a) ≡ x → ((b : ℕ) → slice_get (chain image segments n b) k ≡ context_at image segments k b)
+          → slice_get (chain image segments (suc n) a) (suc k) ≡ context_at image segments (suc k) a
       go None e ih = rw (chain_by n a None e, next_by k a None e)
       go (Some g) e ih = rw (chain_by n a (Some g) e, next_by k a (Some g) e) (ih g.parent)
 

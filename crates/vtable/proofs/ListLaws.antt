@@ -1,12 +1,11 @@
 -- What stepping gives, for every layout at once: the step after `k` steps from the start gives what the program of entry `k` gives, as long
 -- as no earlier entry is unreadable (`stepped-entry`); and the list of a caller who steps up to an unreadable entry or the end has the
 -- entries whose programs answer, in order, and no others (`entries-listed-all`).
-use Rattle.std.specs.Prelude.{◌≡◌, ℕ, zero, suc, ◌+◌, ◌<◌, ◌≤◌, Bool, true, false, cond, List, [], ◌∷◌, length, ◌≢◌, nat_lt, Option, Some, None}
+use Rattle.std.specs.Prelude.{◌≡◌, ℕ, zero, suc, ◌+◌, ◌<◌, ◌≤◌, Bool, true, false, cond, List, [], ◌∷◌, length, ◌≢◌, nat_lt, Option, Some, None, slice_get}
 use Rattle.std.proofs.Math.Decide.{dec_lt}
 use Rattle.std.proofs.Common.{add-one, ◌∙◌, lt-ltb, le-ltb}
 use native.Mathlib.Omega.{arith}
 use Rattle.std.proofs.Math.Path.{refl, sym, ap}
-use Rattle.std.proofs.Math.ListN.{get_elem?}
 use Rattle.runtime.specs.Reads.{nothing, and_then, run}
 use Rattle.runtime.proofs.ReadsLaws.{run_bind}
 use Rattle.vtable.specs.declared.iter.EntryIter.{EntryIter}
@@ -144,24 +143,24 @@ module _ (image segments : List ℕ) (layout : Layout) where
     place_past : (i k : ℕ) → count ≤ i → place i k ≡ None
     place_past i k l = let j : count ≤ k + i = omega arith in simp (le-ltb (k + i) count j)
 
-    listed_at : (n i k : ℕ) → k < n → get_elem? (listed_entries image segments layout n (iter_at base count i)) k ≡ place i k
+    listed_at : (n i k : ℕ) → k < n → slice_get (listed_entries image segments layout n (iter_at base count i)) k ≡ place i k
     listed_at zero i k l = absurd (omega arith)
     listed_at (suc n) i k l = go (listed_at n (i + 1)) (dec_lt i count)
       where
-        with_first : ((j : ℕ) → j < n → get_elem? (listed_entries image segments layout n (iter_at base count (i + 1))) j ≡ place (i + 1) j) → i < count
+        with_first : ((j : ℕ) → j < n → slice_get (listed_entries image segments layout n (iter_at base count (i + 1))) j ≡ place (i + 1) j) → i < count
             → (x : Option Entry) → run image segments (entry_at layout base i) ≡ x → (k : ℕ) → k < suc n
-            → get_elem? (elim x as (λ _. List Entry) [ None ↦ [] | Some e ↦ e ∷ listed_entries image segments layout n (iter_at base count (i + 1)) ]) k ≡ place i k
+            → slice_get (elim x as (λ _. List Entry) [ None ↦ [] | Some e ↦ e ∷ listed_entries image segments layout n (iter_at base count (i + 1)) ]) k ≡ place i k
         with_first ih h None e k l = sym (place_none i k e)
         with_first ih h (Some a) e zero l = sym (place_first i a h e)
         with_first ih h (Some a) e (suc k) l = ih k (omega arith) ∙ sym (place_some i k a e)
 
-        go : ((j : ℕ) → j < n → get_elem? (listed_entries image segments layout n (iter_at base count (i + 1))) j ≡ place (i + 1) j) → Dec (i < count)
-            → get_elem? (listed_entries image segments layout (suc n) (iter_at base count i)) k ≡ place i k
+        go : ((j : ℕ) → j < n → slice_get (listed_entries image segments layout n (iter_at base count (i + 1))) j ≡ place (i + 1) j) → Dec (i < count)
+            → slice_get (listed_entries image segments layout (suc n) (iter_at base count i)) k ≡ place i k
         go ih (yes h) = rw (listed_by n i h (run image segments (entry_at layout base i)) refl) (with_first ih h (run image segments (entry_at layout base i)) refl k l)
         go ih (no h) = rw (listed_none (suc n) i (omega arith)) (sym (place_past i k (omega arith)))
 
     -- entry `k` of the list of a caller who steps `n` times is what its program reads
-    pub listed_entry : (n k : ℕ) → k < n → get_elem? (listed_entries image segments layout n (start base count)) k ≡ run image segments (entry layout base count k)
+    pub listed_entry : (n k : ℕ) → k < n → slice_get (listed_entries image segments layout n (start base count)) k ≡ run image segments (entry layout base count k)
     unfolding entry run
     listed_entry n k l = listed_at n 0 k l ∙ rw (from_start k) (ap (λ (j : ℕ). cond (nat_lt j count) (run image segments (up_to layout base k)) None) (omega arith) ∙ go (nat_lt k count))
       where
@@ -184,16 +183,16 @@ module _ (image segments : List ℕ) (layout : Layout) where
         go ih (no h) = rw (listed_none (suc n) i (omega arith)) (omega arith)
 
     -- past a list's end there is nothing
-    past_end : (l : List Entry) (k : ℕ) → length l ≤ k → get_elem? l k ≡ None
+    past_end : (l : List Entry) (k : ℕ) → length l ≤ k → slice_get l k ≡ None
     past_end [] k h = refl
     past_end (a ∷ l) zero h = absurd (omega arith)
     past_end (a ∷ l) (suc k) h = past_end l k (omega arith)
 
     -- the list of a caller who steps to the end: its entry `k` is what the program of entry `k` reads, for every `k`
-    pub entries_listed_all : (n k : ℕ) → count ≤ n → get_elem? (listed_entries image segments layout n (start base count)) k ≡ run image segments (entry layout base count k)
+    pub entries_listed_all : (n k : ℕ) → count ≤ n → slice_get (listed_entries image segments layout n (start base count)) k ≡ run image segments (entry layout base count k)
     unfolding entry run
     entries_listed_all n k c = go (dec_lt k n)
       where
-        go : Dec (k < n) → get_elem? (listed_entries image segments layout n (start base count)) k ≡ run image segments (entry layout base count k)
+        go : Dec (k < n) → slice_get (listed_entries image segments layout n (start base count)) k ≡ run image segments (entry layout base count k)
         go (yes l) = listed_entry n k l
         go (no l) = past_end (listed_entries image segments layout n (start base count)) k (omega (arith, few n 0)) ∙ simp (le-ltb k count (omega arith))
