@@ -2,7 +2,7 @@
 use Prim.Native.Nat.{ℕ, zero, suc, ◌+◌, ◌*◌, ◌%◌, ◌^◌, ◌≤◌, ◌<◌}
 use native.Mathlib.Omega.{arith}
 use Rattle.std.proofs.Math.Numerals.{unary_clauses}
-use Rattle.std.specs.Prelude.{◌≡◌, List, [], ◌∷◌, Bool, false, cond, ◌||◌, eqb, leb, drop, Option, Some, None}
+use Rattle.std.specs.Prelude.{◌≡◌, List, [], ◌∷◌, Bool, false, ◌||◌, leb, drop, Option, Some, None, Result, Ok, Err, ⊤}
 use Rattle.std.proofs.Math.Path.{refl, sym, ap}
 use Rattle.std.proofs.Common.{◌∙◌}
 use Rattle.std.proofs.Math.Bool.{true}
@@ -11,8 +11,9 @@ use Rattle.std.proofs.Math.ListN.{length, get_or, length-drop}
 use borrow.Author.Tests.{eq-eqb, ne_eqb, le-leb, lt-leb, lt-ltb}
 use Rattle.segment.specs.Segments.{Segment, segments_of}
 use Rattle.segment.proofs.SegmentsLaws.{segments_step, segments_end}
-use Rattle.refusal.specs.Refusal.{Guarded, answered, refused, mapped}
-use Rattle.refusal.specs.Guarded.{wrapping, any_wrapping, fault, first_wrapping, refused_by, guarded}
+use Rattle.refusal.specs.Refusal.{Guarded, answered, refused, mapped, refusal_number}
+use Rattle.refusal.specs.declared.Refusal.{Refusal}
+use Rattle.refusal.specs.Guarded.{wrapping, any_wrapping, fault, fault_of, first_wrapping, refused_by, guarded}
 
 -- ---- what is wrong with a list, in plain numbers
 
@@ -163,6 +164,13 @@ module _ (segments : List ℕ) {A : Type 0} (g : Guarded A) where
 
   pub accepted_as : (x : Guarded A) → x ≡ g → None ≡ fault segments → x ≡ guarded segments g
   accepted_as x o e = o ∙ accepted_list e
+
+  -- the same from what `find_fault` returned, at a `match` or a `?`
+  pub refused_as : {r : Result ⊤ Refusal} {e : Refusal} → fault_of r ≡ fault segments → r ≡ Err e → refused (refusal_number e) ≡ guarded segments g
+  refused_as f t = refused_list (sym (ap fault_of t) ∙ f)
+
+  pub accepted_by : {r : Result ⊤ Refusal} {u : ⊤} {x : Guarded A} → fault_of r ≡ fault segments → r ≡ Ok u → x ≡ g → x ≡ guarded segments g
+  accepted_by f t o = accepted_as _ o (sym (ap fault_of t) ∙ f)
 
   -- what is made from an answer
   pub mapped_guarded : {B : Type 0} (f : A → B) → mapped f (guarded segments g) ≡ guarded segments (mapped f g)

@@ -1,10 +1,9 @@
 -- docs/SPECIFICATION.md, "Refusals": what is wrong with a list of segment numbers. A count that is not a multiple of four is refused
 -- with 1, and then a segment that wraps with 9, before anything else.
-use Rattle.std.specs.Prelude.{ℕ, suc, ◌+◌, ◌%◌, ◌^◌, List, [], ◌∷◌, Bool, false, cond, ◌||◌, length, eqb, leb, Option, Some, None}
+use Rattle.std.specs.Prelude.{ℕ, suc, ◌+◌, ◌%◌, ◌^◌, List, [], ◌∷◌, Bool, false, cond, ◌||◌, length, eqb, leb, Option, Some, None, Result, Ok, Err, ⊤}
 use Rattle.segment.specs.Segments.{Segment, segments_of}
 use Rattle.refusal.specs.Refusal.{Guarded, refused, refusal_number}
-use Rattle.refusal.specs.declared.Fault.{Fault}
-use Rattle.refusal.specs.declared.Wrapping.{Wrapping}
+use Rattle.refusal.specs.declared.Refusal.{Refusal}
 
 -- a segment that does not end below 2^64
 abbrev pub wrapping : Segment → Bool
@@ -18,18 +17,15 @@ any_wrapping (s ∷ ss) = wrapping s || any_wrapping ss
 unfoldable pub fault : List ℕ → Option ℕ
 fault segments = cond (eqb (length segments % 4) 0) (cond (any_wrapping (segments_of segments)) (Some 9) None) (Some 1)
 
-abbrev pub fault_of : Fault → Option ℕ
-fault_of (Fault.Refused r) = Some (refusal_number r)
-fault_of Fault.Nothing = None
+-- what the test of a list tells
+abbrev pub fault_of : Result ⊤ Refusal → Option ℕ
+fault_of (Ok _) = None
+fault_of (Err r) = Some (refusal_number r)
 
 -- the number of the first segment that wraps, the first of all being number `k`
 unfoldable pub first_wrapping : ℕ → List Segment → Option ℕ
 first_wrapping k [] = None
 first_wrapping k (s ∷ ss) = cond (wrapping s) (Some k) (first_wrapping (suc k) ss)
-
-abbrev pub wrapping_of : Wrapping → Option ℕ
-wrapping_of (Wrapping.At k) = Some k
-wrapping_of Wrapping.Nothing = None
 
 abbrev pub refused_by : {A : Type 0} → Option ℕ → Guarded A → Guarded A
 refused_by (Some n) g = refused n

@@ -1,5 +1,5 @@
 -- The refusals by their numbers: docs/SPECIFICATION.md, "Refusals".
-use Rattle.std.specs.Prelude.{ℕ, Option, Some, None}
+use Rattle.std.specs.Prelude.{ℕ, Option, Some, None, Result, Ok, Err}
 use Rattle.refusal.specs.declared.Refusal.{Refusal}
 
 -- an answer, or the number of a refusal
@@ -14,6 +14,11 @@ refusal_number Refusal.LongName = 3
 refusal_number Refusal.DeepContexts = 4
 refusal_number Refusal.LongBundle = 5
 refusal_number Refusal.WrappingSegment = 9
+
+-- what a call that may refuse returns
+abbrev pub outcome : {A : Type 0} → Result A Refusal → Guarded A
+outcome (Ok a) = answered a
+outcome (Err r) = refused (refusal_number r)
 
 -- the same refusal, or another answer
 abbrev pub mapped : {A B : Type 0} → (A → B) → Guarded A → Guarded B

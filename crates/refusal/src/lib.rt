@@ -4,7 +4,7 @@
 ghost use Rattle.std.specs.Prelude.{◌≡◌};
 ghost use Rattle.refusal.specs.Refusal.{refusal_number};
 ghost use Rattle.segment.specs.Segments.{segments_of};
-ghost use Rattle.refusal.specs.Guarded.{fault, fault_of, first_wrapping, wrapping_of};
+ghost use Rattle.refusal.specs.Guarded.{fault, fault_of, first_wrapping};
 
 #[derive(Clone, Copy)]
 pub enum Refusal {
@@ -35,19 +35,20 @@ pub fn number(refusal: Refusal) -> u64
     }
 }
 
-// What is wrong with a call's segments.
-#[derive(Clone, Copy)]
-pub enum Fault {
-    Refused(Refusal),
-    Nothing,
+impl From<Refusal> for u64 {
+    ghost from_gives = { λ refusal n. n ≡ refusal_number refusal };
+
+    fn from(refusal: Refusal) -> u64 {
+        number(refusal)
+    }
 }
 
-// Tests the segments that a call was given. The segments that wrap are counted, so that no segment takes a branch.
-pub fn find_fault(segments: &[u64]) -> Fault
+// Tests the segments that a call was given: `Err` is what the call answers. The segments that wrap are counted, so that no segment takes a branch.
+pub fn find_fault(segments: &[u64]) -> Result<(), Refusal>
     ensures { fault_of result ≡ fault segments.now }
 {
     if segments.len() % 4 != 0 {
-        return Fault::Refused(Refusal::RaggedSegments);
+        return Err(Refusal::RaggedSegments);
     }
     let mut wrapping: usize = 0;
     let mut i: usize = 0;
@@ -58,28 +59,21 @@ pub fn find_fault(segments: &[u64]) -> Fault
         i += 4;
     }
     if wrapping != 0 {
-        return Fault::Refused(Refusal::WrappingSegment);
+        return Err(Refusal::WrappingSegment);
     }
-    Fault::Nothing
+    Ok(())
 }
 
-// Which segment wraps, by its number from 0 on.
-#[derive(Clone, Copy)]
-pub enum Wrapping {
-    At(usize),
-    Nothing,
-}
-
-// The first segment of a list that wraps, for a message: the test itself counts them.
-pub fn wrapping_segment(segments: &[u64]) -> Wrapping
-    ensures { wrapping_of result ≡ first_wrapping 0 (segments_of segments.now) }
+// The first segment of a list that wraps, by its number from 0 on, for a message: the test itself counts them.
+pub fn wrapping_segment(segments: &[u64]) -> Option<usize>
+    ensures { result ≡ first_wrapping 0 (segments_of segments.now) }
 {
     let mut number: usize = 0;
     while number < segments.len() / 4 {
         if u64::MAX - segments[4 * number] < segments[4 * number + 1] {
-            return Wrapping::At(number);
+            return Some(number);
         }
         number += 1;
     }
-    Wrapping::Nothing
+    None
 }
