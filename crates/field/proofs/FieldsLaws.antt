@@ -126,13 +126,13 @@ module _ (fields : List ℕ) (vmaddr : ℕ) where
   listed_at zero k at l = absurd (omega arith)
   listed_at (suc n) zero at l = go (found_at at)
     where
-      go : (x : Option FieldDescriptor) → slice_get {A = FieldDescriptor} (elim x as (λ _. List FieldDescriptor) [ None ↦ [] | Some d ↦ d ∷ listed_descriptors n (next_of at) ]) 0 ≡ x
+      go : (x : Option FieldDescriptor) → slice_get {X = FieldDescriptor} (elim x as (λ _. List FieldDescriptor) [ None ↦ [] | Some d ↦ d ∷ listed_descriptors n (next_of at) ]) 0 ≡ x
       go None = refl
       go (Some d) = refl
   listed_at (suc n) (suc k) at l = go (found_at at) (listed_at n k (next_of at) (omega arith))
     where
       go : (x : Option FieldDescriptor) → slice_get (listed_descriptors n (next_of at)) k ≡ descriptor_from fields vmaddr (next_of at) k
-          → slice_get {A = FieldDescriptor} (elim x as (λ _. List FieldDescriptor) [ None ↦ [] | Some d ↦ d ∷ listed_descriptors n (next_of at) ]) (suc k)
+          → slice_get {X = FieldDescriptor} (elim x as (λ _. List FieldDescriptor) [ None ↦ [] | Some d ↦ d ∷ listed_descriptors n (next_of at) ]) (suc k)
           ≡ and_then x (λ _. descriptor_from fields vmaddr (next_of at) k)
       go None ih = refl
       go (Some d) ih = ih
