@@ -1,6 +1,6 @@
 -- What the calls' answers say about the language of reads: from a call's contract a caller gets what `run` is in one step
 -- (`run-bytes`, `run-no-bytes`, `run-text`, `run-no-text`). And the cases of the definitions that the calls' tests leave.
-use Rattle.std.specs.Prelude.{ℕ, ◌+◌, ◌-◌, ◌≤◌, ◌<◌, true, drop, Option, Some, None, option_map}
+use Rattle.std.specs.Prelude.{ℕ, ◌+◌, ◌-◌, ◌≤◌, ◌<◌, drop, Option, Some, None, option_map}
 use Rattle.std.proofs.Math.Decide.{dec_le}
 use native.Mathlib.Omega.{arith}
 use Rattle.std.proofs.Math.Path.{◌≡◌, refl, sym, ap}

@@ -1,12 +1,6 @@
 -- The answers of the calls that read bytes: docs/SPECIFICATION.md, "Bytes and texts at an address".
 use Rattle.std.specs.Prelude.{ℕ, List, [], take, drop, Option, Some, None}
 use Rattle.runtime.specs.Reads.{bytes_place}
-use Rattle.runtime.specs.declared.reads.Bytes.{Bytes}
-use Rattle.runtime.specs.declared.reads.Bytes.TheVariants.{At, Nothing}
-
-abbrev pub bytes_place_of : Bytes → Option ℕ
-bytes_place_of (At o) = Some o
-bytes_place_of Nothing = None
 
 -- the bytes at a place, none if there is none
 abbrev pub bytes_from : List ℕ → ℕ → Option ℕ → List ℕ

@@ -3,17 +3,10 @@ ghost use Rattle.segment.specs.Segments.{file_offset, segments_of, offset_of};
 ghost use Rattle.segment.specs.Mapping.{with_mapping};
 ghost use Rattle.util.specs.Cstr.{text_of};
 ghost use Rattle.runtime.specs.Reads.{bytes_place, text_place};
-ghost use Rattle.runtime.specs.Bytes.{bytes_place_of, bytes_read};
+ghost use Rattle.runtime.specs.Bytes.{bytes_read};
 
 use segment::{FileOffset, Mapping};
 use util::Text;
-
-// Where bytes lie in the image.
-#[derive(Clone, Copy)]
-pub enum Bytes {
-    At(usize),
-    Nothing,
-}
 
 pub fn vm_to_file_offset(segments: &[u64], vmaddr: u64) -> FileOffset
     ensures { offset_of result ≡ file_offset (segments_of segments.now) vmaddr }
@@ -29,21 +22,18 @@ pub fn find_bytes(
     mapping: Mapping,
     vmaddr: u64,
     len: usize,
-) -> Bytes
-    ensures { bytes_place_of result ≡ bytes_place image.now (with_mapping mapping segments.now) vmaddr len }
+) -> Option<usize>
+    ensures { result ≡ bytes_place image.now (with_mapping mapping segments.now) vmaddr len }
 {
     match segment::vm_to_file_offset_near(segments, mapping, vmaddr) {
         FileOffset::At(offset) => {
             let off = offset as usize;
-            if image.len() < off {
-                return Bytes::Nothing;
+            if image.len() < off || image.len() - off < len {
+                return None;
             }
-            if image.len() - off < len {
-                return Bytes::Nothing;
-            }
-            Bytes::At(off)
+            Some(off)
         }
-        FileOffset::Nothing => Bytes::Nothing,
+        FileOffset::Nothing => None,
     }
 }
 
@@ -58,8 +48,8 @@ pub fn read_bytes<'a>(
     ensures { result.now ≡ bytes_read image.now (with_mapping mapping segments.now) vmaddr len }
 {
     match find_bytes(image, segments, mapping, vmaddr, len) {
-        Bytes::At(off) => util::part(image, off, len),
-        Bytes::Nothing => &image[..0],
+        Some(off) => util::part(image, off, len),
+        None => &image[..0],
     }
 }
 
