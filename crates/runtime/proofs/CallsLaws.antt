@@ -13,7 +13,8 @@ use Rattle.utf8.specs.Utf8Laws.{text_bytes, text_length_le}
 use Rattle.segment.specs.Segments.{segments_of, file_offset}
 use Rattle.segment.specs.Mapping.{with_mapping, TrueMapping}
 use Rattle.segment.specs.declared.segment.Mapping.{Mapping}
-use Rattle.util.specs.Cstr.{Place, place, text_at, part_of}
+use Rattle.util.specs.declared.cstr.Place.{Place}
+use Rattle.util.specs.Cstr.{place, text_at, part_of}
 use Rattle.util.specs.CstrLaws.{part_in}
 use Rattle.runtime.specs.Reads.{Reads, done, nothing, bytes, text, and_then, within, bytes_place, text_offset, text_place, run}
 use Rattle.runtime.specs.Bytes.{bytes_read, bytes_from}

@@ -9,7 +9,8 @@ use Rattle.std.proofs.Math.ListN.{length}
 use Rattle.utf8.specs.Text.{until_nul, text_length}
 use Rattle.utf8.specs.Utf8Laws.{text_length_lem}
 use Rattle.segment.specs.Segments.{segments_of, file_offset}
-use Rattle.util.specs.Cstr.{Place, place, text_at}
+use Rattle.util.specs.declared.cstr.Place.{Place}
+use Rattle.util.specs.Cstr.{place, text_at}
 use Rattle.runtime.specs.Reads.{Reads, done, nothing, bytes, text, and_then, bytes_place, within, text_offset, run, Range, extent, text_range, with_nul, path, Clear, ends_by}
 
 -- ---- a text's extent

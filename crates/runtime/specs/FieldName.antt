@@ -1,14 +1,14 @@
 -- A field's name: docs/SPECIFICATION.md, "Field names".
 use Rattle.std.specs.Prelude.{ℕ, ◌-◌, List, [], cond, ◌&&◌, length, leb, ltb, eqb, Option, Some, None, option_map}
-use Rattle.util.specs.Cstr.{Place, place, text_at, part_of}
+use Rattle.util.specs.declared.cstr.Place.{Place}
+use Rattle.util.specs.Cstr.{text_at, part_of}
 use Rattle.runtime.specs.Reads.{text_place}
 use Rattle.runtime.specs.declared.reflstr.FieldName.{FieldName}
-use Rattle.runtime.specs.declared.reflstr.FieldName.TheVariants.{Image, Strings, Nothing}
+pub use Rattle.runtime.specs.declared.reflstr.FieldName.TheVariants.{Image as in_image, Strings as in_strings}
 
 -- a place in the image or in the string section
-pub data NamePlace : Type 0 where
-  in_image : Place → NamePlace
-  in_strings : Place → NamePlace
+abbrev pub NamePlace : Type 0
+NamePlace = FieldName
 
 -- the text at an address inside a section that starts at `start`
 unfoldable pub section_text : List ℕ → ℕ → ℕ → Option Place
@@ -24,11 +24,6 @@ unfoldable pub field_name : List ℕ → List ℕ → List ℕ → ℕ → ℕ �
 field_name image segments strings start address =
     cond (eqb address 0) None
     (or_else (option_map in_image (text_place image segments address)) (option_map in_strings (section_text strings start address)))
-
-abbrev pub field_name_of : FieldName → Option NamePlace
-field_name_of (Image o n) = Some (in_image (place o n))
-field_name_of (Strings o n) = Some (in_strings (place o n))
-field_name_of Nothing = None
 
 -- the bytes of a name, none if there is none
 abbrev pub name_part : List ℕ → List ℕ → Option NamePlace → List ℕ

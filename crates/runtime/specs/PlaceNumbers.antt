@@ -1,7 +1,7 @@
 -- Where a text or a field's name lies, in three numbers, as in lists of records and the calls for C: docs/SPECIFICATION.md, "Calls for C".
 -- All are 0 if there is none.
 use Rattle.std.specs.Prelude.{ℕ, List, [], ◌∷◌, Option, Some, None}
-use Rattle.util.specs.Cstr.{Place}
+use Rattle.util.specs.declared.cstr.Place.{Place}
 use Rattle.runtime.specs.FieldName.{NamePlace, in_image, in_strings}
 
 abbrev pub text_numbers : Option Place → List ℕ

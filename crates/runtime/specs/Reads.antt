@@ -3,7 +3,8 @@
 use Rattle.std.specs.Prelude.{ℕ, zero, suc, ◌+◌, ◌-◌, ◌≤◌, ◌<◌, min, max, ◌≡◌, ◌⊎◌, List, [], ◌∷◌, Bool, true, false, cond, ◌&&◌, length, take, drop, leb, eqb, Option, Some, None}
 use Rattle.segment.specs.Segments.{segments_of, file_offset}
 use Rattle.utf8.specs.Text.{until_nul}
-use Rattle.util.specs.Cstr.{Place, text_at}
+use Rattle.util.specs.declared.cstr.Place.{Place}
+use Rattle.util.specs.Cstr.{text_at}
 
 pub data Reads (A : Type 0) : Type 0 where
   -- the answer

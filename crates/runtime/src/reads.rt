@@ -1,15 +1,14 @@
 ghost use Rattle.std.specs.Prelude.{◌≡◌};
-ghost use Rattle.segment.specs.Segments.{file_offset, segments_of, offset_of};
+ghost use Rattle.segment.specs.Segments.{file_offset, segments_of};
 ghost use Rattle.segment.specs.Mapping.{with_mapping};
-ghost use Rattle.util.specs.Cstr.{text_of};
 ghost use Rattle.runtime.specs.Reads.{bytes_place, text_place};
 ghost use Rattle.runtime.specs.Bytes.{bytes_read};
 
-use segment::{FileOffset, Mapping};
-use util::Text;
+use segment::Mapping;
+use util::Place;
 
-pub fn vm_to_file_offset(segments: &[u64], vmaddr: u64) -> FileOffset
-    ensures { offset_of result ≡ file_offset (segments_of segments.now) vmaddr }
+pub fn vm_to_file_offset(segments: &[u64], vmaddr: u64) -> Option<u64>
+    ensures { result ≡ file_offset (segments_of segments.now) vmaddr }
 {
     segment::vm_to_file_offset_in(segments, vmaddr)
 }
@@ -25,16 +24,11 @@ pub fn find_bytes(
 ) -> Option<usize>
     ensures { result ≡ bytes_place image.now (with_mapping mapping segments.now) vmaddr len }
 {
-    match segment::vm_to_file_offset_near(segments, mapping, vmaddr) {
-        FileOffset::At(offset) => {
-            let off = offset as usize;
-            if image.len() < off || image.len() - off < len {
-                return None;
-            }
-            Some(off)
-        }
-        FileOffset::Nothing => None,
+    let off = segment::vm_to_file_offset_near(segments, mapping, vmaddr)? as usize;
+    if image.len() < off || image.len() - off < len {
+        return None;
     }
+    Some(off)
 }
 
 // The bytes themselves, as that part of the image: empty if there are none.
@@ -54,22 +48,14 @@ pub fn read_bytes<'a>(
 }
 
 // The text at an address. There is none at address 0.
-pub fn read_cstr(image: &[u8], segments: &[u64], mapping: Mapping, vmaddr: u64) -> Text
-    ensures { text_of result ≡ text_place image.now (with_mapping mapping segments.now) vmaddr }
+pub fn read_cstr(image: &[u8], segments: &[u64], mapping: Mapping, vmaddr: u64) -> Option<Place>
+    ensures { result ≡ text_place image.now (with_mapping mapping segments.now) vmaddr }
 {
     if vmaddr == 0 {
-        return Text::Nothing;
+        return None;
     }
-    match segment::vm_to_file_offset_near(segments, mapping, vmaddr) {
-        FileOffset::At(offset) => {
-            let off = offset as usize;
-            // The answer's place is `off`. It is returned as `off`, since copying it from the answer takes longer: docs/DECISIONS.md,
-            // "Speed".
-            match util::read_cstr_at(image, off) {
-                Text::At { place: _, length } => Text::At { place: off, length },
-                Text::Nothing => Text::Nothing,
-            }
-        }
-        FileOffset::Nothing => Text::Nothing,
-    }
+    let start = segment::vm_to_file_offset_near(segments, mapping, vmaddr)? as usize;
+    // The answer's place is `start`. It is returned as `start`, since copying it from the answer takes longer: docs/DECISIONS.md, "Speed".
+    let size = util::read_cstr_at(image, start)?.size;
+    Some(Place { start, size })
 }

@@ -1,5 +1,5 @@
--- `runtime::reflstr::section_text` meets its contract: each `return` is a case of `sectionText`.
-use native.Mathlib.Omega.{arith}
+-- `runtime::reflstr::section_text` meets its contract: each `return` is a case of `section_text`.
+use Rattle.std.proofs.Common.{arith}
 use Rattle.runtime.proofs.CallsLaws.{section_below, section_past, section_at}
 use Rattle.runtime.proofs.reflstr.section_text.Goals as goal
 
