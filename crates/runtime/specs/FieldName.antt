@@ -4,11 +4,12 @@ use Rattle.util.specs.declared.cstr.Place.{Place}
 use Rattle.util.specs.Cstr.{text_at, part_of}
 use Rattle.runtime.specs.Reads.{text_place}
 use Rattle.runtime.specs.declared.reflstr.FieldName.{FieldName}
-pub use Rattle.runtime.specs.declared.reflstr.FieldName.TheVariants.{Image as in_image, Strings as in_strings}
+use Rattle.runtime.specs.declared.reflstr.FieldName.TheVariants.{Image, Strings}
 
 -- a place in the image or in the string section
-abbrev pub NamePlace : Type 0
-NamePlace = FieldName
+pub data NamePlace : Type 0 where
+  in_image : Place → NamePlace
+  in_strings : Place → NamePlace
 
 -- the text at an address inside a section that starts at `start`
 unfoldable pub section_text : List ℕ → ℕ → ℕ → Option Place
@@ -24,6 +25,14 @@ unfoldable pub field_name : List ℕ → List ℕ → List ℕ → ℕ → ℕ �
 field_name image segments strings start address =
     cond (eqb address 0) None
     (or_else (option_map in_image (text_place image segments address)) (option_map in_strings (section_text strings start address)))
+
+-- what a call's answer says
+abbrev pub name_place : FieldName → NamePlace
+name_place (Image p) = in_image p
+name_place (Strings p) = in_strings p
+
+abbrev pub field_name_of : Option FieldName → Option NamePlace
+field_name_of name = option_map name_place name
 
 -- the bytes of a name, none if there is none
 abbrev pub name_part : List ℕ → List ℕ → Option NamePlace → List ℕ

@@ -1,5 +1,5 @@
 ghost use Rattle.std.specs.Prelude.{◌≡◌};
-ghost use Rattle.runtime.specs.FieldName.{field_name, name_part, section_text};
+ghost use Rattle.runtime.specs.FieldName.{field_name, field_name_of, name_part, section_text};
 ghost use Rattle.segment.specs.Mapping.{with_mapping};
 
 use segment::Mapping;
@@ -35,7 +35,7 @@ pub fn lookup_field_name(
     vmaddr: u64,
     target_va: u64,
 ) -> Option<FieldName>
-    ensures { result ≡ field_name image.now (with_mapping mapping segments.now) strings.now vmaddr target_va }
+    ensures { field_name_of result ≡ field_name image.now (with_mapping mapping segments.now) strings.now vmaddr target_va }
 {
     if target_va == 0 {
         return None;
@@ -51,7 +51,7 @@ pub fn lookup_field_name(
 
 // The part of the image or of the string section that a name is: empty if there is none.
 pub fn field_name_part<'a>(image: &'a [u8], strings: &'a [u8], name: Option<FieldName>) -> &'a [u8]
-    ensures { result.now ≡ name_part image.now strings.now name }
+    ensures { result.now ≡ name_part image.now strings.now (field_name_of name) }
 {
     match name {
         Some(FieldName::Image(place)) => util::part(image, place.start, place.size),
