@@ -2,7 +2,7 @@
 -- stepping from the start gives the blocks of all kinds that are present and can be read (`stepped-blocks-take`, `stepped-blocks`), and
 -- then none is left (`stepped-blocks-end`); what the set's count counts (`bits_are`); and that the block of a kind is of that kind, with
 -- what its row records (`block-recorded`).
-use Prim.Native.Nat.{ℕ, zero, suc, ◌+◌, ◌-◌, ◌/◌, ◌%◌, ◌^◌, ◌≤◌, ◌<◌}
+use Prim.Native.Nat.{ℕ, zero, suc, ◌+◌, ◌/◌, ◌%◌, ◌^◌, ◌≤◌, ◌<◌}
 use Rattle.std.proofs.Common.{pow-suc, mod-lt, mul_comm, div-one, ◌∙◌, take_all}
 use Rattle.std.proofs.Math.Nat.{div-div-eq-div-mul}
 use native.Mathlib.Omega.{arith}
@@ -15,19 +15,19 @@ use Rattle.context.specs.Bits.{bit}
 use Rattle.runtime.specs.Reads.{Reads, nothing, and_then, run}
 use Rattle.runtime.proofs.ReadsLaws.{run_bind}
 use Rattle.runtime.proofs.PathLaws.{bytes_read_lem}
-use Rattle.classtrailers.specs.Blocks.{Trailing, block_table, set_bits, row_at, read_header, below, Ended, ended, block_at, record_at, reached, block_in, row_number, block, Walk, Step, after, next_block, with_block, blocks}
+use Rattle.classtrailers.specs.Blocks.{Trailing, block_table, set_bits, row_at, read_header, below, Ended, ended, block_at, record_at, reached, block_in, row_number, block, BlockIter, BlockStep, after, next_block, with_block, blocks}
 use Rattle.classtrailers.proofs.CallsLaws.{record_says, end_says, step_as, next_there, next_absent, walk_over, pass_absent, pass_there, reached_start, reached_next, stopped, kind_stops, kind_absent, kind_there_lem}
 use Rattle.classtrailers.specs.declared.block.Block.{Block}
 use Rattle.classtrailers.specs.declared.block.BlockKind.{BlockKind}
 
 -- the blocks that at most `n` steps of a walk give, each step from where the one before it left off
-unfoldable pub stepped_blocks : List ℕ → List ℕ → ℕ → Walk → List Block
+unfoldable pub stepped_blocks : List ℕ → List ℕ → ℕ → BlockIter → List Block
 stepped_blocks image segments zero w = []
 stepped_blocks image segments (suc n) w =
     elim (next_block image segments w) [ None ↦ [] | Some s ↦ s.block ∷ stepped_blocks image segments n s.next ]
 
 -- and the walk at which they leave off
-unfoldable pub stepped_blocks_to : List ℕ → List ℕ → ℕ → Walk → Walk
+unfoldable pub stepped_blocks_to : List ℕ → List ℕ → ℕ → BlockIter → BlockIter
 stepped_blocks_to image segments zero w = w
 stepped_blocks_to image segments (suc n) w =
     elim (next_block image segments w) [ None ↦ w | Some s ↦ stepped_blocks_to image segments n s.next ]
@@ -60,34 +60,34 @@ take_none (suc n) = refl
 
 module _ (image segments : List ℕ) where
   -- a walk that has ended stays ended
-  stepped_over : (n : ℕ) (w : Walk) → None ≡ next_block image segments w → stepped_blocks image segments n w ≡ []
+  stepped_over : (n : ℕ) (w : BlockIter) → None ≡ next_block image segments w → stepped_blocks image segments n w ≡ []
   unfolding stepped_blocks
   stepped_over zero w e = refl
   stepped_over (suc n) w e = rw (stepped_blocks, ← e)
 
-  left_over : (n : ℕ) (w : Walk) → None ≡ next_block image segments w → stepped_blocks_to image segments n w ≡ w
+  left_over : (n : ℕ) (w : BlockIter) → None ≡ next_block image segments w → stepped_blocks_to image segments n w ≡ w
   unfolding stepped_blocks_to
   left_over zero w e = refl
   left_over (suc n) w e = rw (stepped_blocks_to, ← e)
 
   -- two walks whose next step is the same
-  stepped_same : (n : ℕ) (v w : Walk) → next_block image segments v ≡ next_block image segments w → stepped_blocks image segments n v ≡ stepped_blocks image segments n w
+  stepped_same : (n : ℕ) (v w : BlockIter) → next_block image segments v ≡ next_block image segments w → stepped_blocks image segments n v ≡ stepped_blocks image segments n w
   unfolding stepped_blocks
   stepped_same zero v w e = refl
   stepped_same (suc n) v w e = rw (stepped_blocks, e)
 
-  left_same : (n : ℕ) (v w : Walk) → next_block image segments v ≡ next_block image segments w
+  left_same : (n : ℕ) (v w : BlockIter) → next_block image segments v ≡ next_block image segments w
       → None ≡ next_block image segments (stepped_blocks_to image segments n w) → None ≡ next_block image segments (stepped_blocks_to image segments n v)
   unfolding stepped_blocks_to
   left_same zero v w e h = h ∙ sym e
   left_same (suc n) v w e h = go (next_block image segments w) refl
     where
-      go : (x : Option Step) → next_block image segments w ≡ x → None ≡ next_block image segments (stepped_blocks_to image segments (suc n) v)
+      go : (x : Option BlockStep) → next_block image segments w ≡ x → None ≡ next_block image segments (stepped_blocks_to image segments (suc n) v)
       go None f = rw (stepped_blocks_to, e, f) (sym (e ∙ f))
       go (Some s) f = rw (stepped_blocks_to, e, f) (rw (stepped_blocks_to, f) at h)
 
   module _ (t : Trailing) (start : ℕ) where
-    abbrev at : ℕ → ℕ → Walk
+    abbrev at : ℕ → ℕ → BlockIter
     at i a = record { trailing = t; row = i; address = a }
 
     over : (i a : ℕ) → 11 ≤ i → None ≡ next_block image segments (at i a)

@@ -4,16 +4,17 @@ use Rattle.std.proofs.Math.Decide.{dec_le}
 use native.Mathlib.Omega.{arith}
 use Rattle.std.proofs.Common.{add-one, pow-suc, mul-le-mul_right, sub-eq-zero_of_le, ◌∙◌, le-leb}
 use Rattle.std.proofs.Math.Path.{◌≡◌, refl, sym, ap}
-use Rattle.std.specs.Prelude.{List, [], ◌∷◌, map, Bool, length, leb, Option, Some, None, option_map, slice_get}
+use Rattle.std.specs.Prelude.{List, [], ◌∷◌, map, Bool, length, Option, Some, None, SomeIff, option_map, slice_get}
 use Rattle.std.proofs.Math.Bool.{true, false, cond}
 use Rattle.std.proofs.Math.ListN.{get_or-eq_default}
+use Rattle.std.specs.Bool.{then_some}
 use Rattle.std.specs.Int.Count.{ones, ones_step}
 use Rattle.std.proofs.lemmas.Bool.{lt-leb}
 use Rattle.runtime.specs.Reads.{done, run, and_then}
 use Rattle.runtime.proofs.ReadsLaws.{run_bind}
 use Rattle.runtime.specs.Bytes.{bytes_read}
 use Rattle.runtime.proofs.CallsLaws.{run_bytes, run_no_bytes}
-use Rattle.classtrailers.specs.Blocks.{Trailing, set_block, BlockRow, plain, block_table, set_bits, row_at, below, Ended, ended, block_at, record_at, somewhere, end_at, passed, reached, block_in, block, row_number, kind_numbered, kind_there, after, Step, step_at, step_in, next_block}
+use Rattle.classtrailers.specs.Blocks.{Trailing, set_block, BlockRow, plain, listed, block_table, set_bits, row_at, below, Ended, ended, block_at, record_at, somewhere, end_at, passed, reached, block_in, row_number, kind_numbered, kind_there, after, BlockIter, BlockStep, step_at, step_in, next_block}
 use Rattle.classtrailers.specs.declared.block.Block.{Block}
 use Rattle.classtrailers.specs.declared.block.BlockBody.{BlockBody}
 use Rattle.classtrailers.specs.declared.block.BlockKind.{BlockKind}
@@ -53,6 +54,11 @@ module _ (n : ℕ) where
           let z : ◌≡◌ {A = ℕ} 0 1 = cc in
           absurd (omega arith)
 
+-- the end that a sum without overflow gives
+pub ends_within : (x : Option ℕ) (n : ℕ) → SomeIff x (n < 2 ^ 64) n → x ≡ below n
+ends_within None n h = ends_above n (elim (dec_le (2 ^ 64) n) [ yes l ↦ l | no l ↦ absurd (h (omega arith)) ])
+ends_within (Some e) n h = rw h.1 (ends_below n h.0)
+
 -- entries of at most 12 bytes, and what comes before them
 pub entries_fit : (n k : ℕ) → n ≤ 12 → k < 2 ^ 32 → 4 + n * k < 2 ^ 64
 entries_fit n k h l = omega (arith, mul-le-mul_right k h)
@@ -66,34 +72,14 @@ module _ (k l : BlockKind) (e : k ≡ l) where
   pub kind_says : (image segments : List ℕ) (a : ℕ) (x : Option Ended) → x ≡ run image segments (block_at (row_at (row_number l)) a) → x ≡ run image segments (block_at (row_at (row_number k)) a)
   kind_says image segments a x h = rw e h
 
--- a number that is not among the first `k`
-abbrev pub Past : ℕ → ℕ → Type 0
-Past zero n = Unit {0}
-Past (suc k) n = Past k n × (n ≡ k → ⊥)
-
-pub past : (k n : ℕ) → Past k n → k ≤ n
-past zero n h = omega arith
-past (suc k) n h =
-    let l : k ≤ n = past k n h.0 in
-    elim (dec_le n k) [ yes g ↦ absurd (h.1 (omega arith)) | no g ↦ omega arith ]
+  pub kind_listed : (image segments : List ℕ) (n a : ℕ) (x : Option Ended) → x ≡ run image segments (block_at (listed k (λ _. false) n) a) → x ≡ run image segments (block_at (listed l (λ _. false) n) a)
+  kind_listed image segments n a x h = rw (← e) h
 
 no_row : (n : ℕ) (t : Trailing) → 11 ≤ n → false ≡ (row_at n).there t
 unfolding row_at
 no_row n t h = rw (get_or-eq_default block_table (plain BlockKind.Generic (λ _. false) 0) h)
 
 -- ---- the kind with a number
-
-pub kind_as : (n k : ℕ) (x : Option BlockKind) → n ≡ k → x ≡ kind_numbered k → x ≡ kind_numbered n
-kind_as n k x e f = rw e f
-
-past_end : (l : List BlockKind) (n : ℕ) → length l ≤ n → None ≡ slice_get l n
-past_end [] n h = refl
-past_end (a ∷ l) zero h = absurd (omega arith)
-past_end (a ∷ l) (suc n) h = past_end l n (omega arith)
-
-pub no_kind : (n : ℕ) → 11 ≤ n → None ≡ kind_numbered n
-unfolding kind_numbered
-no_kind n h = past_end (map (λ (r : BlockRow). r.kind) block_table) n h
 
 none_past : (n : ℕ) → None ≡ kind_numbered n → 11 ≤ n
 unfolding kind_numbered
@@ -131,6 +117,10 @@ module _ (t : Trailing) (n : ℕ) where
   pub absent_kind : (k : BlockKind) → (row_at (row_number k)).there t ≡ false → Some k ≡ kind_numbered n → None ≡ kind_there t n
   unfolding kind_there
   absent_kind k y e = let f : (row_at n).there t ≡ false = rw (kind_at n k e) y in rw f
+
+  pub kind_kept : (k : BlockKind) (b : Bool) → b ≡ (row_at (row_number k)).there t → Some k ≡ kind_numbered n → then_some b k ≡ kind_there t n
+  kind_kept k true y e = there_kind k (sym y) e
+  kind_kept k false y e = absent_kind k (sym y) e
 
   pub no_kind_there : None ≡ kind_numbered n → None ≡ kind_there t n
   unfolding kind_there
@@ -223,6 +213,9 @@ set_counted b w n x e h u = u ∙ rw (bits_counted 16 b h, e)
 
 -- ---- the walk
 
+pub stepped_to : (b : Block) (w v : BlockIter) → w ≡ v → ◌≡◌ {A = Option BlockStep} (Some (record { block = b; next = w })) (Some (record { block = b; next = v }))
+stepped_to b w v e = rw e
+
 module _ (image segments : List ℕ) (t : Trailing) (i a : ℕ) where
   pub step_as : (x : Option Ended) → x ≡ run image segments (block_at (row_at i) a) → option_map (λ y. record { block = y.block; next = after t (i + 1) y.end }) x ≡ step_at image segments t i a
   unfolding step_at
@@ -236,7 +229,7 @@ module _ (image segments : List ℕ) (t : Trailing) (i a : ℕ) where
   unfolding next_block
   here h = ap (λ (n : ℕ). step_in image segments t n i a) (omega arith)
 
-  pub next_there : (x : Option Step) → (row_at i).there t ≡ true → x ≡ step_at image segments t i a → i < 11
+  pub next_there : (x : Option BlockStep) → (row_at i).there t ≡ true → x ≡ step_at image segments t i a → i < 11
       → x ≡ next_block image segments (record { trailing = t; row = i; address = a })
   unfolding step_in
   next_there x y e h = rw (here h, step_in, y) e

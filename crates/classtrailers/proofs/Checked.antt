@@ -7,7 +7,7 @@ use Rattle.segment.specs.Segments.{segments_of, file_offset}
 use Rattle.util.specs.LittleEndian.{unsigned_in}
 use Rattle.runtime.specs.Reads.{run, bind, path, also, bytes_range}
 use Rattle.runtime.specs.Bytes.{bytes_read}
-use Rattle.classtrailers.specs.Blocks.{Trailing, table_block, generic_size, row_at, below, block_at, end_at, passed, reached, block}
+use Rattle.classtrailers.specs.Blocks.{Trailing, table_block, generic_size, row_at, below, block_at, passed, reached, block}
 use Rattle.classtrailers.proofs.CallsLaws.{ends_below, record_says, end_says, block_says, pass_there, reached_next, kind_there_lem}
 use Rattle.classtrailers.proofs.PathLaws.{headers, row_range, block_path}
 use Rattle.classtrailers.specs.declared.block.Block.{Block}

@@ -9,13 +9,10 @@ use Rattle.runtime.specs.Reads.{Reads, done, nothing, bytes, bind, run}
 use Rattle.classtrailers.specs.declared.block.Block.{Block}
 use Rattle.classtrailers.specs.declared.block.BlockBody.{BlockBody}
 use Rattle.classtrailers.specs.declared.block.BlockKind.{BlockKind}
-
--- what decides which blocks a descriptor has: its flags word, whether it is a class, and the extra class flags, which only a class with
--- a resilient superclass has (0 if there are none)
-pub record Trailing : Type 0 where
-  pub flags : ℕ
-  pub is_class : Bool
-  pub extra : ℕ
+pub use Rattle.classtrailers.specs.declared.block.Ended.{Ended}
+pub use Rattle.classtrailers.specs.declared.iter.BlockIter.{BlockIter}
+pub use Rattle.classtrailers.specs.declared.iter.BlockStep.{BlockStep}
+pub use Rattle.classtrailers.specs.declared.trailing.Trailing.{Trailing}
 
 abbrev pub type_flags : Trailing → ℕ
 type_flags t = kind_specific_flags t.flags
@@ -110,11 +107,6 @@ read_header a (suc n) k = bytes a (suc n) k
 unfoldable pub below : ℕ → Option ℕ
 below n = cond (leb (2 ^ 64) n) None (Some n)
 
--- a block, and where the next one starts: nowhere if its end reaches 2^64
-pub record Ended : Type 0 where
-  pub block : Block
-  pub end : Option ℕ
-
 -- a bounded block is recorded only if it has an end
 abbrev pub ended : Bool → Block → Option ℕ → Reads Ended
 ended true b None = nothing
@@ -175,33 +167,23 @@ block t start k = block_in t start (row_number k)
 
 -- ---- the walk
 
--- where a walk stands: the number of the row that comes next, and the address of what follows; past the table's end it has ended
-pub record Walk : Type 0 where
-  pub trailing : Trailing
-  pub row : ℕ
-  pub address : ℕ
-
-pub record Step : Type 0 where
-  pub block : Block
-  pub next : Walk
-
 -- the walk after row `i`: it has ended if the block's end overflowed
-abbrev pub after : Trailing → ℕ → Option ℕ → Walk
+abbrev pub after : Trailing → ℕ → Option ℕ → BlockIter
 after t i None = record { trailing = t; row = 11; address = 0 }
 after t i (Some a) = record { trailing = t; row = i; address = a }
 
-unfoldable pub step_at : List ℕ → List ℕ → Trailing → ℕ → ℕ → Option Step
+unfoldable pub step_at : List ℕ → List ℕ → Trailing → ℕ → ℕ → Option BlockStep
 step_at image segments t i a =
     option_map (λ x. record { block = x.block; next = after t (i + 1) x.end }) (run image segments (block_at (row_at i) a))
 
 -- the next block of `n` rows from row `i` on, at address `a`: rows whose block is not present are passed over, and the first failure ends
 -- the walk
-unfoldable pub step_in : List ℕ → List ℕ → Trailing → ℕ → ℕ → ℕ → Option Step
+unfoldable pub step_in : List ℕ → List ℕ → Trailing → ℕ → ℕ → ℕ → Option BlockStep
 step_in image segments t zero i a = None
 step_in image segments t (suc n) i a =
     cond ((row_at i).there t) (step_at image segments t i a) (step_in image segments t n (i + 1) a)
 
-unfoldable pub next_block : List ℕ → List ℕ → Walk → Option Step
+unfoldable pub next_block : List ℕ → List ℕ → BlockIter → Option BlockStep
 next_block image segments w = step_in image segments w.trailing (11 - w.row) w.row w.address
 
 -- ---- all blocks of a descriptor

@@ -35,3 +35,10 @@ pub struct Block {
     pub kind: BlockKind,
     pub body: BlockBody,
 }
+
+// A block, and the address where the next one starts: none if it ends past the last address.
+#[derive(Clone, Copy)]
+pub struct Ended {
+    pub block: Block,
+    pub end: Option<u64>,
+}

@@ -2,14 +2,12 @@
 ghost use Rattle.std.specs.Prelude.{◌≡◌, ◌<◌};
 ghost use Rattle.runtime.specs.Reads.{run};
 ghost use Rattle.segment.specs.Mapping.{with_mapping};
-ghost use Rattle.segment.specs.VmAddress.{address_of};
-ghost use Rattle.classtrailers.specs.Blocks.{row_at, row_number, passed, step_at, next_block, block};
-ghost use Rattle.classtrailers.specs.Calls.{trailing_of, walk_of, block_step_of, block_read_of};
+ghost use Rattle.classtrailers.specs.Blocks.{row_at, row_number, passed, after, step_at, next_block, block};
 
 use crate::block::{Block, BlockKind};
-use crate::decode::{BlockAt, block_at};
-use crate::trailing::{KindRead, Trailing, has_block, kind_there, number_of};
-use segment::{Mapping, VmAddress};
+use crate::decode::block_at;
+use crate::trailing::{Trailing, has_block, kind_there, number_of};
+use segment::Mapping;
 
 // How many kinds of blocks there are.
 pub const ROWS: u32 = 11;
@@ -22,16 +20,29 @@ pub struct BlockIter {
     pub address: u64,
 }
 
+// A block, and the walk from its end on.
 #[derive(Clone, Copy)]
-pub enum BlockStep {
-    Block { block: Block, next: BlockIter },
-    End,
+pub struct BlockStep {
+    pub block: Block,
+    pub next: BlockIter,
 }
 
-#[derive(Clone, Copy)]
-pub enum BlockRead {
-    Block(Block),
-    Nothing,
+// The walk from a block's end on, with the kind that comes next; it is over if that end is past the last address.
+fn after(trailing: Trailing, row: u32, end: Option<u64>) -> BlockIter
+    ensures { result ≡ after trailing row end }
+{
+    match end {
+        Some(address) => BlockIter {
+            trailing,
+            row,
+            address,
+        },
+        None => BlockIter {
+            trailing,
+            row: ROWS,
+            address: 0,
+        },
+    }
 }
 
 // A block that is present, of the kind with this number, and the walk from its end on.
@@ -42,29 +53,15 @@ fn step_at(
     row: u32,
     kind: BlockKind,
     address: u64,
-) -> BlockStep
+) -> Option<BlockStep>
     requires { (row < 11) × (row ≡ row_number kind) }
-    ensures { block_step_of result ≡ step_at image.now segments.now (trailing_of trailing) row address }
+    ensures { result ≡ step_at image.now segments.now trailing row address }
 {
-    match block_at(image, segments, segment::NO_MAPPING, kind, address) {
-        BlockAt::Block { block, end } => BlockStep::Block {
-            block,
-            next: BlockIter {
-                trailing,
-                row: row + 1,
-                address: end,
-            },
-        },
-        BlockAt::Last(block) => BlockStep::Block {
-            block,
-            next: BlockIter {
-                trailing,
-                row: ROWS,
-                address: 0,
-            },
-        },
-        BlockAt::Nothing => BlockStep::End,
-    }
+    let found = block_at(image, segments, segment::NO_MAPPING, kind, address)?;
+    Some(BlockStep {
+        block: found.block,
+        next: after(trailing, row + 1, found.end),
+    })
 }
 
 impl BlockIter {
@@ -80,23 +77,15 @@ impl BlockIter {
     }
 
     // The next block that is present.
-    pub fn next(self, image: &[u8], segments: &[u64]) -> BlockStep
-        ensures { block_step_of result ≡ next_block image.now segments.now (walk_of self) }
+    pub fn next(self, image: &[u8], segments: &[u64]) -> Option<BlockStep>
+        ensures { result ≡ next_block image.now segments.now self }
     {
-        let trailing = self.trailing;
-        let address = self.address;
-        let mut row = self.row;
-        while row < ROWS {
-            match kind_there(trailing, row) {
-                KindRead::Kind(kind) => {
-                    return step_at(image, segments, trailing, row, kind, address);
-                }
-                KindRead::Nothing => {
-                    row += 1;
-                }
+        for row in self.row..ROWS {
+            if let Some(kind) = kind_there(self.trailing, row) {
+                return step_at(image, segments, self.trailing, row, kind, self.address);
             }
         }
-        BlockStep::End
+        None
     }
 }
 
@@ -108,17 +97,13 @@ fn pass(
     trailing: Trailing,
     row: u32,
     address: u64,
-) -> VmAddress
-    ensures { address_of result ≡ run image.now (with_mapping mapping segments.now) (passed (trailing_of trailing) (row_at row) address) }
+) -> Option<u64>
+    ensures { result ≡ run image.now (with_mapping mapping segments.now) (passed trailing (row_at row) address) }
 {
-    let KindRead::Kind(kind) = kind_there(trailing, row) else {
-        return VmAddress::At(address);
+    let Some(kind) = kind_there(trailing, row) else {
+        return Some(address);
     };
-    match block_at(image, segments, mapping, kind, address) {
-        BlockAt::Block { block: _, end } => VmAddress::At(end),
-        BlockAt::Last(_) => VmAddress::Nothing,
-        BlockAt::Nothing => VmAddress::Nothing,
-    }
+    block_at(image, segments, mapping, kind, address)?.end
 }
 
 // The block of a kind, for a descriptor whose blocks start at an address. Only the headers of the blocks before it are read.
@@ -129,29 +114,16 @@ pub fn block_of_kind(
     trailing: Trailing,
     start: u64,
     kind: BlockKind,
-) -> BlockRead
-    ensures { block_read_of result ≡ run image.now (with_mapping mapping segments.now) (block (trailing_of trailing) start kind) }
+) -> Option<Block>
+    ensures { result ≡ run image.now (with_mapping mapping segments.now) (block trailing start kind) }
 {
-    let number = number_of(kind);
     if !has_block(trailing, kind) {
-        return BlockRead::Nothing;
+        return None;
     }
     let mut address = start;
-    let mut row: u32 = 0;
-    while row < number {
-        match pass(image, segments, mapping, trailing, row, address) {
-            VmAddress::At(end) => {
-                address = end;
-                row += 1;
-            }
-            VmAddress::Nothing => {
-                return BlockRead::Nothing;
-            }
-        }
+    for row in 0..number_of(kind) {
+        address = pass(image, segments, mapping, trailing, row, address)?;
     }
-    match block_at(image, segments, mapping, kind, address) {
-        BlockAt::Block { block, end: _ } => BlockRead::Block(block),
-        BlockAt::Last(block) => BlockRead::Block(block),
-        BlockAt::Nothing => BlockRead::Nothing,
-    }
+    let found = block_at(image, segments, mapping, kind, address)?;
+    Some(found.block)
 }

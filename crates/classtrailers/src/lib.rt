@@ -6,7 +6,7 @@ mod decode;
 mod iter;
 mod trailing;
 
-pub use block::{Block, BlockBody, BlockKind};
-pub use decode::{BlockAt, block_at};
-pub use iter::{BlockIter, BlockRead, BlockStep, block_of_kind};
-pub use trailing::{KindRead, Trailing, kind_numbered, kind_there, number_of};
+pub use block::{Block, BlockBody, BlockKind, Ended};
+pub use decode::block_at;
+pub use iter::{BlockIter, BlockStep, block_of_kind};
+pub use trailing::{Trailing, kind_numbered, kind_there, number_of};

@@ -1,7 +1,6 @@
 // Which blocks a descriptor has.
 ghost use Rattle.std.specs.Prelude.{◌≡◌};
 ghost use Rattle.classtrailers.specs.Blocks.{row_at, row_number, kind_numbered, kind_there};
-ghost use Rattle.classtrailers.specs.Calls.{trailing_of, kind_read_of};
 
 use crate::block::BlockKind;
 use context::ContextDescriptorFlags;
@@ -14,54 +13,38 @@ pub struct Trailing {
     pub extra: u32,
 }
 
-#[derive(Clone, Copy)]
-pub enum KindRead {
-    Kind(BlockKind),
-    Nothing,
-}
+// The kinds in the order in which their blocks follow each other: a kind stands at its number.
+const KINDS: [BlockKind; 11] = [
+    BlockKind::Generic,
+    BlockKind::ResilientSuperclass,
+    BlockKind::ForeignMetadataInit,
+    BlockKind::SingletonMetadataInit,
+    BlockKind::VTable,
+    BlockKind::OverrideTable,
+    BlockKind::ObjcResilientClassStub,
+    BlockKind::Prespecializations,
+    BlockKind::InvertibleProtocolSet,
+    BlockKind::SingletonMetadataPointer,
+    BlockKind::DefaultOverrideTable,
+];
 
 // The number of a kind in the order in which blocks follow each other.
 pub fn number_of(kind: BlockKind) -> u32
     ensures { result ≡ row_number kind }
 {
-    match kind {
-        BlockKind::Generic => 0,
-        BlockKind::ResilientSuperclass => 1,
-        BlockKind::ForeignMetadataInit => 2,
-        BlockKind::SingletonMetadataInit => 3,
-        BlockKind::VTable => 4,
-        BlockKind::OverrideTable => 5,
-        BlockKind::ObjcResilientClassStub => 6,
-        BlockKind::Prespecializations => 7,
-        BlockKind::InvertibleProtocolSet => 8,
-        BlockKind::SingletonMetadataPointer => 9,
-        BlockKind::DefaultOverrideTable => 10,
-    }
+    kind as u32
 }
 
 // The kind with a number.
-pub fn kind_numbered(number: u32) -> KindRead
-    ensures { kind_read_of result ≡ kind_numbered number }
+pub fn kind_numbered(number: u32) -> Option<BlockKind>
+    ensures { result ≡ kind_numbered number }
 {
-    match number {
-        0 => KindRead::Kind(BlockKind::Generic),
-        1 => KindRead::Kind(BlockKind::ResilientSuperclass),
-        2 => KindRead::Kind(BlockKind::ForeignMetadataInit),
-        3 => KindRead::Kind(BlockKind::SingletonMetadataInit),
-        4 => KindRead::Kind(BlockKind::VTable),
-        5 => KindRead::Kind(BlockKind::OverrideTable),
-        6 => KindRead::Kind(BlockKind::ObjcResilientClassStub),
-        7 => KindRead::Kind(BlockKind::Prespecializations),
-        8 => KindRead::Kind(BlockKind::InvertibleProtocolSet),
-        9 => KindRead::Kind(BlockKind::SingletonMetadataPointer),
-        10 => KindRead::Kind(BlockKind::DefaultOverrideTable),
-        _ => KindRead::Nothing,
-    }
+    KINDS.get(number as usize).copied()
 }
 
 // Whether there is a block of a kind.
 pub fn has_block(trailing: Trailing, kind: BlockKind) -> bool
-    ensures { result ≡ (row_at (row_number kind)).there (trailing_of trailing) }
+    ensures { result ≡ (row_at (row_number kind)).there trailing }
 {
     let flags = ContextDescriptorFlags(trailing.flags);
     let types = flags.type_flags();
@@ -84,17 +67,9 @@ pub fn has_block(trailing: Trailing, kind: BlockKind) -> bool
 }
 
 // The kind with a number, if there is a block of it.
-pub fn kind_there(trailing: Trailing, number: u32) -> KindRead
-    ensures { kind_read_of result ≡ kind_there (trailing_of trailing) number }
+pub fn kind_there(trailing: Trailing, number: u32) -> Option<BlockKind>
+    ensures { result ≡ kind_there trailing number }
 {
-    match kind_numbered(number) {
-        KindRead::Kind(kind) => {
-            if has_block(trailing, kind) {
-                KindRead::Kind(kind)
-            } else {
-                KindRead::Nothing
-            }
-        }
-        KindRead::Nothing => KindRead::Nothing,
-    }
+    let kind = kind_numbered(number)?;
+    has_block(trailing, kind).then_some(kind)
 }

@@ -1,5 +1,7 @@
 -- `classtrailers::decode::block_at` meets its contract: each arm is a row of the table.
-use Rattle.classtrailers.proofs.CallsLaws.{kind_says}
+use Rattle.std.specs.Prelude.{Some}
+use Rattle.std.proofs.Common.{ap, ◌∙◌}
+use Rattle.classtrailers.proofs.CallsLaws.{kind_says, kind_listed}
 use Rattle.classtrailers.specs.Blocks.{row_at, block_at}
 use Rattle.runtime.specs.Reads.{run}
 use Rattle.classtrailers.proofs.decode.block_at.Goals as goal
@@ -9,38 +11,38 @@ returns-in-Generic c = kind_says _ _ c.in-Generic.is _ _ _ _ c.generic_at.ensure
 
 pub returns-in-ResilientSuperclass : goal.returns-in-ResilientSuperclass
 unfolding row_at block_at run
-returns-in-ResilientSuperclass c = kind_says _ _ c.in-ResilientSuperclass.is _ _ _ _ c.plain_at.ensures
+returns-in-ResilientSuperclass c = ap Some c.plain_at.ensures ∙ kind_says _ _ c.in-ResilientSuperclass.is _ _ _ _ (rw c.in-ResilientSuperclass.is)
 
 pub returns-in-ForeignMetadataInit : goal.returns-in-ForeignMetadataInit
 unfolding row_at block_at run
-returns-in-ForeignMetadataInit c = kind_says _ _ c.in-ForeignMetadataInit.is _ _ _ _ c.plain_at-in-ForeignMetadataInit.ensures
+returns-in-ForeignMetadataInit c = ap Some c.plain_at-in-ForeignMetadataInit.ensures ∙ kind_says _ _ c.in-ForeignMetadataInit.is _ _ _ _ (rw c.in-ForeignMetadataInit.is)
 
 pub returns-in-SingletonMetadataInit : goal.returns-in-SingletonMetadataInit
 unfolding row_at block_at run
-returns-in-SingletonMetadataInit c = kind_says _ _ c.in-SingletonMetadataInit.is _ _ _ _ c.plain_at-in-SingletonMetadataInit.ensures
+returns-in-SingletonMetadataInit c = ap Some c.plain_at-in-SingletonMetadataInit.ensures ∙ kind_says _ _ c.in-SingletonMetadataInit.is _ _ _ _ (rw c.in-SingletonMetadataInit.is)
 
 pub returns-in-VTable : goal.returns-in-VTable
 returns-in-VTable c = kind_says _ _ c.in-VTable.is _ _ _ _ c.vtable_at.ensures
 
 pub returns-in-OverrideTable : goal.returns-in-OverrideTable
 unfolding row_at block_at run
-returns-in-OverrideTable c = kind_says _ _ c.in-OverrideTable.is _ _ _ _ c.entries_at.ensures
+returns-in-OverrideTable c = kind_says _ _ c.in-OverrideTable.is _ _ _ _ (kind_listed _ _ c.in-OverrideTable.is _ _ _ _ _ c.entries_at.ensures)
 
 pub returns-in-ObjcResilientClassStub : goal.returns-in-ObjcResilientClassStub
 unfolding row_at block_at run
-returns-in-ObjcResilientClassStub c = kind_says _ _ c.in-ObjcResilientClassStub.is _ _ _ _ c.plain_at-in-ObjcResilientClassStub.ensures
+returns-in-ObjcResilientClassStub c = ap Some c.plain_at-in-ObjcResilientClassStub.ensures ∙ kind_says _ _ c.in-ObjcResilientClassStub.is _ _ _ _ (rw c.in-ObjcResilientClassStub.is)
 
 pub returns-in-Prespecializations : goal.returns-in-Prespecializations
 unfolding row_at block_at run
-returns-in-Prespecializations c = kind_says _ _ c.in-Prespecializations.is _ _ _ _ c.entries_at-in-Prespecializations.ensures
+returns-in-Prespecializations c = kind_says _ _ c.in-Prespecializations.is _ _ _ _ (kind_listed _ _ c.in-Prespecializations.is _ _ _ _ _ c.entries_at-in-Prespecializations.ensures)
 
 pub returns-in-InvertibleProtocolSet : goal.returns-in-InvertibleProtocolSet
 returns-in-InvertibleProtocolSet c = kind_says _ _ c.in-InvertibleProtocolSet.is _ _ _ _ c.invertible_at.ensures
 
 pub returns-in-SingletonMetadataPointer : goal.returns-in-SingletonMetadataPointer
 unfolding row_at block_at run
-returns-in-SingletonMetadataPointer c = kind_says _ _ c.in-SingletonMetadataPointer.is _ _ _ _ c.plain_at-in-SingletonMetadataPointer.ensures
+returns-in-SingletonMetadataPointer c = ap Some c.plain_at-in-SingletonMetadataPointer.ensures ∙ kind_says _ _ c.in-SingletonMetadataPointer.is _ _ _ _ (rw c.in-SingletonMetadataPointer.is)
 
 pub returns-in-DefaultOverrideTable : goal.returns-in-DefaultOverrideTable
 unfolding row_at block_at run
-returns-in-DefaultOverrideTable c = kind_says _ _ c.in-DefaultOverrideTable.is _ _ _ _ c.entries_at-in-DefaultOverrideTable.ensures
+returns-in-DefaultOverrideTable c = kind_says _ _ c.in-DefaultOverrideTable.is _ _ _ _ (kind_listed _ _ c.in-DefaultOverrideTable.is _ _ _ _ _ c.entries_at-in-DefaultOverrideTable.ensures)

@@ -1,8 +1,6 @@
 -- `classtrailers::decode::vtable_at` meets its contract.
 use native.Mathlib.Omega.{arith}
 use mathlib.Core.Path.{refl, ◌∙◌}
-use Rattle.util.proofs.AnswersLaws.{told}
-use Rattle.segment.specs.VmAddress.{address_of}
 use Rattle.classtrailers.proofs.CallsLaws.{no_header, end_overflows, block_says, below_some}
 use Rattle.classtrailers.specs.Blocks.{row_at}
 use Rattle.classtrailers.proofs.decode.vtable_at.Goals as goal
@@ -12,12 +10,12 @@ unfolding row_at
 returns-then-header-lt8 c = no_header _ _ _ 7 _ c.read_bytes-header.ensures _ refl (omega arith)
 
 pub overflow_add-result : goal.overflow_add-result
-overflow_add-result c = omega (arith, below_some _ _ (told address_of c.end_of.ensures c.in-At.is))
+overflow_add-result c = omega (arith, below_some _ _ (c.in_ok-end.ensures))
 
-pub returns-in-At : goal.returns-in-At
+pub returns : goal.returns
 unfolding row_at
-returns-in-At c = block_says _ _ _ 7 _ c.read_bytes-header.ensures _ refl (omega arith) refl _ _ (rw (c.u32_at.ensures, c.u32_at-count.ensures)) (told address_of c.end_of.ensures c.in-At.is ∙ rw c.u32_at-count.ensures)
+returns c = block_says _ _ _ 7 _ c.read_bytes-header.ensures _ refl (omega arith) refl _ _ (rw (c.u32_at.ensures, c.u32_at-count.ensures)) (c.in_ok-end.ensures ∙ rw c.u32_at-count.ensures)
 
-pub returns-in-Nothing : goal.returns-in-Nothing
+pub returns-in_err-end : goal.returns-in_err-end
 unfolding row_at
-returns-in-Nothing c = end_overflows _ _ _ 7 _ c.read_bytes-header.ensures _ refl (omega arith) refl (told address_of c.end_of.ensures c.in-Nothing.is ∙ rw c.u32_at-count.ensures)
+returns-in_err-end c = c.from_residual.ensures ∙ end_overflows _ _ _ 7 _ c.read_bytes-header.ensures _ refl (omega arith) refl (c.in_err-end.ensures ∙ rw c.u32_at-count.ensures)

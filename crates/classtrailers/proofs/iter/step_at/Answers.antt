@@ -1,14 +1,10 @@
 -- `classtrailers::iter::step_at` meets its contract.
-use Rattle.util.proofs.AnswersLaws.{told}
-use Rattle.classtrailers.specs.Calls.{block_at_of}
-use Rattle.classtrailers.proofs.CallsLaws.{step_kind}
+use Rattle.std.proofs.Common.{◌∙◌}
+use Rattle.classtrailers.proofs.CallsLaws.{step_kind, stepped_to}
 use Rattle.classtrailers.proofs.iter.step_at.Goals as goal
 
-pub returns-in-Block : goal.returns-in-Block
-returns-in-Block c = step_kind _ _ _ _ _ c.args.kind _ c.requires.1 (told block_at_of c.block_at.ensures c.in-Block.is)
+pub returns-in_err-found : goal.returns-in_err-found
+returns-in_err-found c = c.from_residual.ensures ∙ step_kind _ _ _ _ _ c.args.kind _ c.requires.1 c.in_err-found.ensures
 
-pub returns-in-Last : goal.returns-in-Last
-returns-in-Last c = step_kind _ _ _ _ _ c.args.kind _ c.requires.1 (told block_at_of c.block_at.ensures c.in-Last.is)
-
-pub returns-in-Nothing : goal.returns-in-Nothing
-returns-in-Nothing c = step_kind _ _ _ _ _ c.args.kind _ c.requires.1 (told block_at_of c.block_at.ensures c.in-Nothing.is)
+pub returns : goal.returns
+returns c = stepped_to _ _ _ c.after.ensures ∙ step_kind _ _ _ _ _ c.args.kind _ c.requires.1 c.in_ok-found.ensures
