@@ -1,12 +1,14 @@
 #!/usr/bin/env python3
-"""Prints what docs/DESIGN-PASS.md has side by side: types, signatures, clauses, definitions and theorems that changed. usage: tools/design_list.py COMMIT [--all]
+"""Prints what docs/DESIGN-PASS.md has side by side: types, signatures, clauses, definitions and theorems that changed. usage: tools/design_list.py COMMIT [--all] [--write]
 
 COMMIT is the commit of the page's first line. Signatures, clauses and definitions are those that the kit's port/contracts.py lists; types and
 theorems (what specs/ and proofs/ state) are compared here. What differs only in the name of std's Option (`none` and `None`, `map` and `option_map`) is
-counted and not printed. Of lemmas those are printed in full that README or docs/ name, of the others the names, and with --all their statements.
+counted and not printed; --write puts it into the page in place of what stood there. Of lemmas those are printed in full that README or docs/ name, of the others the names, and with --all their statements.
 tools/design_list.txt has a line `crate name..: where its promise stands now` for definitions, lemmas, types and functions that are gone. What is
 gone and has no such line is reported.
 """
+import contextlib
+import io
 import json
 import os
 import pathlib
@@ -165,7 +167,11 @@ def where_now():
     return out
 
 
+GONE = set()
+
+
 def say_gone(title, keys, now):
+    GONE.update(keys)
     left = [k for k in keys if k not in now]
     if keys:
         print(f"\n### {title}\n")
@@ -249,8 +255,23 @@ def main():
     for k in ("crates gone", "ensures all gone", "fewer ensures", "more requires", "no longer pub", "a new Wait or Threads"):
         if j.get(k):
             print(f"look: {k}: {j[k]}", file=sys.stderr)
+    for key in now:
+        if key not in GONE:
+            print(f"not gone, in design_list.txt: {key[0]} {key[1]}", file=sys.stderr)
     print(f"{len(j['signatures changed'])} signatures, {len(j['contracts changed'])} contracts, {len(j['definitions']['changed'])} definitions, "
           f"{len(changed)} statements changed; gone: {len(j['definitions']['gone'])} definitions, {len(gone)} statements", file=sys.stderr)
 
 
-main()
+HEADING = "## Signatures, clauses, definitions and theorems, old and new\n"
+
+if "--write" in sys.argv:
+    said = io.StringIO()
+    with contextlib.redirect_stdout(said):
+        main()
+    page = HERE.parent / "docs" / "DESIGN-PASS.md"
+    text = page.read_text(encoding="utf-8")
+    start = text.index(HEADING) + len(HEADING)
+    page.write_text(text[:start] + f"\n`python3 tools/design_list.py {sys.argv[1]}` prints this section.\n\n{said.getvalue().strip()}\n\n"
+                    + text[text.index("\n## ", start) + 1:], encoding="utf-8")
+else:
+    main()
