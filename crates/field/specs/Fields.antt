@@ -61,5 +61,4 @@ descriptor_at fields vmaddr k = given (descriptor_from fields vmaddr 0 k)
 
 -- a step's answer
 abbrev pub field_step_of : FieldStep → Step
-field_step_of (FieldStep.Descriptor d c) = record { found = Some d; next = c.at }
-field_step_of (FieldStep.End c) = record { found = None; next = c.at }
+field_step_of s = record { found = s.found; next = s.next.at }

@@ -31,14 +31,9 @@ pub struct FieldIter {
 
 // What a step gives: a descriptor, or none; and where the walk then stands.
 #[derive(Clone, Copy)]
-pub enum FieldStep {
-    Descriptor {
-        descriptor: FieldDescriptor,
-        next: FieldIter,
-    },
-    End {
-        next: FieldIter,
-    },
+pub struct FieldStep {
+    pub found: Option<FieldDescriptor>,
+    pub next: FieldIter,
 }
 
 fn field_descriptor(header: &[u8], address: u64) -> FieldDescriptor
@@ -68,16 +63,25 @@ impl FieldIter {
     {
         let at = self.at;
         if fields.len() < HEADER_SIZE {
-            return FieldStep::End { next: self };
+            return FieldStep {
+                found: None,
+                next: self,
+            };
         }
         if fields.len() - HEADER_SIZE < at {
-            return FieldStep::End { next: self };
+            return FieldStep {
+                found: None,
+                next: self,
+            };
         }
         let header = util::part(fields, at, HEADER_SIZE);
         let records = (util::u32_at(header, 12) as usize) * (util::u16_at(header, 10) as usize);
         // An overrun: the walk stays at this header.
         if fields.len() - HEADER_SIZE - at < records {
-            return FieldStep::End { next: self };
+            return FieldStep {
+                found: None,
+                next: self,
+            };
         }
         let next = FieldIter {
             at: at + (HEADER_SIZE + records),
@@ -85,10 +89,10 @@ impl FieldIter {
         let address = std::num::wrapping_add_u64(vmaddr, at as u64);
         // The superclass's offset has no address: nothing, though the walk has moved on.
         if address > 0xffff_ffff_ffff_fffb {
-            return FieldStep::End { next };
+            return FieldStep { found: None, next };
         }
-        FieldStep::Descriptor {
-            descriptor: field_descriptor(header, address),
+        FieldStep {
+            found: Some(field_descriptor(header, address)),
             next,
         }
     }
