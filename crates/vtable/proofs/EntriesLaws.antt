@@ -52,6 +52,11 @@ module _ (image segments : List ℕ) (size stride base k : ℕ) where
   unfolding entry_bytes
   below r h w e = simp (le-ltb size 4 h, lt-leb (2 ^ 64) (base + stride * k + (size - 4)) w) e
 
+  -- the same at the address by another name
+  pub below_at : (a : ℕ) (r : List ℕ) → 4 ≤ size → a ≡ base + stride * k → a + (size - 4) < 2 ^ 64 → r ≡ bytes_read image segments a size
+      → r ≡ entry_bytes image segments size stride base k
+  below_at a r h ea w e = below r h (rw ea at w) (rw ea at e)
+
 -- ---- what its words say
 
 abbrev pub Says : List Word → ℕ → ℕ → List ℕ → List ℕ → Type 0

@@ -42,7 +42,7 @@ pub struct TableEntry {
 pub fn entry_address(base_va: u64, stride: u32, k: u32) -> u64
     ensures { result ≡ (base_va + stride * k) % 2 ^ 64 }
 {
-    std::num::wrapping_add_u64(base_va, (stride as u64) * (k as u64))
+    base_va.wrapping_add(stride as u64 * k as u64)
 }
 
 // Its `size` bytes, as that part of the image: empty if they cannot be read, or if one of its words does not lie below 2^64.
@@ -60,12 +60,10 @@ pub fn entry_bytes<'a>(
     if size < 4 {
         return &image[..0];
     }
-    let before = (stride as u64) * (k as u64);
-    if 0xffff_ffff_ffff_ffff - base_va < before {
+    let Some(address) = base_va.checked_add(stride as u64 * k as u64) else {
         return &image[..0];
-    }
-    let address = base_va + before;
-    if 0xffff_ffff_ffff_ffff - address < (size - 4) as u64 {
+    };
+    if u64::MAX - address < (size - 4) as u64 {
         return &image[..0];
     }
     runtime::read_bytes(image, segments, mapping, address, size as usize)

@@ -70,9 +70,8 @@ impl EntryIter {
         ensures { result ≡ moved self }
     {
         EntryIter {
-            base_va: self.base_va,
-            count: self.count,
             next: self.next + 1,
+            ..self
         }
     }
 
@@ -94,7 +93,7 @@ impl EntryIter {
             size,
             self.next,
         );
-        if bytes.len() == 0 {
+        if bytes.is_empty() {
             return EntryStep::Unreadable { next };
         }
         let address = entry_address(self.base_va, size, self.next);

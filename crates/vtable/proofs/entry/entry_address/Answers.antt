@@ -3,5 +3,5 @@ use Rattle.vtable.proofs.EntriesLaws.{product}
 use Rattle.std.proofs.Common.{rules}
 use Rattle.vtable.proofs.entry.entry_address.Goals as goal
 
-pub overflow_mul-stride : goal.overflow_mul-stride
-overflow_mul-stride c = record { fits = product (search rules) (search rules) }
+pub overflow_mul-result : goal.overflow_mul-result
+overflow_mul-result c = record { fits = product (search rules) (search rules) }

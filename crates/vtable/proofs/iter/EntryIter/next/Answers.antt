@@ -1,16 +1,16 @@
 -- `vtable::iter::EntryIter::next` meets its contract: each `return` is a case of `entryStep`.
-use Rattle.std.proofs.Common.{arith}
+use Rattle.std.proofs.Common.{arith, rules}
 use Rattle.vtable.proofs.EntriesLaws.{kind_end, kind_unreadable, kind_below, kind_entry}
 use Rattle.vtable.proofs.iter.EntryIter.next.Goals as goal
 
 pub returns-then-self : goal.returns-then-self
 returns-then-self c = kind_end _ _ c.args.kind c.args.self (omega arith)
 
-pub returns-then-bytes-eq0 : goal.returns-then-bytes-eq0
-returns-then-bytes-eq0 c = kind_unreadable _ _ c.args.kind c.args.self _ c.size-size.ensures _ c.entry_bytes-bytes.ensures _ c.moved-next.ensures (omega arith) c.if-bytes-eq0.true
+pub returns-then-is_empty : goal.returns-then-is_empty
+returns-then-is_empty c = kind_unreadable _ _ c.args.kind c.args.self _ c.size-size.ensures _ c.entry_bytes-bytes.ensures _ c.moved-next.ensures (omega arith) (search rules)
 
 pub table_entry-entry-requires : goal.table_entry-entry-requires
-table_entry-entry-requires c = kind_below _ _ c.args.kind c.args.self _ c.size-size.ensures _ c.entry_bytes-bytes.ensures c.if-bytes-eq0.false _ c.entry_address-address.ensures
+table_entry-entry-requires c = kind_below _ _ c.args.kind c.args.self _ c.size-size.ensures _ c.entry_bytes-bytes.ensures (λ z. search rules) _ c.entry_address-address.ensures
 
 pub returns : goal.returns
-returns c = kind_entry _ _ c.args.kind c.args.self _ c.size-size.ensures _ c.entry_bytes-bytes.ensures _ c.moved-next.ensures (omega arith) c.if-bytes-eq0.false _ _ c.entry_address-address.ensures c.table_entry-entry.ensures
+returns c = kind_entry _ _ c.args.kind c.args.self _ c.size-size.ensures _ c.entry_bytes-bytes.ensures _ c.moved-next.ensures (omega arith) (λ z. search rules) _ _ c.entry_address-address.ensures c.table_entry-entry.ensures
