@@ -1,6 +1,6 @@
 -- The paths of field descriptors and records (docs/SPECIFICATION.md, "Items, paths and the cut"), as equations; and what they say, by examples.
 use Rattle.std.specs.Prelude.{◌≡◌, ℕ, List, [], ◌∷◌, ◌++◌, refl, Option, Some, None}
-use Rattle.std.proofs.Common.{sym, ap, ◌∙◌}
+use Rattle.std.proofs.Common.{sym, ◌∙◌}
 use Rattle.util.specs.LittleEndian.{little_endian, bytes_at, little_at, twos_complement, signed_at, unsigned_in, signed_in}
 use Rattle.util.specs.Pointer.{relative_pointer, relative_address}
 use Rattle.segment.specs.Segments.{segments_of, decides, in_file, file_offset}

@@ -1,13 +1,12 @@
 // The descriptors of a fields section.
 ghost use Rattle.std.specs.Prelude.{◌≡◌, ◌+◌, ◌^◌, ◌<◌};
-ghost use Rattle.util.specs.Cstr.{text_of};
 ghost use Rattle.runtime.specs.Reads.{text_place};
 ghost use Rattle.field.specs.Fields.{field_descriptor_of, field_step, field_step_of};
 ghost use Rattle.field.specs.Records.{records_of};
 
 use crate::record::FieldRecordIter;
 use context::FieldDescriptorKind;
-use util::Text;
+use util::Place;
 
 // How many bytes a header has.
 const HEADER_SIZE: usize = 16;
@@ -62,31 +61,23 @@ impl FieldIter {
         ensures { field_step_of result ≡ field_step fields.now vmaddr self.at }
     {
         let at = self.at;
-        if fields.len() < HEADER_SIZE {
-            return FieldStep {
-                found: None,
-                next: self,
-            };
-        }
-        if fields.len() - HEADER_SIZE < at {
-            return FieldStep {
-                found: None,
-                next: self,
-            };
+        let stays = FieldStep {
+            found: None,
+            next: self,
+        };
+        if fields.len() < HEADER_SIZE || fields.len() - HEADER_SIZE < at {
+            return stays;
         }
         let header = util::part(fields, at, HEADER_SIZE);
         let records = (util::u32_at(header, 12) as usize) * (util::u16_at(header, 10) as usize);
         // An overrun: the walk stays at this header.
         if fields.len() - HEADER_SIZE - at < records {
-            return FieldStep {
-                found: None,
-                next: self,
-            };
+            return stays;
         }
         let next = FieldIter {
             at: at + (HEADER_SIZE + records),
         };
-        let address = std::num::wrapping_add_u64(vmaddr, at as u64);
+        let address = vmaddr.wrapping_add(at as u64);
         // The superclass's offset has no address: nothing, though the walk has moved on.
         if address > 0xffff_ffff_ffff_fffb {
             return FieldStep { found: None, next };
@@ -104,11 +95,7 @@ impl FieldDescriptor {
         ensures { result ≡ records_of self }
     {
         // If the address after the header reaches 2^64, the Rust starts from 0.
-        let base_va = if self.address > 0xffff_ffff_ffff_ffef {
-            0
-        } else {
-            self.address + 16
-        };
+        let base_va = self.address.checked_add(16).unwrap_or(0);
         FieldRecordIter {
             base_va,
             count: self.num_fields,
@@ -118,8 +105,12 @@ impl FieldDescriptor {
     }
 }
 
-pub fn mangled_type_name(image: &[u8], segments: &[u64], descriptor: FieldDescriptor) -> Text
-    ensures { text_of result ≡ text_place image.now segments.now descriptor.mangled_type_name_va }
+pub fn mangled_type_name(
+    image: &[u8],
+    segments: &[u64],
+    descriptor: FieldDescriptor,
+) -> Option<Place>
+    ensures { result ≡ text_place image.now segments.now descriptor.mangled_type_name_va }
 {
     runtime::read_cstr(
         image,
@@ -129,8 +120,12 @@ pub fn mangled_type_name(image: &[u8], segments: &[u64], descriptor: FieldDescri
     )
 }
 
-pub fn superclass_mangled_name(image: &[u8], segments: &[u64], descriptor: FieldDescriptor) -> Text
-    ensures { text_of result ≡ text_place image.now segments.now descriptor.superclass_va }
+pub fn superclass_mangled_name(
+    image: &[u8],
+    segments: &[u64],
+    descriptor: FieldDescriptor,
+) -> Option<Place>
+    ensures { result ≡ text_place image.now segments.now descriptor.superclass_va }
 {
     runtime::read_cstr(
         image,

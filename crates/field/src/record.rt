@@ -1,6 +1,5 @@
 // The records of a field descriptor, read from the image at their addresses.
 ghost use Rattle.std.specs.Prelude.{◌≡◌, ◌+◌, ◌^◌, ◌<◌};
-ghost use Rattle.util.specs.Cstr.{text_of};
 ghost use Rattle.segment.specs.Mapping.{with_mapping, TrueMapping};
 ghost use Rattle.runtime.specs.Reads.{text_place};
 ghost use Rattle.runtime.specs.FieldName.{field_name, field_name_of};
@@ -8,8 +7,8 @@ ghost use Rattle.vtable.specs.Entries.{packed, entry_of};
 ghost use Rattle.field.specs.Records.{record_words, record_step, of_record, record_step_of};
 
 use runtime::FieldName;
-use segment::{Around, Mapping};
-use util::Text;
+use segment::Mapping;
+use util::Place;
 
 // How many bytes of a record are read, whatever the record size.
 const RECORD_SIZE: u32 = 12;
@@ -62,10 +61,7 @@ impl FieldRecordIter {
     pub fn locate(self, segments: &[u64]) -> Mapping
         ensures { TrueMapping segments.now result }
     {
-        match segment::locate(segments, self.base_va) {
-            Around::Mapping(mapping) => mapping,
-            Around::Nothing => segment::NO_MAPPING,
-        }
+        segment::locate(segments, self.base_va).unwrap_or(segment::NO_MAPPING)
     }
 
     pub fn next(self, image: &[u8], segments: &[u64], mapping: Mapping) -> FieldRecordStep
@@ -75,10 +71,8 @@ impl FieldRecordIter {
             return FieldRecordStep::End;
         }
         let next = FieldRecordIter {
-            base_va: self.base_va,
-            count: self.count,
-            entry_size: self.entry_size,
             cursor: self.cursor + 1,
+            ..self
         };
         let bytes = vtable::entry_bytes(
             image,
@@ -89,7 +83,7 @@ impl FieldRecordIter {
             self.entry_size,
             self.cursor,
         );
-        if bytes.len() == 0 {
+        if bytes.is_empty() {
             return FieldRecordStep::Unreadable { next };
         }
         let address = vtable::entry_address(self.base_va, self.entry_size, self.cursor);
@@ -100,8 +94,8 @@ impl FieldRecordIter {
     }
 }
 
-pub fn record_type_name(image: &[u8], segments: &[u64], record: FieldRecord) -> Text
-    ensures { text_of result ≡ text_place image.now segments.now «record».mangled_type_name_va }
+pub fn record_type_name(image: &[u8], segments: &[u64], record: FieldRecord) -> Option<Place>
+    ensures { result ≡ text_place image.now segments.now «record».mangled_type_name_va }
 {
     runtime::read_cstr(
         image,
@@ -118,7 +112,7 @@ pub fn field_name(
     strings: &[u8],
     strings_va: u64,
     record: FieldRecord,
-) -> FieldName
+) -> Option<FieldName>
     ensures { field_name_of result ≡ field_name image.now segments.now strings.now strings_va «record».field_name_va }
 {
     runtime::lookup_field_name(
