@@ -19,7 +19,6 @@ use Rattle.typedescriptor.proofs.SlotsLaws.{slot_left, slot_without, rows_out}
 use Rattle.typedescriptor.specs.Moving.{RowMoved}
 use Rattle.typedescriptor.specs.Given.{RowRecord, RowsGiven, stops_at, record_then, given_in, rows_given}
 use Rattle.typedescriptor.specs.declared.descriptor.Row.{Row}
-use Rattle.typedescriptor.specs.declared.descriptor.Descriptor.{Descriptor}
 
 -- ---- one row
 
@@ -87,9 +86,9 @@ module _ (recordOf : RowRecord) (image segments types : List ℕ) (start i₀ : 
         let past : max (slots types) i₀ ≡ i = omega (arith, g.from, g.to) in
         stops i true (rw (rows_out image segments types start (slots types) i h, past))
 
-    module _ (h : i < slots types) (d : Descriptor) (m' : Mapping) (w : RowMoved image segments m types start i d m') where
+    module _ (h : i < slots types) (d : Option Row) (m' : Mapping) (w : RowMoved image segments m types start i d m') where
       -- a slot without a row
-      pub passes : d ≡ Descriptor.Nothing → Going (i + 1) at m' b
+      pub passes : d ≡ None → Going (i + 1) at m' b
       passes e =
           record {
             mapped = w.mapped g.mapped;
@@ -101,7 +100,7 @@ module _ (recordOf : RowRecord) (image segments types : List ℕ) (start i₀ : 
             goes = g.goes ∙ rw (slot_without image segments types start i (told (descriptor_of image) (w.row g.mapped) e) h);
           }
 
-      module _ (r : Row) (e : d ≡ Descriptor.Row r) where
+      module _ (r : Row) (e : d ≡ Some r) where
         abbrev this : List ℕ
         this = recordOf i (row_of image r)
 

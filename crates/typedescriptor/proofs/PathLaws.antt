@@ -8,8 +8,9 @@ use Rattle.std.proofs.lemmas.Bool.{lt-leb}
 use Rattle.utf8.specs.Text.{until_nul}
 use Rattle.segment.specs.Segments.{segments_of, file_offset}
 use Rattle.util.specs.LittleEndian.{unsigned_in}
-use Rattle.util.specs.Cstr.{Place, text_at}
-use Rattle.runtime.specs.Reads.{Reads, done, nothing, bytes, text, run, Range, bytes_range, with_nul, path}
+use Rattle.util.specs.declared.cstr.Place.{Place}
+use Rattle.util.specs.Cstr.{text_at}
+use Rattle.runtime.specs.Reads.{Reads, done, text, run, Range, bytes_range, with_nul, path}
 use Rattle.runtime.proofs.PathLaws.{path_bytes, path_bytes_past, path_no_text, bytes_read_lem, text_read, path_found}
 use Rattle.typedescriptor.specs.Row.{TypeRow, type_row, name_address, row_name, descriptor}
 use Rattle.typedescriptor.specs.Slots.{slots, slot_address, read_at, slot_row}

@@ -1,11 +1,12 @@
 -- What the tests on a descriptor and on a slot say about their programs.
-use Rattle.std.specs.Prelude.{◌≡◌, ℕ, suc, ◌+◌, ◌-◌, ◌*◌, ◌%◌, ◌^◌, ◌<◌, ◌≤◌, List, length, ◌≢◌, Option, Some, None}
-use Rattle.std.proofs.Common.{sub-eq-zero_of_le, arith, add-one, ◌∙◌, le-leb, lt-ltb, le-ltb, ne_eqb}
+use Rattle.std.specs.Prelude.{◌≡◌, ℕ, suc, ◌+◌, ◌-◌, ◌*◌, ◌%◌, ◌^◌, ◌<◌, ◌≤◌, List, length, ◌≢◌, Some, None}
+use Rattle.std.proofs.Common.{sub-eq-zero_of_le, arith, add-one, le-leb, lt-ltb, le-ltb, ne_eqb}
 use Rattle.std.proofs.Math.Path.{sym, ap}
 use Rattle.std.proofs.lemmas.Bool.{lt-leb}
 use Rattle.util.specs.LittleEndian.{unsigned_in, signed_in}
 use Rattle.util.specs.Pointer.{relative_pointer, relative_address}
-use Rattle.util.specs.Cstr.{Place, part_of}
+use Rattle.util.specs.declared.cstr.Place.{Place}
+use Rattle.util.specs.Cstr.{part_of}
 use Rattle.segment.specs.Segments.{segments_of, file_offset}
 use Rattle.runtime.specs.Reads.{done, run, bytes_place, text_place}
 use Rattle.runtime.specs.Bytes.{bytes_read}

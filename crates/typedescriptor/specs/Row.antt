@@ -1,12 +1,12 @@
 -- A type row: docs/SPECIFICATION.md, "Type rows"; Metadata.h, `TargetTypeContextDescriptor` (flags, parent and name of `TargetContextDescriptor`
 -- and its subclass, relative pointers of four bytes each).
-use Rattle.std.specs.Prelude.{ℕ, ◌+◌, ◌^◌, cond, List, nat_le, Option, Some, None}
+use Rattle.std.specs.Prelude.{ℕ, ◌+◌, ◌^◌, cond, List, nat_le, Option, option_map}
 use Rattle.util.specs.LittleEndian.{unsigned_in, signed_in}
 use Rattle.util.specs.Pointer.{relative_pointer, relative_address}
-use Rattle.util.specs.Cstr.{Place, place, part_of}
+use Rattle.util.specs.declared.cstr.Place.{Place}
+use Rattle.util.specs.Cstr.{place, part_of}
 use Rattle.runtime.specs.Reads.{Reads, done, nothing, bytes, text}
 use Rattle.typedescriptor.specs.declared.descriptor.Row.{Row}
-use Rattle.typedescriptor.specs.declared.descriptor.Descriptor.{Descriptor}
 
 pub record TypeRow : Type 0 where
   pub address : ℕ
@@ -51,6 +51,5 @@ row_of image r =
       name_bytes = part_of image (place r.name_place r.name_length);
     }
 
-abbrev pub descriptor_of : List ℕ → Descriptor → Option TypeRow
-descriptor_of image (Descriptor.Row r) = Some (row_of image r)
-descriptor_of image Descriptor.Nothing = None
+abbrev pub descriptor_of : List ℕ → Option Row → Option TypeRow
+descriptor_of image o = option_map (row_of image) o

@@ -1,6 +1,6 @@
 -- The types section: docs/SPECIFICATION.md, "Type rows": a list of slots of four bytes, each the offset of a descriptor from the slot's own
 -- address; a shorter last piece is not a slot. The address of a slot is the section's plus 4 for each slot before it, modulo 2^64.
-use Rattle.std.specs.Prelude.{ℕ, zero, suc, ◌+◌, ◌-◌, ◌*◌, ◌/◌, ◌%◌, ◌^◌, cond, List, [], ◌∷◌, length, ◌==◌, nat_lt, Option, Some, None}
+use Rattle.std.specs.Prelude.{ℕ, zero, suc, ◌+◌, ◌-◌, ◌*◌, ◌/◌, ◌%◌, ◌^◌, cond, List, [], ◌∷◌, length, ◌==◌, nat_lt, Option, Some, None, option_map}
 use Rattle.util.specs.LittleEndian.{unsigned_in, signed_in}
 use Rattle.util.specs.Pointer.{relative_pointer}
 use Rattle.runtime.specs.Reads.{Reads, nothing, run}
@@ -63,6 +63,5 @@ rows_from image segments types start (suc n) i =
 unfoldable pub rows : List ℕ → List ℕ → List ℕ → ℕ → List Found
 rows image segments types start = rows_from image segments types start (slots types) 0
 
-abbrev pub type_step_of : List ℕ → TypeStep → Option Found
-type_step_of image (TypeStep.Row i r c) = Some (record { slot = i; row = row_of image r; next = c.slot })
-type_step_of image TypeStep.End = None
+abbrev pub type_step_of : List ℕ → Option TypeStep → Option Found
+type_step_of image o = option_map (λ s. record { slot = s.slot; row = row_of image s.row; next = s.next.slot }) o

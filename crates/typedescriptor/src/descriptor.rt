@@ -4,7 +4,6 @@ ghost use Rattle.runtime.specs.Reads.{run};
 ghost use Rattle.typedescriptor.specs.Row.{descriptor, descriptor_of};
 
 use segment::Mapping;
-use util::Text;
 
 // What a type descriptor says: its address, its flags, the parent context's address (0 if it has none), and where its name lies.
 #[derive(Clone, Copy)]
@@ -16,37 +15,29 @@ pub struct Row {
     pub name_length: usize,
 }
 
-#[derive(Clone, Copy)]
-pub enum Descriptor {
-    Row(Row),
-    Nothing,
-}
-
 // The row of the type descriptor at an address. The mapping is tried before the segments; a true mapping changes no answer.
 pub fn decode_type_descriptor(
     image: &[u8],
     segments: &[u64],
     mapping: Mapping,
     descriptor_va: u64,
-) -> Descriptor
+) -> Option<Row>
     ensures { descriptor_of image.now result ≡ run image.now (with_mapping mapping segments.now) (descriptor descriptor_va) }
 {
     let header = runtime::read_bytes(image, segments, mapping, descriptor_va, 20);
     if header.len() < 20 {
-        return Descriptor::Nothing;
+        return None;
     }
     if descriptor_va > 0xffff_ffff_ffff_fff7 {
-        return Descriptor::Nothing;
+        return None;
     }
     let name_va = util::pointer_in(header, 8, descriptor_va + 8);
-    match runtime::read_cstr(image, segments, mapping, name_va) {
-        Text::At { place, length } => Descriptor::Row(Row {
-            address: descriptor_va,
-            flags: util::u32_at(header, 0),
-            parent: util::address_in(header, 4, descriptor_va + 4),
-            name_place: place,
-            name_length: length,
-        }),
-        Text::Nothing => Descriptor::Nothing,
-    }
+    let name = runtime::read_cstr(image, segments, mapping, name_va)?;
+    Some(Row {
+        address: descriptor_va,
+        flags: util::u32_at(header, 0),
+        parent: util::address_in(header, 4, descriptor_va + 4),
+        name_place: name.start,
+        name_length: name.size,
+    })
 }

@@ -1,13 +1,12 @@
 ghost use Rattle.std.specs.Prelude.{◌≡◌};
 ghost use Rattle.segment.specs.Mapping.{with_mapping};
-ghost use Rattle.segment.specs.VmAddress.{address_of};
 ghost use Rattle.runtime.specs.Reads.{run};
 ghost use Rattle.typedescriptor.specs.Moving.{RowMoved};
 ghost use Rattle.typedescriptor.specs.Row.{descriptor_of};
 ghost use Rattle.typedescriptor.specs.Slots.{slot_descriptor, slot_row, next_row, type_step_of};
 
-use crate::descriptor::{Descriptor, Row, decode_type_descriptor};
-use segment::{Around, Mapping, VmAddress};
+use crate::descriptor::{Row, decode_type_descriptor};
+use segment::Mapping;
 
 // A walk over the types section: the number of the next slot to read.
 #[derive(Clone, Copy)]
@@ -15,32 +14,29 @@ pub struct TypeIter {
     pub slot: usize,
 }
 
-// What a step of the walk gives: the next row with its slot's number and the walk from there on, or the end.
+// What a step of the walk gives: the next row with its slot's number, and the walk from there on.
 #[derive(Clone, Copy)]
-pub enum TypeStep {
-    Row {
-        slot: usize,
-        row: Row,
-        next: TypeIter,
-    },
-    End,
+pub struct TypeStep {
+    pub slot: usize,
+    pub row: Row,
+    pub next: TypeIter,
 }
 
 // The address of the descriptor that a slot refers to, in a types section whose first byte is at `vmaddr`. There is none for offset 0, nor
 // past the section's end.
-pub fn slot_descriptor(types: &[u8], vmaddr: u64, slot: usize) -> VmAddress
-    ensures { address_of result ≡ slot_descriptor types.now vmaddr slot }
+pub fn slot_descriptor(types: &[u8], vmaddr: u64, slot: usize) -> Option<u64>
+    ensures { result ≡ slot_descriptor types.now vmaddr slot }
 {
     if types.len() / 4 <= slot {
-        return VmAddress::Nothing;
+        return None;
     }
     let off = 4 * slot;
     let pointer = &types[off..off + 4];
     if util::u32_at(pointer, 0) == 0 {
-        return VmAddress::Nothing;
+        return None;
     }
     let slot_va = std::num::wrapping_add_u64(vmaddr, off as u64);
-    VmAddress::At(util::pointer_in(pointer, 0, slot_va))
+    Some(util::pointer_in(pointer, 0, slot_va))
 }
 
 // The row of one slot of a types section whose first byte is at `vmaddr`. The mapping is tried before the segments; a true mapping changes
@@ -52,19 +48,17 @@ pub fn slot_row(
     types: &[u8],
     vmaddr: u64,
     slot: usize,
-) -> Descriptor
+) -> Option<Row>
     ensures { descriptor_of image.now result ≡ run image.now (with_mapping mapping segments.now) (slot_row types.now vmaddr slot) }
 {
-    match slot_descriptor(types, vmaddr, slot) {
-        VmAddress::At(address) => decode_type_descriptor(image, segments, mapping, address),
-        VmAddress::Nothing => Descriptor::Nothing,
-    }
+    let address = slot_descriptor(types, vmaddr, slot)?;
+    decode_type_descriptor(image, segments, mapping, address)
 }
 
 // The row of a slot, and the mapping around its descriptor for what is read next.
 #[derive(Clone, Copy)]
 pub struct SlotRow {
-    pub found: Descriptor,
+    pub found: Option<Row>,
     pub mapping: Mapping,
 }
 
@@ -79,19 +73,19 @@ pub fn slot_row_moving(
 ) -> SlotRow
     ensures { RowMoved image.now segments.now mapping types.now vmaddr slot result.found result.mapping }
 {
-    let VmAddress::At(address) = slot_descriptor(types, vmaddr, slot) else {
+    let Some(address) = slot_descriptor(types, vmaddr, slot) else {
         return SlotRow {
-            found: Descriptor::Nothing,
+            found: None,
             mapping,
         };
     };
     match segment::locate_near(segments, mapping, address) {
-        Around::Mapping(near) => SlotRow {
+        Some(near) => SlotRow {
             found: decode_type_descriptor(image, segments, near, address),
             mapping: near,
         },
-        Around::Nothing => SlotRow {
-            found: Descriptor::Nothing,
+        None => SlotRow {
+            found: None,
             mapping,
         },
     }
@@ -106,27 +100,20 @@ impl TypeIter {
 
     // The next row. A slot without a row is passed over. What lies around a descriptor is found with it, so that the segments are walked once
     // for it and its name.
-    pub fn next(self, image: &[u8], segments: &[u64], types: &[u8], vmaddr: u64) -> TypeStep
+    pub fn next(self, image: &[u8], segments: &[u64], types: &[u8], vmaddr: u64) -> Option<TypeStep>
         ensures { type_step_of image.now result ≡ next_row image.now segments.now types.now vmaddr self.slot }
     {
         let count = types.len() / 4;
-        let mut slot = self.slot;
-        while slot < count {
+        for slot in self.slot..count {
             let step = slot_row_moving(image, segments, segment::NO_MAPPING, types, vmaddr, slot);
-            let found = step.found;
-            match found {
-                Descriptor::Row(row) => {
-                    return TypeStep::Row {
-                        slot,
-                        row,
-                        next: TypeIter { slot: slot + 1 },
-                    };
-                }
-                Descriptor::Nothing => {
-                    slot += 1;
-                }
+            if let Some(row) = step.found {
+                return Some(TypeStep {
+                    slot,
+                    row,
+                    next: TypeIter { slot: slot + 1 },
+                });
             }
         }
-        TypeStep::End
+        None
     }
 }

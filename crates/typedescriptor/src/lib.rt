@@ -5,5 +5,5 @@
 mod descriptor;
 mod iter;
 
-pub use descriptor::{Descriptor, Row};
+pub use descriptor::Row;
 pub use iter::{SlotRow, TypeIter, TypeStep, slot_descriptor, slot_row, slot_row_moving};
