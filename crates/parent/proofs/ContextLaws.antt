@@ -5,9 +5,8 @@ use Rattle.std.proofs.Math.Path.{refl}
 use Rattle.std.proofs.lemmas.Bool.{lt-leb}
 use Rattle.util.specs.LittleEndian.{unsigned_in, signed_in}
 use Rattle.util.specs.Pointer.{relative_pointer, relative_address}
-use Rattle.util.specs.Cstr.{place, text_of}
-use Rattle.util.specs.declared.cstr.Text.{Text}
-use Rattle.runtime.specs.Reads.{done, bytes, run, text_place}
+use Rattle.util.specs.declared.cstr.Place.{Place}
+use Rattle.runtime.specs.Reads.{done, run, text_place}
 use Rattle.runtime.specs.Bytes.{bytes_read}
 use Rattle.segment.specs.Mapping.{with_mapping, TrueMapping}
 use Rattle.segment.specs.declared.segment.Mapping.{Mapping}
@@ -45,16 +44,16 @@ module _ (image segments : List ℕ) (a : ℕ) where
     unfolding slot_name run
     no_offset z l w = rw (slot l w) (simp z)
 
-    pub name_at_lem : (v : ℕ) (r : Text) → (unsigned_in 4 h 0 ≡ 0 → ⊥) → v ≡ relative_pointer (a + 8) (signed_in 4 h 0) → text_of r ≡ text_place image segments v
+    pub name_at_lem : (v : ℕ) (r : Option Place) → (unsigned_in 4 h 0 ≡ 0 → ⊥) → v ≡ relative_pointer (a + 8) (signed_in 4 h 0) → r ≡ text_place image segments v
         → 4 ≤ length h → a + 8 < 2 ^ 64 → name_read image r ≡ run image segments (name_at a)
     unfolding slot_name run
-    name_at_lem v (Text.At o n) z ev er l w = rw (slot l w) (simp (ne_eqb (unsigned_in 4 h 0) 0 z) (rw (← ev) (sym (run_text image segments v (λ p t. done (record { place = p; bytes = t })) (place o n) er))))
-    name_at_lem v Text.Nothing z ev er l w = rw (slot l w) (simp (ne_eqb (unsigned_in 4 h 0) 0 z) (rw (← ev) (sym (run_no_text image segments v (λ p t. done (record { place = p; bytes = t })) er))))
+    name_at_lem v (Some p) z ev er l w = rw (slot l w) (simp (ne_eqb (unsigned_in 4 h 0) 0 z) (rw (← ev) (sym (run_text image segments v (λ p t. done (record { place = p; bytes = t })) p er))))
+    name_at_lem v None z ev er l w = rw (slot l w) (simp (ne_eqb (unsigned_in 4 h 0) 0 z) (rw (← ev) (sym (run_no_text image segments v (λ p t. done (record { place = p; bytes = t })) er))))
 
 -- a text that was read
-pub inside : (image segments : List ℕ) (v : ℕ) (r : Text) → text_of r ≡ text_place image segments v → Inside image r
-inside image segments v (Text.At o n) e = text_within image segments v (place o n) e
-inside image segments v Text.Nothing e = tt
+pub inside : (image segments : List ℕ) (v : ℕ) (r : Option Place) → r ≡ text_place image segments v → Inside image r
+inside image segments v (Some p) e = text_within image segments v p e
+inside image segments v None e = tt
 
 -- ---- the context
 

@@ -10,7 +10,7 @@ use Rattle.std.proofs.Math.ListN.{length, take}
 use Rattle.segment.specs.Segments.{segments_of, file_offset}
 use Rattle.util.specs.LittleEndian.{unsigned_in, signed_in}
 use Rattle.util.specs.Pointer.{relative_pointer, relative_address}
-use Rattle.util.specs.Cstr.{Place}
+use Rattle.util.specs.declared.cstr.Place.{Place}
 use Rattle.runtime.specs.Reads.{Reads, done, nothing, bytes, text, run, Range, bytes_range, with_nul, path}
 use Rattle.runtime.proofs.ReadsLaws.{path_bind}
 use Rattle.runtime.proofs.PathLaws.{path_bytes, bytes_read_lem, text_read, path_found}

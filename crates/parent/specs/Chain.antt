@@ -34,6 +34,5 @@ chain_step image segments a given =
     cond (leb contexts_most given) None
     (option_map (λ c. record { context = c; next = c.header.parent; given = given + 1 }) (context_read image segments a))
 
-abbrev pub parent_step_of : List ℕ → ParentStep → Option Step
-parent_step_of image (ParentStep.Context c n) = Some (record { context = context_in image c; next = n.next_descriptor_va; given = n.given })
-parent_step_of image ParentStep.End = None
+abbrev pub parent_step_of : List ℕ → Option ParentStep → Option Step
+parent_step_of image o = option_map (λ s. record { context = context_in image s.context; next = s.next.next_descriptor_va; given = s.next.given }) o

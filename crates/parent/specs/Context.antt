@@ -3,13 +3,12 @@
 use Rattle.std.specs.Prelude.{ℕ, ◌+◌, ◌^◌, ◌≤◌, List, cond, length, leb, eqb, Option, Some, None, option_map}
 use Rattle.util.specs.LittleEndian.{unsigned_in, signed_in}
 use Rattle.util.specs.Pointer.{relative_pointer, relative_address}
-use Rattle.util.specs.Cstr.{Place, place, part_of}
-use Rattle.util.specs.declared.cstr.Text.{Text}
+use Rattle.util.specs.declared.cstr.Place.{Place}
+use Rattle.util.specs.Cstr.{part_of}
 use Rattle.runtime.specs.Reads.{Reads, done, nothing, bytes, text, run}
 use Rattle.context.specs.Context.{context_kind, has_name}
 use Rattle.parent.specs.declared.header.ParentContext.{ParentContext}
-use Rattle.parent.specs.declared.header.ContextRead.{ContextRead}
-use Rattle.parent.specs.declared.header.HeaderRead.{HeaderRead}
+use Rattle.parent.specs.declared.header.ContextHeader.{ContextHeader}
 
 -- a name: where it lies in the image, and its bytes
 pub record Name : Type 0 where
@@ -62,18 +61,16 @@ unfoldable pub context_read : List ℕ → List ℕ → ℕ → Option Context
 context_read image segments a = option_map (with_name image segments) (run image segments (header a))
 
 -- what the calls' answers say, for the image that they were read from
-abbrev pub header_of : ℕ → HeaderRead → Option Header
-header_of a (HeaderRead.Header f q) = Some (record { address = a; flags = f; parent = q })
-header_of a HeaderRead.Nothing = None
+abbrev pub header_of : ℕ → Option ContextHeader → Option Header
+header_of a o = option_map (λ h. record { address = a; flags = h.flags; parent = h.parent }) o
 
-abbrev pub name_read : List ℕ → Text → Option Name
-name_read image (Text.At o n) = Some (record { place = place o n; bytes = part_of image (place o n) })
-name_read image Text.Nothing = None
+abbrev pub name_read : List ℕ → Option Place → Option Name
+name_read image o = option_map (λ p. record { place = p; bytes = part_of image p }) o
 
 -- a text that was read lies within the image
-abbrev pub Inside : List ℕ → Text → Type 0
-Inside image (Text.At o n) = o + n ≤ length image
-Inside image Text.Nothing = Unit
+abbrev pub Inside : List ℕ → Option Place → Type 0
+Inside image (Some p) = p.start + p.size ≤ length image
+Inside image None = Unit
 
 abbrev pub context_in : List ℕ → ParentContext → Context
 context_in image c =
@@ -82,6 +79,5 @@ context_in image c =
       name = name_read image c.name;
     }
 
-abbrev pub context_of : List ℕ → ContextRead → Option Context
-context_of image (ContextRead.Context c) = Some (context_in image c)
-context_of image ContextRead.Nothing = None
+abbrev pub context_of : List ℕ → Option ParentContext → Option Context
+context_of image o = option_map (context_in image) o

@@ -1,7 +1,7 @@
 ghost use Rattle.std.specs.Prelude.{◌≡◌};
 ghost use Rattle.parent.specs.Chain.{chain_step, parent_step_of};
 
-use crate::header::{ContextRead, ParentContext, read_context};
+use crate::header::{ParentContext, read_context};
 
 // How many contexts of a type are given.
 pub const CONTEXTS: usize = 256;
@@ -13,13 +13,11 @@ pub struct ParentChain {
     pub given: usize,
 }
 
+// What a step of the walk gives: the next context, and the walk from there on.
 #[derive(Clone, Copy)]
-pub enum ParentStep {
-    Context {
-        context: ParentContext,
-        next: ParentChain,
-    },
-    End,
+pub struct ParentStep {
+    pub context: ParentContext,
+    pub next: ParentChain,
 }
 
 impl ParentChain {
@@ -33,22 +31,20 @@ impl ParentChain {
         }
     }
 
-    pub fn next(self, image: &[u8], segments: &[u64]) -> ParentStep
+    pub fn next(self, image: &[u8], segments: &[u64]) -> Option<ParentStep>
         ensures { parent_step_of image.now result ≡ chain_step image.now segments.now self.next_descriptor_va self.given }
     {
         let given = self.given;
         if CONTEXTS <= given {
-            return ParentStep::End;
+            return None;
         }
-        match read_context(image, segments, self.next_descriptor_va) {
-            ContextRead::Context(context) => ParentStep::Context {
-                context,
-                next: ParentChain {
-                    next_descriptor_va: context.parent,
-                    given: given + 1,
-                },
+        let context = read_context(image, segments, self.next_descriptor_va)?;
+        Some(ParentStep {
+            context,
+            next: ParentChain {
+                next_descriptor_va: context.parent,
+                given: given + 1,
             },
-            ContextRead::Nothing => ParentStep::End,
-        }
+        })
     }
 }

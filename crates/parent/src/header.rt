@@ -6,7 +6,7 @@ ghost use Rattle.context.specs.Context.{context_kind, has_name};
 
 use context::ContextDescriptorFlags;
 use segment::Mapping;
-use util::Text;
+use util::Place;
 
 // One context of a chain: its address, its flags, its own parent's address (0 if it has none), and its name if it has one.
 #[derive(Clone, Copy)]
@@ -14,20 +14,14 @@ pub struct ParentContext {
     pub address: u64,
     pub flags: u32,
     pub parent: u64,
-    pub name: Text,
-}
-
-#[derive(Clone, Copy)]
-pub enum ContextRead {
-    Context(ParentContext),
-    Nothing,
+    pub name: Option<Place>,
 }
 
 // What the first 8 bytes of a context say.
 #[derive(Clone, Copy)]
-pub enum HeaderRead {
-    Header { flags: u32, parent: u64 },
-    Nothing,
+pub struct ContextHeader {
+    pub flags: u32,
+    pub parent: u64,
 }
 
 // The header at an address. There is none at address 0, nor at or above 2^64 - 4.
@@ -36,23 +30,23 @@ pub fn read_header(
     segments: &[u64],
     mapping: Mapping,
     descriptor_va: u64,
-) -> HeaderRead
+) -> Option<ContextHeader>
     ensures { header_of descriptor_va result ≡ run image.now (with_mapping mapping segments.now) (header descriptor_va) }
 {
     if descriptor_va == 0 {
-        return HeaderRead::Nothing;
+        return None;
     }
     let bytes = runtime::read_bytes(image, segments, mapping, descriptor_va, 8);
     if bytes.len() < 8 {
-        return HeaderRead::Nothing;
+        return None;
     }
     if descriptor_va > 0xffff_ffff_ffff_fffb {
-        return HeaderRead::Nothing;
+        return None;
     }
-    HeaderRead::Header {
+    Some(ContextHeader {
         flags: util::u32_at(bytes, 0),
         parent: util::address_in(bytes, 4, descriptor_va + 4),
-    }
+    })
 }
 
 // Whether a context with these flags has a name.
@@ -68,42 +62,38 @@ pub fn read_context_name(
     segments: &[u64],
     mapping: Mapping,
     descriptor_va: u64,
-) -> Text
+) -> Option<Place>
     ensures result_value { name_read image.now result ≡ run image.now (with_mapping mapping segments.now) (name_at descriptor_va) }
     ensures inside { Inside image.now result }
 {
     if descriptor_va > 0xffff_ffff_ffff_fff7 {
-        return Text::Nothing;
+        return None;
     }
     let slot_va = descriptor_va + 8;
     let slot = runtime::read_bytes(image, segments, mapping, slot_va, 4);
     if slot.len() < 4 {
-        return Text::Nothing;
+        return None;
     }
     if util::u32_at(slot, 0) == 0 {
-        return Text::Nothing;
+        return None;
     }
     runtime::read_cstr(image, segments, mapping, util::pointer_in(slot, 0, slot_va))
 }
 
 // The context at an address.
-pub fn read_context(image: &[u8], segments: &[u64], descriptor_va: u64) -> ContextRead
+pub fn read_context(image: &[u8], segments: &[u64], descriptor_va: u64) -> Option<ParentContext>
     ensures { context_of image.now result ≡ context_read image.now segments.now descriptor_va }
 {
-    match read_header(image, segments, segment::NO_MAPPING, descriptor_va) {
-        HeaderRead::Header { flags, parent } => {
-            let name = if has_name(flags) {
-                read_context_name(image, segments, segment::NO_MAPPING, descriptor_va)
-            } else {
-                Text::Nothing
-            };
-            ContextRead::Context(ParentContext {
-                address: descriptor_va,
-                flags,
-                parent,
-                name,
-            })
-        }
-        HeaderRead::Nothing => ContextRead::Nothing,
-    }
+    let header = read_header(image, segments, segment::NO_MAPPING, descriptor_va)?;
+    let name = if has_name(header.flags) {
+        read_context_name(image, segments, segment::NO_MAPPING, descriptor_va)
+    } else {
+        None
+    };
+    Some(ParentContext {
+        address: descriptor_va,
+        flags: header.flags,
+        parent: header.parent,
+        name,
+    })
 }

@@ -6,5 +6,5 @@ mod header;
 
 pub use chain::{CONTEXTS, ParentChain, ParentStep};
 pub use header::{
-    ContextRead, HeaderRead, ParentContext, has_name, read_context, read_context_name, read_header,
+    ContextHeader, ParentContext, has_name, read_context, read_context_name, read_header,
 };
