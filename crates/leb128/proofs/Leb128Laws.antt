@@ -226,40 +226,25 @@ module _ (s : List ℕ) (bits weight last count : ℕ) (r : Chunk s bits weight 
   unfolding uleb_of
   uleb_found e = rw (r.is, short, e, ← r.low, chunk_length)
 
-  pub uleb_short : (count ≡ 11 → ⊥) → Some (bits, count) ≡ uleb128 s
-  uleb_short h = uleb_found (no_eleventh 0 (elim (dec_lt count 11) [ yes l ↦ l | no l ↦ absurd (h (omega (arith, r.within))) ]))
+  -- an eleventh byte, where there is one, is as it must be
+  eleventh_is : (d : ℕ) → (count ≡ 11 → last ≡ d) → get_or (take count s) 10 d ≡ d
+  eleventh_is d h =
+      elim (dec_lt count 11) [ yes l ↦ no_eleventh d l | no l ↦ eleventh d (omega arith) ∙ h (omega (arith, r.within)) ]
 
-  module _ (c : count ≡ 11) where
-    pub uleb_eleven : last ≡ 0 → Some (bits, 11) ≡ uleb128 s
-    uleb_eleven e = ap (λ (n : ℕ). Some (bits, n)) (sym c) ∙ uleb_found (eleventh 0 (omega arith) ∙ e)
+  pub uleb_read : (count ≡ 11 → last ≡ 0) → Some (bits, count) ≡ uleb128 s
+  uleb_read h = uleb_found (eleventh_is 0 h)
 
-    pub uleb_refused : (last ≡ 0 → ⊥) → None ≡ uleb128 s
-    unfolding uleb_of
-    uleb_refused n = rw (r.is, short, eleventh 0 (omega arith), ne_eqb last 0 n)
+  pub uleb_refused : count ≡ 11 → (last ≡ 0 → ⊥) → None ≡ uleb128 s
+  unfolding uleb_of
+  uleb_refused c n = rw (r.is, short, eleventh 0 (omega arith), ne_eqb last 0 n)
 
   sleb_found : (z : ℤ) → get_or (take count s) 10 (sign_bits bits) ≡ sign_bits bits → z ≡ twos_complement (min 64 (7 * count)) bits → Some (z, count) ≡ sleb128 s
   unfolding sleb_of
   sleb_found z e f = rw (r.is, short, ← r.low, e, eq-eqb (sign_bits bits) (sign_bits bits) refl, chunk_length) (ap (λ (y : ℤ). Some (y, count)) f)
 
-  -- ten bytes and eleven have all 64 bits
-  pub sleb_ten : (z : ℤ) → count ≡ 10 → z ≡ twos_complement 64 bits → Some (z, 10) ≡ sleb128 s
-  sleb_ten z c e =
-      let m : min 64 (7 * count) ≡ 64 = omega arith in
-      ap (λ (n : ℕ). Some (z, n)) (sym c) ∙ sleb_found z (no_eleventh (sign_bits bits) (omega arith)) (rw m e)
-
-  module _ (g : 9 < count) (n : count ≡ 10 → ⊥) where
-    eleven : count ≡ 11
-    eleven = elim (dec_lt count 11) [ yes l ↦ absurd (n (omega arith)) | no l ↦ omega (arith, r.within) ]
-
-    pub sleb_eleven : (z : ℤ) (b : ℕ) → b ≡ sign_bits bits → last ≡ b → z ≡ twos_complement 64 bits → Some (z, 11) ≡ sleb128 s
-    sleb_eleven z b f e d =
-        let m : min 64 (7 * count) ≡ 64 = omega (arith, eleven) in
-        ap (λ (k : ℕ). Some (z, k)) (sym eleven) ∙ sleb_found z (eleventh (sign_bits bits) (omega (arith, eleven)) ∙ e ∙ f) (rw m d)
-
-    pub sleb_refused : (b : ℕ) → b ≡ sign_bits bits → (last ≡ b → ⊥) → None ≡ sleb128 s
-    unfolding sleb_of
-    sleb_refused b f h =
-        rw (r.is, short, ← r.low, eleventh (sign_bits bits) (omega (arith, eleven)), ne_eqb last (sign_bits bits) (λ e. h (e ∙ sym f)))
+  pub sleb_refused : count ≡ 11 → (b : ℕ) → b ≡ sign_bits bits → (last ≡ b → ⊥) → None ≡ sleb128 s
+  unfolding sleb_of
+  sleb_refused c b f h = rw (r.is, short, ← r.low, eleventh (sign_bits bits) (omega arith), ne_eqb last (sign_bits bits) (λ e. h (e ∙ sym f)))
 
   -- up to nine bytes: the weight of the last one, and the bits below it
   module _ (h : count < 10) where
@@ -302,7 +287,7 @@ module _ (s : List ℕ) (bits weight last count : ℕ) (r : Chunk s bits weight 
     halved : 2 ^ (min 64 (7 * count) - 1) ≡ 64 * 128 ^ k
     halved = ap (λ (n : ℕ). 2 ^ n) (omega (arith, r.within)) ∙ half k
 
-    pub sleb_positive : (z : ℤ) → last < 64 → z ≡ twos_complement 64 bits → Some (z, count) ≡ sleb128 s
+    sleb_positive : (z : ℤ) → last < 64 → z ≡ twos_complement 64 bits → Some (z, count) ≡ sleb128 s
     sleb_positive z l e =
         let m : 128 ^ k * last ≤ 128 ^ k * 63 = mul-le-mul_left (128 ^ k) (omega arith) in
         let b : bits < 64 * 128 ^ k = omega (arith, bits_are, below) in
@@ -319,3 +304,13 @@ module _ (s : List ℕ) (bits weight last count : ℕ) (r : Chunk s bits weight 
         ∙ twos_negative 64 (bits + (18446744073709551615 - weight + 1)) (omega (arith, sign_room)) (omega (arith, sign_room))
         ∙ ap negsuc (omega (arith, sign_room, full))
         ∙ sym (twos_negative (min 64 (7 * count)) bits (rw halved b) (rw full f)))
+
+  -- ten bytes and eleven have all 64 bits
+  pub sleb_kept : (z : ℤ) → (count ≡ 11 → last ≡ sign_bits bits) → (count < 10 → last < 64) → z ≡ twos_complement 64 bits → Some (z, count) ≡ sleb128 s
+  sleb_kept z h p e =
+      elim (dec_lt count 10) [
+        | yes l ↦ sleb_positive l z (p l) e
+        | no l ↦
+            let m : min 64 (7 * count) ≡ 64 = omega arith in
+            sleb_found z (eleventh_is (sign_bits bits) h) (rw m e)
+      ]

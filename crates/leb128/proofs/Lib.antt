@@ -1,3 +1,2 @@
-pub mod Signed
 pub mod Leb128Laws
 pub mod Leb128Theorems

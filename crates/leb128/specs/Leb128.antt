@@ -56,10 +56,8 @@ sleb_of e =
 abbrev pub sleb128 : List ℕ → Option (ℤ × ℕ)
 sleb128 bytes = of_encoding sleb_of (encoding bytes)
 
-abbrev pub uleb_value : Uleb128 → Option (ℕ × ℕ)
-uleb_value (Uleb128.Value n consumed) = Some (n, consumed)
-uleb_value Uleb128.Nothing = None
+abbrev pub uleb_value : Option Uleb128 → Option (ℕ × ℕ)
+uleb_value o = option_map (λ (u : Uleb128). (u.value, u.consumed)) o
 
-abbrev pub sleb_value : Sleb128 → Option (ℤ × ℕ)
-sleb_value (Sleb128.Value n consumed) = Some (n, consumed)
-sleb_value Sleb128.Nothing = None
+abbrev pub sleb_value : Option Sleb128 → Option (ℤ × ℕ)
+sleb_value o = option_map (λ (z : Sleb128). (z.value, z.consumed)) o

@@ -1,5 +1,5 @@
 -- What a walk over the bytes of a number has found, for the functions inside the readers.
-use Rattle.std.specs.Prelude.{ℕ, ◌-◌, ◌%◌, ◌^◌, ◌≤◌, ◌<◌, ◌≡◌, List, length, take, get_or, Some}
+use Rattle.std.specs.Prelude.{ℕ, ◌-◌, ◌%◌, ◌^◌, ◌≤◌, ◌<◌, ◌≡◌, List, length, take, get_or, Option, Some, None}
 use Rattle.leb128.specs.Leb128.{encoding, unsigned_number, word}
 use Rattle.leb128.specs.declared.leb128.Chunks.{Chunks}
 
@@ -17,6 +17,6 @@ pub record Chunk (s : List ℕ) (bits weight last count : ℕ) : Type 0 where
   pub above : weight ≡ 128 ^ count % 2 ^ 64
   pub ends : (last ≡ get_or s (count - 1) 0) × (last < 128)
 
-abbrev pub Chunked : List ℕ → Chunks → Type 0
-Chunked s (Chunks.Number bits weight last count) = Chunk s bits weight last count
-Chunked s Chunks.Nothing = (e : List ℕ) → encoding s ≡ Some e → 11 < length e
+abbrev pub Chunked : List ℕ → Option Chunks → Type 0
+Chunked s None = (e : List ℕ) → encoding s ≡ Some e → 11 < length e
+Chunked s (Some c) = Chunk s c.bits c.weight c.last c.count

@@ -1,138 +1,105 @@
 // Numbers of seven bits to a byte, the lowest first, whose high bit says that another byte follows.
 ghost use Rattle.std.specs.Prelude.{◌≡◌};
-ghost use Rattle.util.specs.LittleEndian.{twos_complement, Widened};
 ghost use Rattle.leb128.specs.Leb128.{uleb128, sleb128, uleb_value, sleb_value, sign_bits};
 ghost use Rattle.leb128.specs.Leb128Walk.{Running, Chunked};
 
 // The number and how many bytes it has.
 #[derive(Clone, Copy)]
-pub enum Uleb128 {
-    Value { value: u64, consumed: usize },
-    Nothing,
+pub struct Uleb128 {
+    pub value: u64,
+    pub consumed: usize,
 }
 
 #[derive(Clone, Copy)]
-pub enum Sleb128 {
-    Value { value: i64, consumed: usize },
-    Nothing,
+pub struct Sleb128 {
+    pub value: i64,
+    pub consumed: usize,
 }
 
 // What the bytes of a number hold, up to eleven of them: the low 64 bits, the weight of the bit after the last (0 if it is past them),
 // the last byte, and how many bytes there are.
 #[derive(Clone, Copy)]
-pub enum Chunks {
-    Number {
-        bits: u64,
-        weight: u64,
-        last: u64,
-        count: usize,
-    },
-    Nothing,
-}
-
-fn byte64(b: u8) -> u64
-    ensures { Widened b result }
-{
-    b as u64
+pub struct Chunks {
+    bits: u64,
+    weight: u64,
+    last: u64,
+    count: usize,
 }
 
 // After nine continuation bytes: the tenth has the last bit of the 64, and the eleventh none.
-fn tenth(bytes: &[u8], bits: u64) -> Chunks
+fn tenth(bytes: &[u8], bits: u64) -> Option<Chunks>
     requires { Running bytes.now 9 bits }
     ensures { Chunked bytes.now result }
 {
     if bytes.len() <= 9 {
-        return Chunks::Nothing;
+        return None;
     }
-    let b = byte64(bytes[9]);
+    let b = bytes[9] as u64;
     let word = bits + 0x8000_0000_0000_0000 * (b % 2);
     if b < 128 {
-        return Chunks::Number {
+        return Some(Chunks {
             bits: word,
             weight: 0,
             last: b,
             count: 10,
-        };
+        });
     }
     if bytes.len() <= 10 {
-        return Chunks::Nothing;
+        return None;
     }
-    let c = byte64(bytes[10]);
+    let c = bytes[10] as u64;
     if c < 128 {
-        return Chunks::Number {
+        return Some(Chunks {
             bits: word,
             weight: 0,
             last: c,
             count: 11,
-        };
+        });
     }
-    Chunks::Nothing
+    None
 }
 
-fn read_chunks(bytes: &[u8]) -> Chunks
+fn read_chunks(bytes: &[u8]) -> Option<Chunks>
     ensures { Chunked bytes.now result }
 {
     let mut bits: u64 = 0;
     let mut weight: u64 = 1;
-    let mut i: usize = 0;
-    while i < 9 {
+    for i in 0..9 {
         if bytes.len() <= i {
-            return Chunks::Nothing;
+            return None;
         }
-        let b = byte64(bytes[i]);
+        let b = bytes[i] as u64;
         if b < 128 {
-            return Chunks::Number {
+            return Some(Chunks {
                 bits: bits + weight * b,
                 weight: weight * 128,
                 last: b,
                 count: i + 1,
-            };
+            });
         }
         bits += weight * (b - 128);
         weight *= 128;
-        i += 1;
     }
     tenth(bytes, bits)
 }
 
-// The unsigned number at the start of the bytes. Bits past the 64th are dropped, as in the Rust.
-pub fn read_uleb128(bytes: &[u8]) -> Uleb128
+// The unsigned number at the start of the bytes. Bits past the 64th are dropped, as in the Rust, but an eleventh byte must be 0.
+pub fn read_uleb128(bytes: &[u8]) -> Option<Uleb128>
     ensures { uleb_value result ≡ uleb128 bytes.now }
 {
-    match read_chunks(bytes) {
-        Chunks::Number {
-            bits,
-            weight: _,
-            last,
-            count,
-        } => {
-            if count == 11 {
-                if last == 0 {
-                    return Uleb128::Value {
-                        value: bits,
-                        consumed: 11,
-                    };
-                }
-                return Uleb128::Nothing;
-            }
-            Uleb128::Value {
-                value: bits,
-                consumed: count,
-            }
-        }
-        Chunks::Nothing => Uleb128::Nothing,
+    let Chunks {
+        bits,
+        last,
+        count,
+        ..
+    } = read_chunks(bytes)?;
+    if count == 11 && last != 0 {
+        return None;
     }
-}
-
-// The number whose 64 bits these are, in two's complement.
-fn signed64(n: u64) -> i64
-    ensures { result ≡ twos_complement 64 n }
-{
-    if n < 0x8000_0000_0000_0000 {
-        n as i64
-    } else {
-        -1 - ((u64::MAX - n) as i64)
-    }
+    Some(Uleb128 {
+        value: bits,
+        consumed: count,
+    })
 }
 
 // What a byte past the 64 bits must be.
@@ -143,43 +110,26 @@ fn sign_bits(n: u64) -> u64
 }
 
 // The signed number at the start of the bytes. Up to nine bytes are filled up with their sign; with more, the bits past the 64th are
-// dropped.
-pub fn read_sleb128(bytes: &[u8]) -> Sleb128
+// dropped, but an eleventh byte must repeat the sign.
+pub fn read_sleb128(bytes: &[u8]) -> Option<Sleb128>
     ensures { sleb_value result ≡ sleb128 bytes.now }
 {
-    match read_chunks(bytes) {
-        Chunks::Number {
-            bits,
-            weight,
-            last,
-            count,
-        } => {
-            if count < 10 {
-                if last < 64 {
-                    return Sleb128::Value {
-                        value: signed64(bits),
-                        consumed: count,
-                    };
-                }
-                return Sleb128::Value {
-                    value: signed64(bits + (u64::MAX - weight + 1)),
-                    consumed: count,
-                };
-            }
-            if count == 10 {
-                return Sleb128::Value {
-                    value: signed64(bits),
-                    consumed: 10,
-                };
-            }
-            if last == sign_bits(bits) {
-                return Sleb128::Value {
-                    value: signed64(bits),
-                    consumed: 11,
-                };
-            }
-            Sleb128::Nothing
-        }
-        Chunks::Nothing => Sleb128::Nothing,
+    let Chunks {
+        bits,
+        weight,
+        last,
+        count,
+    } = read_chunks(bytes)?;
+    if count == 11 && last != sign_bits(bits) {
+        return None;
     }
+    let filled = if count < 10 && 64 <= last {
+        bits + (u64::MAX - weight + 1)
+    } else {
+        bits
+    };
+    Some(Sleb128 {
+        value: filled.cast_signed(),
+        consumed: count,
+    })
 }

@@ -1,12 +1,32 @@
 -- Signed numbers as the checker leaves them: read back from their bits. Each law says what a need asks of them.
-use Rattle.std.proofs.Common.{◌≡◌, ℕ, suc, ◌+◌, ◌-◌, ◌%◌, ◌^◌, ◌<◌, ◌≤◌, true, false, T, ℤ, pos, negsuc, ◌-ℤ◌, nat_abs, sym, ap, ◌∙◌, subst, true≢false, arith, to_z-of_z, w32, w64, Fits, SFits, to_z, of_z, le-ltb, lt-ltb, le-leb}
+use Rattle.std.proofs.Common.{◌≡◌, ℕ, suc, ◌+◌, ◌-◌, ◌%◌, ◌^◌, ◌<◌, ◌≤◌, true, false, T, ℤ, pos, negsuc, ◌-ℤ◌, nat_abs, sym, ap, ◌∙◌, subst, true≢false, arith, to_z-of_z, w8, w16, w32, w64, refl, Fits, SFits, to_z, of_z, le-ltb, lt-ltb, le-leb}
 use native.Mathlib.Decide.{dec_lt}
 use mathlib.Core.Path.{subst⁻¹}
 use mathlib.Core.Bool.{false≢true}
 use lib.Signed.{le_z, non_neg}
+use mir.Syntax.{Width, w128}
+use mir.Val.{bits, hbits}
 use mir.Facts.{to_z_pos, sfits_widen}
 use Rattle.util.specs.LittleEndian.{twos_complement}
 use Rattle.util.specs.Pointer.{relative_pointer}
+use Rattle.util.proofs.LittleEndianLaws.{twos_positive, twos_negative}
+
+-- a number's bits, read as signed, are its two's complement
+half : (w : Width) → hbits w ≡ bits w - 1
+half w8 = refl
+half w16 = refl
+half w32 = refl
+half w64 = refl
+half w128 = refl
+
+pub signed_bits : (w : Width) (n : ℕ) → n < 2 ^ bits w → to_z w n ≡ twos_complement (bits w) n
+signed_bits w n h =
+    elim (dec_lt n (2 ^ hbits w)) [
+      | yes l ↦ rw (lt-ltb n (2 ^ hbits w) l) (sym (twos_positive (bits w) n (rw (half w) at l)))
+      | no l ↦
+          let g : 2 ^ hbits w ≤ n = omega arith in
+          rw (le-ltb n (2 ^ hbits w) g) (sym (twos_negative (bits w) n (rw (half w) at g) h))
+    ]
 
 -- the numbers of 32 bits below 2^31 mean themselves
 pub twos_low : (n : ℕ) → n < 2147483648 → to_z w32 n ≡ twos_complement 32 n

@@ -1,33 +1,46 @@
 -- `leb128::leb128::read_sleb128` meets its contract.
-use native.Mathlib.Omega.{arith}
-use mathlib.Core.Path.{◌∙◌}
-use mir.Syntax.{w64}
-use mir.Facts.{to_z-of_z}
-use Rattle.util.proofs.AnswersLaws.{case}
-use Rattle.leb128.specs.Leb128Walk.{Chunked}
-use Rattle.leb128.proofs.Leb128Laws.{sleb_longer, sign_room, sleb_positive, sleb_negative, sleb_ten, sleb_eleven, sleb_refused}
+use Rattle.std.proofs.Common.{◌≡◌, ◌<◌, ◌^◌, ap, ◌∙◌, arith, to_z-of_z, w64}
+use Rattle.util.specs.LittleEndian.{twos_complement}
+use Rattle.util.proofs.Signed.{signed_bits}
+use Rattle.leb128.specs.Leb128.{sleb_value, sign_bits}
+use Rattle.leb128.proofs.Leb128Laws.{sleb_longer, sign_room, sleb_negative, sleb_kept, sleb_refused}
 use Rattle.leb128.proofs.leb128.read_sleb128.Goals as goal
+use Rattle.leb128.proofs.leb128.read_sleb128.Goals.{else-count-eq11-via-then-count-eq11+else-last-sign_bits, else-count-eq11-via-else-count-eq11, then-count-lt10+then-last-ge64, else-count-lt10, else-count-lt10-via-then-count-lt10+else-last-ge64, else-count-lt10-via-else-count-lt10}
 
-pub returns-then-last-lt64 : goal.returns-then-last-lt64
-returns-then-last-lt64 c = sleb_positive _ _ _ _ _ (case (Chunked _) c.read_chunks.ensures c.in-Number.is) (omega arith) _ (omega arith) (to_z-of_z {w = w64} (record { sfits = c.signed64.type_inv }) ∙ c.signed64.ensures)
-
-pub overflow_add-weight : goal.overflow_add-weight
-overflow_add-weight c = record { fits = omega (arith, sign_room _ _ _ _ _ (case (Chunked _) c.read_chunks.ensures c.in-Number.is) (omega arith)) }
-
-pub overflow_add-bits : goal.overflow_add-bits
-overflow_add-bits c = record { fits = omega (arith, sign_room _ _ _ _ _ (case (Chunked _) c.read_chunks.ensures c.in-Number.is) (omega arith)) }
-
-pub returns-then-count-lt10 : goal.returns-then-count-lt10
-returns-then-count-lt10 c = sleb_negative _ _ _ _ _ (case (Chunked _) c.read_chunks.ensures c.in-Number.is) (omega arith) _ (omega arith) (to_z-of_z {w = w64} (record { sfits = c.signed64-then-count-lt10.type_inv }) ∙ c.signed64-then-count-lt10.ensures)
-
-pub returns-then-count-eq10 : goal.returns-then-count-eq10
-returns-then-count-eq10 c = sleb_ten _ _ _ _ _ (case (Chunked _) c.read_chunks.ensures c.in-Number.is) _ (omega arith) (to_z-of_z {w = w64} (record { sfits = c.signed64-then-count-eq10.type_inv }) ∙ c.signed64-then-count-eq10.ensures)
+pub returns-in_err-bits : goal.returns-in_err-bits
+returns-in_err-bits c = ap sleb_value c.from_residual.ensures ∙ sleb_longer _ c.in_err-bits.ensures
 
 pub returns-then-last-sign_bits : goal.returns-then-last-sign_bits
-returns-then-last-sign_bits c = sleb_eleven _ _ _ _ _ (case (Chunked _) c.read_chunks.ensures c.in-Number.is) (omega arith) c.if-count-eq10.false _ _ c.sign_bits.ensures c.if-last-sign_bits.true (to_z-of_z {w = w64} (record { sfits = c.signed64-then-last-sign_bits.type_inv }) ∙ c.signed64-then-last-sign_bits.ensures)
+returns-then-last-sign_bits c =
+    sleb_refused _ _ _ _ _ c.in_ok-bits.ensures c.if-count-eq11.true _ c.sign_bits.ensures c.if-last-sign_bits.true
 
-pub returns-else-last-sign_bits : goal.returns-else-last-sign_bits
-returns-else-last-sign_bits c = sleb_refused _ _ _ _ _ (case (Chunked _) c.read_chunks.ensures c.in-Number.is) (omega arith) c.if-count-eq10.false _ c.sign_bits.ensures c.if-last-sign_bits.false
+pub overflow_add-filled : goal.overflow_add-filled
+overflow_add-filled c = record { fits = omega (arith, sign_room _ _ _ _ _ c.in_ok-bits.ensures c.if-count-lt10.true) }
 
-pub returns-in-Nothing : goal.returns-in-Nothing
-returns-in-Nothing c = sleb_longer _ (case (Chunked _) c.read_chunks.ensures c.in-Nothing.is)
+pub overflow_add-filled-then-last-ge64 : goal.overflow_add-filled-then-last-ge64
+overflow_add-filled-then-last-ge64 c = record { fits = omega (arith, sign_room _ _ _ _ _ c.in_ok-bits.ensures c.if-count-lt10.true) }
+
+eleventh : (c : goal.After-cast_signed) → c.in_ok-bits.field-0.count ≡ 11 → c.in_ok-bits.field-0.last ≡ sign_bits c.in_ok-bits.field-0.bits
+eleventh c =
+    elim c.else-count-eq11.branch [
+      | else-count-eq11-via-then-count-eq11+else-last-sign_bits w ↦ λ e. w.if-last-sign_bits.false ∙ w.sign_bits.ensures
+      | else-count-eq11-via-else-count-eq11 w ↦ λ e. absurd (w.if-count-eq11.false e)
+    ]
+
+pub returns : goal.returns
+returns c =
+    let chunk = c.in_ok-bits.ensures in
+    let filled = c.if-count-lt10.filled in
+    let value = λ (l : filled < 2 ^ 64). to_z-of_z {w = w64} (record { sfits = c.cast_signed.type_inv }) ∙ c.cast_signed.ensures ∙ signed_bits w64 filled l in
+    elim c.if-count-lt10.branch [
+      | then-count-lt10+then-last-ge64 w ↦
+          sleb_negative _ _ _ _ _ chunk w.if-count-lt10.true _ w.if-last-ge64.true
+          (value (omega (arith, sign_room _ _ _ _ _ chunk w.if-count-lt10.true)) ∙ ap (twos_complement 64) w.filled-is)
+      | else-count-lt10 w ↦
+          let positive : c.in_ok-bits.field-0.count < 10 → c.in_ok-bits.field-0.last < 64 =
+          elim w.else-count-lt10.branch [
+            | else-count-lt10-via-then-count-lt10+else-last-ge64 v ↦ λ l. v.if-last-ge64.false
+            | else-count-lt10-via-else-count-lt10 v ↦ λ l. absurd (omega arith)
+          ] in
+          sleb_kept _ _ _ _ _ chunk _ (eleventh c) positive (value (omega (arith, chunk.low)) ∙ ap (twos_complement 64) w.filled-is)
+    ]

@@ -1,4 +1,5 @@
 -- `leb128::leb128::tenth` meets its contract.
+use mathlib.Core.Path.{refl}
 use native.Mathlib.Omega.{arith}
 use Rattle.leb128.proofs.Leb128Laws.{running_small, running_ends, ten_last, ten_ends, eleven_last, eleven_on}
 use Rattle.leb128.proofs.leb128.tenth.Goals as goal
@@ -10,13 +11,13 @@ pub overflow_add-word : goal.overflow_add-word
 overflow_add-word c = omega (arith, running_small _ 9 _ c.requires)
 
 pub returns-then-b-lt128 : goal.returns-then-b-lt128
-returns-then-b-lt128 c = ten_last _ _ _ c.requires (omega arith) c.byte64-b.ensures.same (omega arith)
+returns-then-b-lt128 c = ten_last _ _ _ c.requires (omega arith) refl (omega arith)
 
 pub returns-then-bytes-le10 : goal.returns-then-bytes-le10
-returns-then-bytes-le10 c = ten_ends _ _ _ c.requires (omega arith) c.byte64-b.ensures.same (omega arith) (omega arith)
+returns-then-bytes-le10 c = ten_ends _ _ _ c.requires (omega arith) refl (omega arith) (omega arith)
 
 pub returns-then-c-lt128 : goal.returns-then-c-lt128
-returns-then-c-lt128 c = eleven_last _ _ _ c.requires (omega arith) c.byte64-b.ensures.same (omega arith) (omega arith) _ c.byte64-c.ensures.same (omega arith)
+returns-then-c-lt128 c = eleven_last _ _ _ c.requires (omega arith) refl (omega arith) (omega arith) _ refl (omega arith)
 
 pub returns : goal.returns
-returns c = eleven_on _ _ _ c.requires (omega arith) c.byte64-b.ensures.same (omega arith) (omega arith) _ c.byte64-c.ensures.same (omega arith)
+returns c = eleven_on _ _ _ c.requires (omega arith) refl (omega arith) (omega arith) _ refl (omega arith)
