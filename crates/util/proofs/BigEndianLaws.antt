@@ -1,11 +1,11 @@
 -- One law for every width, as for little-endian numbers.
-use Rattle.std.specs.Prelude.{◌≡◌, ℕ, zero, suc, ◌+◌, ◌*◌, ◌^◌, ◌<◌, ◌≤◌, List, [], ◌∷◌, ◌++◌, reverse, length, take, drop, slice_index, refl, Some, None}
-use Rattle.std.proofs.Common.{arith, ◌∙◌, ap, length-take, length-drop, take-suc, take-add, get_or-drop}
+use Rattle.std.specs.Prelude.{◌≡◌, ℕ, zero, suc, ◌+◌, ◌*◌, ◌^◌, ◌<◌, ◌≤◌, List, [], ◌∷◌, ◌++◌, reverse, length, take, drop, slice_index, refl, Some, None, option_map}
+use Rattle.std.proofs.Common.{arith, ◌∙◌, ap, length-take, length-drop, take-suc, take-add, get_or-drop, take_all}
 use Rattle.std.proofs.Math.Path.{sym}
 use Rattle.std.proofs.lemmas.List.{reverse-append, length-reverse}
 use Rattle.std.proofs.Math.Seq.{drop-drop}
-use Rattle.util.specs.LittleEndian.{little_endian}
-use Rattle.util.proofs.LittleEndianLaws.{little_append, bytes_found, bytes_nothing, bytes_within, bytes_beyond, bytes_value}
+use Rattle.util.specs.LittleEndian.{little_endian, bytes_at}
+use Rattle.util.proofs.LittleEndianLaws.{little_append, bytes_found, bytes_nothing, bytes_within, bytes_beyond, bytes_value, array_length}
 use Rattle.util.specs.BigEndian.{big_endian, big_at}
 
 -- the sum of `n` bytes from `off` on, each at its weight: the last one counts as it is
@@ -42,6 +42,19 @@ module _ (n : ℕ) (s : List ℕ) (off : ℕ) where
   pub big_beyond : None ≡ big_at n s off → length s < off + n
   unfolding big_at
   big_beyond e = bytes_beyond big_endian n s off e
+
+-- bytes that were read as an array
+module _ (n : ℕ) (s : List ℕ) (off : ℕ) where
+  pub big_read : (bs : List ℕ) (v : ℕ) → Some bs ≡ bytes_at n s off → v ≡ sum_to bs 0 n → Some v ≡ big_at n s off
+  unfolding big_at
+  big_read bs v e f =
+      let l : length bs ≡ n = array_length n s off bs e in
+      let all : take n (drop 0 bs) ≡ bs = take_all n bs (omega arith) in
+      ap Some (f ∙ sym (big_sum n bs 0 (omega arith)) ∙ ap big_endian all) ∙ ap (option_map big_endian) e
+
+  pub big_unread : None ≡ bytes_at n s off → None ≡ big_at n s off
+  unfolding big_at
+  big_unread e = ap (option_map big_endian) e
 
 -- two runs of bytes make one number
 module _ (m n : ℕ) (s : List ℕ) (off : ℕ) where

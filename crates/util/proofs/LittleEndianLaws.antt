@@ -1,5 +1,5 @@
 -- One law for every width: what reading `n` bytes one by one and adding them up gives.
-use Rattle.std.specs.Prelude.{◌≡◌, ℕ, zero, suc, ◌+◌, ◌-◌, ◌*◌, ◌^◌, ◌<◌, ◌≤◌, List, [], ◌∷◌, ◌++◌, length, take, drop, ℤ, pos, negsuc, ◌-ℤ◌, slice_index, refl, Option, Some, None, option_map, unwrap_or}
+use Rattle.std.specs.Prelude.{◌≡◌, ℕ, zero, suc, ◌+◌, ◌-◌, ◌*◌, ◌^◌, ◌<◌, ◌≤◌, List, [], ◌∷◌, ◌++◌, length, take, drop, ℤ, pos, negsuc, ◌-ℤ◌, slice_index, slice_range, refl, Option, Some, None, option_map, unwrap_or}
 use Rattle.std.proofs.Common.{add-suc, add-zero, mul_assoc, ◌∙◌, length-take, drop-cons, drop-drop, take_all}
 use Rattle.std.proofs.Math.Nat.{pow-succ'}
 use Rattle.std.proofs.Math.Decide.{dec_le}
@@ -66,6 +66,52 @@ module _ (f : List ℕ → ℕ) (n : ℕ) (s : List ℕ) (off : ℕ) where
   bytes_value v e =
       let g : Some v ≡ Some (f (take n (drop off s))) = e ∙ sym (bytes_found _ (bytes_within v e) refl) in
       cc
+
+-- bytes that were read as an array
+module _ (n : ℕ) (s : List ℕ) (off : ℕ) where
+  pub none_past : length s < off → None ≡ bytes_at n s off
+  unfolding bytes_at
+  none_past h = simp (lt-leb (off + n) (length s) (omega arith))
+
+  pub none_short : (rest : List ℕ) → length rest + off ≡ length s → length rest < n → None ≡ bytes_at n s off
+  unfolding bytes_at
+  none_short rest l h = simp (lt-leb (off + n) (length s) (omega arith))
+
+  pub array_found : (rest bs : List ℕ) → rest ≡ slice_range s off (length s) → bs ≡ slice_range rest 0 n → length rest + off ≡ length s → n ≤ length rest → Some bs ≡ bytes_at n s off
+  unfolding bytes_at
+  array_found rest bs e f l h =
+      let all : take (length s - off) (drop off s) ≡ drop off s = take_all (length s - off) (drop off s) (simp length-drop (omega arith)) in
+      let first : slice_range rest 0 n ≡ take n rest = ap (λ (k : ℕ). take k rest) (omega arith) in
+      simp (le-leb (off + n) (length s) (omega arith)) (ap Some (f ∙ first ∙ ap (take n) (e ∙ all)))
+
+  array_is : (bs : List ℕ) → Some bs ≡ bytes_at n s off → (off + n ≤ length s) × (bs ≡ take n (drop off s))
+  unfolding bytes_at
+  array_is bs e =
+      elim (dec_le (off + n) (length s)) [
+        | yes h ↦
+            let g : Some bs ≡ Some (take n (drop off s)) = e ∙ simp (le-leb (off + n) (length s) h) in
+            (h, cc)
+        | no h ↦
+            let g : ◌≡◌ {A = Option (List ℕ)} (Some bs) None = e ∙ simp (lt-leb (off + n) (length s) (omega arith)) in
+            let z : ◌≡◌ {A = ℕ} 0 1 = cc in
+            absurd (omega arith)
+      ]
+
+  pub array_length : (bs : List ℕ) → Some bs ≡ bytes_at n s off → length bs ≡ n
+  array_length bs e =
+      let a = array_is bs e in
+      ap length a.1 ∙ length-take-le n (drop off s) (simp length-drop (omega (arith, a.0)))
+
+  pub little_read : (bs : List ℕ) (v : ℕ) → Some bs ≡ bytes_at n s off → v ≡ sum_from bs 0 0 n → Some v ≡ little_at n s off
+  unfolding little_at
+  little_read bs v e f =
+      let l : length bs ≡ n = array_length bs e in
+      let all : take n (drop (0 + 0) bs) ≡ bs = take_all n bs (omega arith) in
+      ap Some (f ∙ sym (little_sum n bs 0 0 (omega arith)) ∙ ap little_endian all) ∙ ap (option_map little_endian) e
+
+  pub little_unread : None ≡ bytes_at n s off → None ≡ little_at n s off
+  unfolding little_at
+  little_unread e = ap (option_map little_endian) e
 
 module _ (n : ℕ) (s : List ℕ) (off : ℕ) where
   pub little_found : (v : ℕ) → off + n ≤ length s → v ≡ sum_from s off 0 n → Some v ≡ little_at n s off

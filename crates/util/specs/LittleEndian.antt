@@ -1,5 +1,5 @@
 -- Numbers in bytes, little-endian, for every width: docs/SPECIFICATION.md, "Numbers in bytes".
-use Rattle.std.specs.Prelude.{◌≡◌, ℕ, ◌+◌, ◌-◌, ◌*◌, ◌^◌, ◌<◌, cond, List, [], ◌∷◌, length, take, drop, ℤ, pos, ◌-ℤ◌, nat_le, nat_lt, Option, Some, None, option_map, unwrap_or}
+use Rattle.std.specs.Prelude.{ℕ, ◌+◌, ◌-◌, ◌*◌, ◌^◌, cond, List, [], ◌∷◌, length, take, drop, ℤ, pos, ◌-ℤ◌, nat_le, nat_lt, Option, Some, None, option_map, unwrap_or}
 
 -- the number that has these bytes, the lowest first
 unfoldable pub little_endian : List ℕ → ℕ
@@ -26,8 +26,3 @@ unsigned_in n header off = unwrap_or (little_at n header off) 0
 
 unfoldable pub signed_in : ℕ → List ℕ → ℕ → ℤ
 signed_in n header off = unwrap_or (signed_at n header off) (pos 0)
-
--- a byte at a wider type
-pub record Widened (b r : ℕ) : Type 0 where
-  pub same : r ≡ b
-  pub small : r < 256

@@ -8,10 +8,7 @@ pub fn put(piece: &[u8], buffer: &mut [u8], at: usize) -> usize
     ensures value { result ≡ put_end buffer.old at piece.now }
     ensures buffer_after { buffer.new ≡ put_into buffer.old at piece.now }
 {
-    if buffer.len() < at {
-        return at;
-    }
-    if buffer.len() - at < piece.len() {
+    if buffer.len() < at || buffer.len() - at < piece.len() {
         return at;
     }
     let end = at + piece.len();

@@ -13,14 +13,10 @@ pub struct Place {
 pub fn part(s: &[u8], start: usize, length: usize) -> &[u8]
     ensures { result.now ≡ part_of s.now (place start length) }
 {
-    if start <= s.len() {
-        if length <= s.len() - start {
-            &s[start..start + length]
-        } else {
-            &s[..0]
-        }
+    if start <= s.len() && length <= s.len() - start {
+        &s[start..start + length]
     } else {
-        &s[..0]
+        &[]
     }
 }
 
@@ -28,13 +24,8 @@ pub fn part(s: &[u8], start: usize, length: usize) -> &[u8]
 pub fn read_cstr_at(data: &[u8], off: usize) -> Option<Place>
     ensures { result ≡ text_at «data».now off }
 {
-    if data.len() < off {
-        return None;
-    }
-    match utf8::scan_text(&data[off..]) {
-        Some(size) => Some(Place { start: off, size }),
-        None => None,
-    }
+    let size = utf8::scan_text(data.get(off..)?)?;
+    Some(Place { start: off, size })
 }
 
 // The part of the bytes that an answer is about; empty if there is none.
@@ -43,7 +34,7 @@ pub fn text_part(data: &[u8], text: Option<Place>) -> &[u8]
 {
     match text {
         Some(place) => part(data, place.start, place.size),
-        None => &data[..0],
+        None => &[],
     }
 }
 

@@ -9,28 +9,19 @@ use crate::read::{read_i32_le_at, read_u16_le_at, read_u32_le_at};
 pub fn u16_at(header: &[u8], off: usize) -> u16
     ensures { result ≡ unsigned_in 2 header.now off }
 {
-    match read_u16_le_at(header, off) {
-        Some(n) => n,
-        None => 0,
-    }
+    read_u16_le_at(header, off).unwrap_or(0)
 }
 
 pub fn u32_at(header: &[u8], off: usize) -> u32
     ensures { result ≡ unsigned_in 4 header.now off }
 {
-    match read_u32_le_at(header, off) {
-        Some(n) => n,
-        None => 0,
-    }
+    read_u32_le_at(header, off).unwrap_or(0)
 }
 
 pub fn i32_at(header: &[u8], off: usize) -> i32
     ensures { result ≡ signed_in 4 header.now off }
 {
-    match read_i32_le_at(header, off) {
-        Some(n) => n,
-        None => 0,
-    }
+    read_i32_le_at(header, off).unwrap_or(0)
 }
 
 // What the relative pointer at an offset of a header refers to. `slot_va` is the address of the pointer itself.

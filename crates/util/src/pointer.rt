@@ -5,11 +5,7 @@ ghost use Rattle.util.specs.Pointer.{relative_address, relative_pointer};
 pub fn relative_pointer(base_va: u64, offset: i32) -> u64
     ensures { result ≡ relative_pointer base_va offset }
 {
-    if offset >= 0 {
-        std::num::wrapping_add_u64(base_va, offset as u64)
-    } else {
-        std::num::wrapping_sub_u64(base_va, (-(offset as i64)) as u64)
-    }
+    base_va.wrapping_add_signed(i64::from(offset))
 }
 
 // The same for a pointer that may be null: an offset of 0 gives address 0.

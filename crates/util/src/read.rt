@@ -1,77 +1,34 @@
-// Little-endian numbers at an offset of a slice.
+// Numbers at an offset of a slice, the lowest byte first.
 ghost use Rattle.std.specs.Prelude.{◌≡◌};
-ghost use Rattle.util.specs.LittleEndian.{little_at, signed_at, twos_complement, Widened};
+ghost use Rattle.util.specs.LittleEndian.{bytes_at, little_at, signed_at};
 
-fn byte16(b: u8) -> u16
-    ensures { Widened b result }
+// The `N` bytes from an offset on, unless they run past the end.
+pub fn bytes_at<const N: usize>(data: &[u8], off: usize) -> Option<[u8; N]>
+    ensures { result ≡ bytes_at N «data».now off }
 {
-    b as u16
-}
-
-pub fn byte32(b: u8) -> u32
-    ensures { Widened b result }
-{
-    b as u32
+    data.get(off..)?.get(..N)?.try_into().ok()
 }
 
 pub fn read_u16_le_at(data: &[u8], off: usize) -> Option<u16>
     ensures { result ≡ little_at 2 «data».now off }
 {
-    if data.len() < 2 {
-        return None;
-    }
-    if data.len() - 2 < off {
-        return None;
-    }
-    Some(byte16(data[off]) + 256 * byte16(data[off + 1]))
+    Some(u16::from_le_bytes(bytes_at(data, off)?))
 }
 
 pub fn read_u32_le_at(data: &[u8], off: usize) -> Option<u32>
     ensures { result ≡ little_at 4 «data».now off }
 {
-    if data.len() < 4 {
-        return None;
-    }
-    if data.len() - 4 < off {
-        return None;
-    }
-    Some(
-        byte32(data[off])
-            + 256
-                * (byte32(data[off + 1])
-                    + 256 * (byte32(data[off + 2]) + 256 * byte32(data[off + 3]))),
-    )
+    Some(u32::from_le_bytes(bytes_at(data, off)?))
 }
 
-// Two halves of four bytes.
 pub fn read_u64_le_at(data: &[u8], off: usize) -> Option<u64>
     ensures { result ≡ little_at 8 «data».now off }
 {
-    match read_u32_le_at(data, off) {
-        Some(low) => match read_u32_le_at(data, off + 4) {
-            Some(high) => Some(low as u64 + 0x1_0000_0000 * (high as u64)),
-            None => None,
-        },
-        None => None,
-    }
-}
-
-// The number whose 32 bits these are, in two's complement.
-fn signed(n: u32) -> i32
-    ensures { result ≡ twos_complement 32 n }
-{
-    if n < 0x8000_0000 {
-        n as i32
-    } else {
-        (n as i64 - 0x1_0000_0000) as i32
-    }
+    Some(u64::from_le_bytes(bytes_at(data, off)?))
 }
 
 pub fn read_i32_le_at(data: &[u8], off: usize) -> Option<i32>
     ensures { result ≡ signed_at 4 «data».now off }
 {
-    match read_u32_le_at(data, off) {
-        Some(n) => Some(signed(n)),
-        None => None,
-    }
+    Some(read_u32_le_at(data, off)?.cast_signed())
 }

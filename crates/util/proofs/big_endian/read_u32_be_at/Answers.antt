@@ -1,15 +1,10 @@
--- `util::big_endian::read_u32_be_at` meets its contract, by the law over the width at 4 bytes.
-use Rattle.std.proofs.Common.{ℕ, get_or, ap, add-zero, arith}
-use Rattle.util.proofs.BigEndianLaws.{big_found, big_nothing}
+-- `util::big_endian::read_u32_be_at` meets its contract: std adds the bytes up as the law over the width does.
+use Rattle.std.proofs.Common.{◌∙◌, arith}
+use Rattle.util.proofs.BigEndianLaws.{big_read, big_unread}
 use Rattle.util.proofs.big_endian.read_u32_be_at.Goals as goal
 
-pub returns-then-data-lt4 : goal.returns-then-data-lt4
-returns-then-data-lt4 c = big_nothing 4 _ _ (omega arith)
-
-pub returns-then-data-off : goal.returns-then-data-off
-returns-then-data-off c = big_nothing 4 _ _ (omega arith)
+pub returns-in_err-bytes_at : goal.returns-in_err-bytes_at
+returns-in_err-bytes_at c = c.from_residual.ensures ∙ big_unread 4 _ _ c.in_err-bytes_at.ensures
 
 pub returns : goal.returns
-returns c =
-    let a = c.args in
-    big_found 4 _ _ _ (omega arith) (omega (arith, ap (λ (k : ℕ). get_or a.«data».now k 0) (add-zero a.off)))
+returns c = big_read 4 _ _ _ _ c.in_ok-bytes_at.ensures (omega (arith, c.from_be_bytes.ensures))

@@ -1,13 +1,14 @@
 -- `util::buffer::put` meets its contract.
-use Rattle.std.proofs.Common.{arith}
+use Rattle.std.proofs.Common.{arith, ◌+◌, ◌<◌, length}
 use Rattle.util.proofs.BufferLaws.{put_whole, fits_end, fits_into, past_end, past_into}
 use Rattle.util.proofs.buffer.put.Goals as goal
+use Rattle.util.proofs.buffer.put.Goals.{then-buffer-at-via-then-buffer-at, then-buffer-at-via-else-buffer-at+then-buffer-at-2}
 
 pub returns-then-buffer-at : goal.returns-then-buffer-at
-returns-then-buffer-at c = (record { value = past_end _ _ _ (omega arith); buffer_after = past_into _ _ _ (omega arith) })
-
-pub returns-then-buffer-at-2 : goal.returns-then-buffer-at-2
-returns-then-buffer-at-2 c = (record { value = past_end _ _ _ (omega arith); buffer_after = past_into _ _ _ (omega arith) })
+returns-then-buffer-at c =
+    let past : length c.args.buffer.now < c.args.at + length c.args.piece.now =
+    elim c.then-buffer-at.branch [ then-buffer-at-via-then-buffer-at w ↦ omega arith | then-buffer-at-via-else-buffer-at+then-buffer-at-2 w ↦ omega arith ] in
+    record { value = past_end _ _ _ past; buffer_after = past_into _ _ _ past }
 
 pub returns : goal.returns
 returns c =

@@ -1,14 +1,18 @@
 -- `util::cstr::read_cstr_at` meets its contract: the text of the slice from the offset on.
-use Rattle.std.proofs.Common.{arith}
-use Rattle.util.proofs.AnswersLaws.{known}
+use Rattle.std.proofs.Common.{arith, ap, ◌∙◌}
+use Rattle.utf8.specs.Text.{text_length}
 use Rattle.util.specs.CstrLaws.{text_past, text_scanned}
 use Rattle.util.proofs.cstr.read_cstr_at.Goals as goal
 
-pub returns-then-data-off : goal.returns-then-data-off
-returns-then-data-off c = text_past _ _ (omega arith)
+pub returns-in_err-get : goal.returns-in_err-get
+returns-in_err-get c = c.from_residual.ensures ∙ text_past _ _ (omega (arith, c.in_err-get.ensures.lookup))
 
-pub returns-in-Some : goal.returns-in-Some
-returns-in-Some c = text_scanned _ _ _ (known c.scan_text.ensures c.in-Some.is) (omega arith)
+pub returns-in_err-size : goal.returns-in_err-size
+returns-in_err-size c =
+    let rest = c.in_ok-get.ensures.lookup in
+    c.from_residual-in_err-size.ensures ∙ text_scanned _ _ _ (c.in_err-size.ensures ∙ ap text_length rest.0.2) (omega (arith, rest))
 
-pub returns-in-None : goal.returns-in-None
-returns-in-None c = text_scanned _ _ _ (known c.scan_text.ensures c.in-None.is) (omega arith)
+pub returns : goal.returns
+returns c =
+    let rest = c.in_ok-get.ensures.lookup in
+    text_scanned _ _ _ (c.in_ok-size.ensures ∙ ap text_length rest.0.2) (omega (arith, rest))
