@@ -15,11 +15,12 @@ use Rattle.std.proofs.Math.ListN.{length, take, length-drop}
 use Rattle.std.proofs.Math.Seq.{length-take-le}
 use borrow.Author.Tests.{le-leb, leb-true, eq-eqb, ne_eqb, eqb-true, eqb-false}
 use Rattle.refusal.specs.Refusal.{answered, refused}
+use Rattle.util.specs.Cstr.{place}
+use Rattle.util.specs.declared.cstr.Place.{Place}
 use Rattle.util.specs.LittleEndian.{little_endian}
-use Rattle.bundle.specs.Bundle.{Record, little_bytes, encoded, bundle_bytes, body_fits, Bytes, Rising, kinds, Obeys, part, body_place, layout_in, layout_of}
+use Rattle.bundle.specs.Bundle.{Record, little_bytes, encoded, bundle_bytes, body_fits, Bytes, Rising, kinds, Obeys, body_place, layout_in, layout_of}
 use Rattle.bundle.specs.Open.{size_at, kind_at, is_at, taken_at, image, segments, types, fields, strings, bundle_most, open_bundle}
 use Rattle.bundle.proofs.OpenLaws.{untaken, taken_of, take_none, take_some, take_past, too_long, no_image, left_over, opens}
-use Rattle.bundle.specs.declared.open.Part.{Part}
 use Rattle.bundle.specs.declared.open.Layout.{Layout}
 use Rattle.bundle.specs.declared.open.Taken.{Taken}
 
@@ -95,7 +96,7 @@ module _ (s : List ℕ) (bytes : Bytes s) (at n : ℕ) where
       rw (k, l, b, number 4 at (omega arith), number 2 (at + 4) (omega arith))
       (simp append_assoc (rw (peel n (at + 6), ← six, peel 2 (at + 4), peel 4 at)))
 
-absent : {last : ℕ} {rs : List Record} → Rising last rs → (j at : ℕ) → j ≤ last → part 0 0 ≡ body_place j at rs
+absent : {last : ℕ} {rs : List Record} → Rising last rs → (j at : ℕ) → j ≤ last → place 0 0 ≡ body_place j at rs
 unfolding body_place
 absent Rising.done j at h = refl
 absent (Rising.next {r = r} lo hi fit more) j at h = rw (ne_eqb r.kind j (λ q. omega arith)) (absent more j _ (omega arith))
@@ -287,8 +288,8 @@ pub imageless : (r : Record) (rs : List Record) → Rising 1 (r ∷ rs) → leng
 imageless r rs rising short =
     let s : List ℕ = bundle_bytes (r ∷ rs) in
     let f = forward s 0 0 (r ∷ rs) short (weaken (omega arith) rising) refl in
-    let missing : (image s).part ≡ part 0 0 = f.step.here ∙ sym (absent rising 1 0 (omega arith)) in
-    sym (no_image s refl refl refl refl refl (ap (λ (p : Part). p.start) missing) (some_bytes r rs) short)
+    let missing : (image s).part ≡ place 0 0 = f.step.here ∙ sym (absent rising 1 0 (omega arith)) in
+    sym (no_image s refl refl refl refl refl (ap (λ (p : Place). p.start) missing) (some_bytes r rs) short)
 
 pub complete : (rs : List Record) → Obeys rs → length (bundle_bytes rs) ≤ bundle_most → open_bundle (bundle_bytes rs) ≡ answered (layout_of rs)
 complete rs obeys short =

@@ -1,15 +1,17 @@
 -- What the tests of the code, one after the other, say about the definitions of `Open`. Assumes nothing.
-use Rattle.std.specs.Prelude.{ℕ, zero, suc, ◌+◌, ◌-◌, ◌%◌, ◌≤◌, ◌<◌, ◌≡◌, refl, List, Bool, true, false, ◌||◌, length, leb, ltb, eqb, Some}
+use Rattle.std.specs.Prelude.{ℕ, zero, suc, ◌+◌, ◌-◌, ◌%◌, ◌≤◌, ◌<◌, ◌≡◌, refl, List, Bool, true, false, ◌||◌, cond, length, leb, ltb, eqb, Option, Some, None, IsSome}
+use Rattle.std.specs.Bool.{then_some}
 use Rattle.std.proofs.Common.{arith, ◌∙◌}
-use Rattle.std.proofs.Math.Path.{sym, ap}
+use Rattle.std.proofs.Math.Path.{sym}
 use Rattle.std.proofs.Math.Bool.{and-false, and-eq-true_iff}
 use borrow.Author.Tests.{le-leb, lt-leb, lt-ltb, le-ltb, eq-eqb, ne_eqb, leb-true}
 use Rattle.refusal.specs.Refusal.{answered, refused}
+use Rattle.util.specs.Cstr.{place}
+use Rattle.util.specs.declared.cstr.Place.{Place}
 use Rattle.util.specs.LittleEndian.{little_at}
-use Rattle.util.proofs.LittleEndianLaws.{little_value, little_within}
-use Rattle.bundle.specs.Bundle.{part, body_fits, section_in}
-use Rattle.bundle.specs.Open.{size_at, kind_at, is_at, taken_at, answer, bundle_most, open_bundle, Within}
-use Rattle.bundle.specs.declared.open.Part.{Part}
+use Rattle.util.proofs.LittleEndianLaws.{little_value, little_within, little_beyond}
+use Rattle.bundle.specs.Bundle.{body_fits, section_in}
+use Rattle.bundle.specs.Open.{size_at, kind_at, is_at, body_at, taken_at, answer, bundle_most, open_bundle, Within}
 use Rattle.bundle.specs.declared.open.Section.{Section}
 use Rattle.bundle.specs.declared.open.Taken.{Taken}
 
@@ -28,10 +30,10 @@ module _ (kind n : ℕ) where
     fits_led h = simp (ne_eqb kind 2 other, le-ltb kind 3 h)
 
 abbrev pub untaken : ℕ → Taken
-untaken at = record { part = part 0 0; next = at }
+untaken at = record { part = place 0 0; next = at }
 
 abbrev pub taken_of : ℕ → ℕ → Taken
-taken_of at n = record { part = part (at + 6) n; next = at + 6 + n }
+taken_of at n = record { part = place (at + 6) n; next = at + 6 + n }
 
 module _ (kind : ℕ) (s : List ℕ) (at : ℕ) where
   pub take_none : is_at kind s at ≡ false → untaken at ≡ taken_at kind s at
@@ -46,6 +48,15 @@ module _ (kind : ℕ) (s : List ℕ) (at : ℕ) where
   unfolding is_at
   take_past h = take_none (rw (lt-leb (at + 6 + size_at s at) (length s) (omega arith)))
 
+  -- the same by the body alone
+  body_none : is_at kind s at ≡ false → None ≡ body_at kind s at
+  unfolding body_at
+  body_none h = rw h
+
+  pub body_past : length s < at + 6 → None ≡ body_at kind s at
+  unfolding is_at
+  body_past h = body_none (rw (lt-leb (at + 6 + size_at s at) (length s) (omega arith)))
+
   -- the header's two numbers as they were read
   module _ (n k : ℕ) (size : Some n ≡ little_at 4 s at) (found : Some k ≡ little_at 2 s (at + 4)) where
     size_is : n ≡ size_at s at
@@ -57,23 +68,38 @@ module _ (kind : ℕ) (s : List ℕ) (at : ℕ) where
     whole : at + 6 ≤ length s
     whole = omega (arith, little_within 2 s (at + 4) k found)
 
-    pub take_cut : length s - (at + 6) < n → untaken at ≡ taken_at kind s at
+    pub body_cut : length s - (at + 6) < n → None ≡ body_at kind s at
     unfolding is_at
-    take_cut h = take_none (rw (lt-leb (at + 6 + size_at s at) (length s) (omega (arith, size_is, whole))))
+    body_cut h = body_none (rw (lt-leb (at + 6 + size_at s at) (length s) (omega (arith, size_is, whole))))
 
-    pub take_other : (k ≡ kind → ⊥) → untaken at ≡ taken_at kind s at
+    pub body_other : (k ≡ kind → ⊥) → None ≡ body_at kind s at
     unfolding is_at
-    take_other h = take_none (rw (ne_eqb (kind_at s at) kind (λ e. h (kind_is ∙ e)), and-false))
+    body_other h = body_none (rw (ne_eqb (kind_at s at) kind (λ e. h (kind_is ∙ e)), and-false))
 
-    pub take_unfit : body_fits kind n ≡ false → untaken at ≡ taken_at kind s at
-    unfolding is_at
-    take_unfit h = take_none (rw (← size_is, h, and-false, and-false))
+    pub body_there : (b : Bool) → b ≡ body_fits kind n → k ≡ kind → n ≤ length s - (at + 6) → then_some b (place (at + 6) n) ≡ body_at kind s at
+    unfolding is_at body_at
+    body_there b f e h = rw (← size_is, ← kind_is, le-leb (at + 6 + n) (length s) (omega (arith, whole)), eq-eqb k kind e, ← f) (go b)
+      where
+        go : (b : Bool) → then_some b (place (at + 6) n) ≡ cond b (Some (place (at + 6) n)) None
+        go true = refl
+        go false = refl
 
-    pub take_there : body_fits kind n ≡ true → k ≡ kind → n ≤ length s - (at + 6) → taken_of at n ≡ taken_at kind s at
-    unfolding is_at
-    take_there b e h =
-        ap (taken_of at) size_is
-        ∙ take_some (rw (← size_is, ← kind_is, le-leb (at + 6 + n) (length s) (omega (arith, whole)), eq-eqb k kind e, b))
+  -- a record's body and the next record's place, by that body
+  pub taken_there : (p : Place) → Some p ≡ body_at kind s at → record { part = p; next = p.start + p.size } ≡ taken_at kind s at
+  unfolding body_at
+  taken_there p e = go (is_at kind s at) refl e
+    where
+      go : (b : Bool) → is_at kind s at ≡ b → Some p ≡ cond b (Some (place (at + 6) (size_at s at))) None → record { part = p; next = p.start + p.size } ≡ taken_at kind s at
+      go true w e = let is : p ≡ place (at + 6) (size_at s at) = cc in rw is (take_some w)
+      go false w e = let z : ◌≡◌ {A = ℕ} 0 1 = cc in absurd (omega arith)
+
+  pub taken_nothing : None ≡ body_at kind s at → untaken at ≡ taken_at kind s at
+  unfolding body_at
+  taken_nothing e = go (is_at kind s at) refl e
+    where
+      go : (b : Bool) → is_at kind s at ≡ b → None ≡ cond b (Some (place (at + 6) (size_at s at))) None → untaken at ≡ taken_at kind s at
+      go true w e = let z : ◌≡◌ {A = ℕ} 0 1 = cc in absurd (omega arith)
+      go false w e = take_none w
 
 -- what is taken lies within the bytes
 pub taken_within : (kind : ℕ) (s : List ℕ) (at : ℕ) {r : Taken} → r ≡ taken_at kind s at → Within s r.part
@@ -86,14 +112,21 @@ taken_within kind s at e = go (is_at kind s at) refl e
         rw (e ∙ sym (take_some kind s at w)) (leb-true _ _ whole.0)
     go false w e = rw (e ∙ sym (take_none kind s at w)) (omega arith)
 
-module _ (s : List ℕ) (p : Part) where
-  pub section_there : (a : ℕ) → Some a ≡ little_at 8 s p.start → 8 ≤ p.length → record { address = a; part = part (p.start + 8) (p.length - 8) } ≡ section_in s p
+module _ (s : List ℕ) (p : Place) where
+  pub section_there : (a : ℕ) → Some a ≡ little_at 8 s p.start → 8 ≤ p.size → record { address = a; part = place (p.start + 8) (p.size - 8) } ≡ section_in s p
   unfolding section_in
-  section_there a e h = rw (le-leb 8 p.length h, little_value 8 s p.start a e)
+  section_there a e h = rw (le-leb 8 p.size h, little_value 8 s p.start a e)
 
-  pub section_missing : p.length < 8 → record { address = 0; part = part 0 0 } ≡ section_in s p
+  pub section_read : {r : Option ℕ} → r ≡ little_at 8 s p.start → p.start + 8 ≤ length s → IsSome r
+  section_read {r} e h = go r e
+    where
+      go : (r : Option ℕ) → r ≡ little_at 8 s p.start → IsSome r
+      go (Some n) e = refl
+      go None e = absurd (omega (arith, little_beyond 8 s p.start e))
+
+  pub section_missing : p.size < 8 → record { address = 0; part = place 0 0 } ≡ section_in s p
   unfolding section_in
-  section_missing h = rw (lt-leb 8 p.length h)
+  section_missing h = rw (lt-leb 8 p.size h)
 
 pub too_long : (s : List ℕ) → bundle_most < length s → refused 5 ≡ open_bundle s
 unfolding open_bundle

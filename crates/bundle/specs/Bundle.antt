@@ -3,7 +3,8 @@
 use Rattle.std.specs.Prelude.{ℕ, zero, suc, ◌+◌, ◌-◌, ◌%◌, ◌/◌, ◌≤◌, ◌<◌, ◌≡◌, Bool, true, cond, ◌⊎◌, length, get_or, take, drop, leb, ltb, eqb}
 use mathlib.Core.List.{List, [], ◌∷◌, ◌++◌, map, Memᴰ}
 use Rattle.util.specs.LittleEndian.{little_endian}
-use Rattle.bundle.specs.declared.open.Part.{Part}
+use Rattle.util.specs.Cstr.{place}
+use Rattle.util.specs.declared.cstr.Place.{Place}
 use Rattle.bundle.specs.declared.open.Section.{Section}
 use Rattle.bundle.specs.declared.open.Layout.{Layout}
 
@@ -45,24 +46,20 @@ pub record Obeys (rs : List Record) : Type 0 where
   pub rising : Rising 0 rs
   pub image : (rs ≡ []) ⊎ Memᴰ 1 (kinds rs)
 
--- a run of bytes: its start and its length
-abbrev pub part : ℕ → ℕ → Part
-part o n = record { start = o; length = n }
-
 -- where the body of a kind lies, the first record's header being at `at`; all zeros if the kind is missing
-unfoldable pub body_place : ℕ → ℕ → List Record → Part
-body_place kind at [] = part 0 0
-body_place kind at (r ∷ rs) = cond (eqb r.kind kind) (part (at + 6) (length r.body)) (body_place kind (at + 6 + length r.body) rs)
+unfoldable pub body_place : ℕ → ℕ → List Record → Place
+body_place kind at [] = place 0 0
+body_place kind at (r ∷ rs) = cond (eqb r.kind kind) (place (at + 6) (length r.body)) (body_place kind (at + 6 + length r.body) rs)
 
 -- the address at the start of a led body, and the bytes after it; all zeros if there is no such body
-unfoldable pub section_in : List ℕ → Part → Section
+unfoldable pub section_in : List ℕ → Place → Section
 section_in s p =
-    cond (leb 8 p.length)
-    (record { address = little_endian (take 8 (drop p.start s)); part = part (p.start + 8) (p.length - 8) })
-    (record { address = 0; part = part 0 0 })
+    cond (leb 8 p.size)
+    (record { address = little_endian (take 8 (drop p.start s)); part = place (p.start + 8) (p.size - 8) })
+    (record { address = 0; part = place 0 0 })
 
 -- a layout from the places of the five bodies
-abbrev pub layout_in : List ℕ → Part → Part → Part → Part → Part → Layout
+abbrev pub layout_in : List ℕ → Place → Place → Place → Place → Place → Layout
 layout_in s image segments types fields strings =
     record { image = image; segments = segments; types = section_in s types; fields = section_in s fields; strings = section_in s strings }
 

@@ -1,14 +1,14 @@
 -- Opening a bundle (docs/SPECIFICATION.md, "Bundles"), as a computation on its bytes: each kind in turn is taken if its record comes next.
 -- A record of a kind that does not rise, or that breaks another rule, is not taken, and is left over at the end. `BundleLaws.sound` and
 -- `BundleLaws.complete` say that the records of `Bundle` that obey the rules, and no other bytes, are opened, with their layout.
-use Rattle.std.specs.Prelude.{ℕ, ◌+◌, ◌≤◌, List, Bool, cond, ◌&&◌, ◌||◌, length, take, drop, leb, ltb, eqb}
-use Rattle.refusal.specs.Refusal.{Guarded, answered, refused, refusal_number}
+use Rattle.std.specs.Prelude.{ℕ, ◌+◌, ◌≤◌, List, Bool, cond, ◌&&◌, ◌||◌, length, take, drop, leb, ltb, eqb, Option, Some, None}
+use Rattle.refusal.specs.Refusal.{Guarded, answered, refused}
 use Rattle.util.specs.LittleEndian.{little_endian}
-use Rattle.bundle.specs.Bundle.{part, body_fits, layout_in}
-use Rattle.bundle.specs.declared.open.Part.{Part}
+use Rattle.util.specs.Cstr.{place}
+use Rattle.util.specs.declared.cstr.Place.{Place}
+use Rattle.bundle.specs.Bundle.{body_fits, layout_in}
 use Rattle.bundle.specs.declared.open.Layout.{Layout}
 use Rattle.bundle.specs.declared.open.Taken.{Taken}
-use Rattle.bundle.specs.declared.open.Opened.{Opened}
 
 -- the body length and the kind in a header at an offset
 abbrev pub size_at : List ℕ → ℕ → ℕ
@@ -21,12 +21,16 @@ kind_at s at = little_endian (take 2 (drop (at + 4) s))
 unfoldable pub is_at : ℕ → List ℕ → ℕ → Bool
 is_at kind s at = leb (at + 6 + size_at s at) (length s) && (eqb (kind_at s at) kind && body_fits kind (size_at s at))
 
+-- that record's body
+unfoldable pub body_at : ℕ → List ℕ → ℕ → Option Place
+body_at kind s at = cond (is_at kind s at) (Some (place (at + 6) (size_at s at))) None
+
 -- that record's body and the offset after it; all zeros and the same offset if there is none
 unfoldable pub taken_at : ℕ → List ℕ → ℕ → Taken
 taken_at kind s at =
     cond (is_at kind s at)
-    (record { part = part (at + 6) (size_at s at); next = at + 6 + size_at s at })
-    (record { part = part 0 0; next = at })
+    (record { part = place (at + 6) (size_at s at); next = at + 6 + size_at s at })
+    (record { part = place 0 0; next = at })
 
 -- from what was taken for each kind: there must be an image, or no byte at all, and no byte may be left
 unfoldable pub answer : List ℕ → Taken → Taken → Taken → Taken → Taken → Guarded Layout
@@ -59,11 +63,6 @@ bundle_most = 65536
 unfoldable pub open_bundle : List ℕ → Guarded Layout
 open_bundle s = cond (ltb bundle_most (length s)) (refused 5) (answer s (image s) (segments s) (types s) (fields s) (strings s))
 
--- the code's answer, with its refusals as numbers
-abbrev pub opened : Opened → Guarded Layout
-opened (Opened.Bundle l) = answered l
-opened (Opened.Refused r) = refused (refusal_number r)
-
--- a part that lies within the bytes
-abbrev pub Within : List ℕ → Part → Type 0
-Within s p = p.start + p.length ≤ length s
+-- a place that lies within the bytes
+abbrev pub Within : List ℕ → Place → Type 0
+Within s p = p.start + p.size ≤ length s

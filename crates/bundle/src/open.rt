@@ -1,49 +1,38 @@
 // Opens a bundle: takes the five kinds in turn, each if its record comes next, and leaves nothing over.
 ghost use Rattle.std.specs.Prelude.{◌≡◌};
 ghost use Rattle.bundle.specs.Bundle.{body_fits, section_in};
-ghost use Rattle.bundle.specs.Open.{taken_at, open_bundle, opened, Within};
+ghost use Rattle.refusal.specs.Refusal.{outcome};
+ghost use Rattle.bundle.specs.Open.{body_at, taken_at, open_bundle, Within};
 
 use refusal::Refusal;
-use util::{ReadU16, ReadU32, ReadU64};
+use util::Place;
 
 // How many bytes a bundle may have.
 pub const BUNDLE_BYTES: usize = 65536;
 
-// A run of the bundle's bytes.
-#[derive(Clone, Copy)]
-pub struct Part {
-    pub start: usize,
-    pub length: usize,
-}
+const NO_BYTES: Place = Place { start: 0, size: 0 };
 
 // A section: its address, and its bytes, which follow the address.
 #[derive(Clone, Copy)]
 pub struct Section {
     pub address: u64,
-    pub part: Part,
+    pub part: Place,
 }
 
 // Where everything lies. A part that is missing has only zeros.
 #[derive(Clone, Copy)]
 pub struct Layout {
-    pub image: Part,
-    pub segments: Part,
+    pub image: Place,
+    pub segments: Place,
     pub types: Section,
     pub fields: Section,
     pub strings: Section,
 }
 
-#[derive(Clone, Copy)]
-pub enum Opened {
-    Bundle(Layout),
-    // LongBundle or BrokenBundle by the format; WrappingSegment too where the segments are tested.
-    Refused(Refusal),
-}
-
 // The body of a record, and where the next one starts.
 #[derive(Clone, Copy)]
 pub struct Taken {
-    pub part: Part,
+    pub part: Place,
     pub next: usize,
 }
 
@@ -60,82 +49,64 @@ pub fn body_fits(kind: u16, length: usize) -> bool
     length >= 8
 }
 
-fn not_taken(at: usize) -> Taken
-    ensures { result ≡ record { part = record { start = 0; length = 0 }; next = at } }
+// The body of the record at an offset, if the record is whole, of this kind, and its body fits.
+fn record_body(bytes: &[u8], at: usize, kind: u16) -> Option<Place>
+    ensures { result ≡ body_at kind bytes.now at }
 {
-    Taken {
-        part: Part {
-            start: 0,
-            length: 0,
-        },
-        next: at,
+    let size = util::read_u32_le_at(bytes, at)? as usize;
+    let found = util::read_u16_le_at(bytes, at + 4)?;
+    let start = at + 6;
+    if bytes.len() - start < size {
+        return None;
     }
+    if found != kind {
+        return None;
+    }
+    body_fits(kind, size).then_some(Place { start, size })
 }
 
-// The record at an offset, if it is whole, of this kind, and its body fits.
+// That record's body, and where the next record starts.
 fn take_record(bytes: &[u8], at: usize, kind: u16) -> Taken
     ensures { result ≡ taken_at kind bytes.now at }
 {
-    let ReadU32::Value(size) = util::read_u32_le_at(bytes, at) else {
-        return not_taken(at);
-    };
-    let ReadU16::Value(found) = util::read_u16_le_at(bytes, at + 4) else {
-        return not_taken(at);
-    };
-    let start = at + 6;
-    let length = size as usize;
-    if bytes.len() - start < length {
-        return not_taken(at);
-    }
-    if found != kind {
-        return not_taken(at);
-    }
-    if body_fits(kind, length) {
-        Taken {
-            part: Part { start, length },
-            next: start + length,
-        }
-    } else {
-        not_taken(at)
+    match record_body(bytes, at, kind) {
+        Some(part) => Taken {
+            part,
+            next: part.start + part.size,
+        },
+        None => Taken {
+            part: NO_BYTES,
+            next: at,
+        },
     }
 }
 
 // The section that has this body; a body of fewer than 8 bytes is a missing section.
-fn section_of(bytes: &[u8], body: Part) -> Section
+fn section_of(bytes: &[u8], body: Place) -> Section
     requires { Within bytes.now body }
     ensures { result ≡ section_in bytes.now body }
 {
-    let start = body.start;
-    let length = body.length;
-    if 8 <= length {
-        match util::read_u64_le_at(bytes, start) {
-            ReadU64::Value(address) => {
-                return Section {
-                    address,
-                    part: Part {
-                        start: start + 8,
-                        length: length - 8,
-                    },
-                };
-            }
-            ReadU64::Nothing => {}
-        }
+    if body.size < 8 {
+        return Section {
+            address: 0,
+            part: NO_BYTES,
+        };
     }
     Section {
-        address: 0,
-        part: Part {
-            start: 0,
-            length: 0,
+        address: util::read_u64_le_at(bytes, body.start).unwrap(),
+        part: Place {
+            start: body.start + 8,
+            size: body.size - 8,
         },
     }
 }
 
-// Where everything lies in a bundle's bytes.
-pub fn open_bundle(bytes: &[u8]) -> Opened
-    ensures { opened result ≡ open_bundle bytes.now }
+// Where everything lies in a bundle's bytes: refused as LongBundle, or as BrokenBundle by the format.
+pub fn open_bundle(bytes: &[u8]) -> Result<Layout, Refusal>
+    ensures { outcome result ≡ open_bundle bytes.now }
 {
     if BUNDLE_BYTES < bytes.len() {
-        return Opened::Refused(Refusal::LongBundle);
+        return Err(Refusal::LongBundle);
     }
     let image = take_record(bytes, 0, 1);
     let segments = take_record(bytes, image.next, 2);
@@ -144,16 +115,14 @@ pub fn open_bundle(bytes: &[u8]) -> Opened
     let strings = take_record(bytes, fields.next, 5);
     // No bytes at all are a bundle with nothing in it: an image is required only beside other records.
     if image.part.start == 0 && 0 < bytes.len() {
-        return Opened::Refused(Refusal::BrokenBundle);
+        return Err(Refusal::BrokenBundle);
     }
     if strings.next < bytes.len() {
-        return Opened::Refused(Refusal::BrokenBundle);
+        return Err(Refusal::BrokenBundle);
     }
-    let image_body = image.part;
-    let segments_body = segments.part;
-    Opened::Bundle(Layout {
-        image: image_body,
-        segments: segments_body,
+    Ok(Layout {
+        image: image.part,
+        segments: segments.part,
         types: section_of(bytes, types.part),
         fields: section_of(bytes, fields.part),
         strings: section_of(bytes, strings.part),
