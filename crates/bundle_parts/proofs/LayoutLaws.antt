@@ -1,5 +1,5 @@
 -- A layout's places lie within the bytes, and the bytes there are the records' bodies. Assumes nothing.
-use Prim.Native.Nat.{ℕ, ◌+◌, ◌-◌, ◌%◌, ◌≤◌, ◌<◌}
+use Prim.Native.Nat.{ℕ, ◌+◌, ◌-◌, ◌%◌, ◌≤◌}
 use native.Mathlib.Omega.{arith}
 use Rattle.std.specs.Prelude.{◌≡◌, Bool, cond, eqb}
 use Rattle.std.proofs.Math.Path.{refl, ap}
@@ -18,7 +18,7 @@ use Rattle.bundle.specs.Open.{size_at, kind_at, is_at, taken_at, bundle_most, op
 use Rattle.bundle.proofs.OpenLaws.{take_none, take_some, taken_within, opens}
 use Rattle.bundle.proofs.BundleLaws.{from_body, from_next, read_within, taken_layout, opened_short, opened_image, opened_all}
 use Rattle.bundle_parts.specs.Parts.{bytes_of}
-use Rattle.bundle.specs.declared.open.Part.{Part}
+use Rattle.util.specs.declared.cstr.Place.{Place}
 use Rattle.bundle.specs.declared.open.Layout.{Layout}
 
 -- the body of a kind, empty if it is missing
@@ -40,35 +40,35 @@ place_bytes s kind at (r ∷ rs) e = go (place_bytes s kind (at + 6 + length r.b
     go below false t = rw t below
 
 -- a section's address and bytes are those of its led body
-module _ (s : List ℕ) (p : Part) where
+module _ (s : List ℕ) (p : Place) where
   pub section_within : Within s p → Within s (section_in s p).part
   unfolding section_in
-  section_within h = go (leb 8 p.length) refl
+  section_within h = go (leb 8 p.size) refl
     where
-      go : (b : Bool) → leb 8 p.length ≡ b → Within s (section_in s p).part
-      go true t = rw t (omega (arith, leb-true 8 p.length t))
+      go : (b : Bool) → leb 8 p.size ≡ b → Within s (section_in s p).part
+      go true t = rw t (omega (arith, leb-true 8 p.size t))
       go false t = rw t (omega arith)
 
-  module _ (h : Within s p) (led : 8 ≤ p.length) where
+  module _ (h : Within s p) (led : 8 ≤ p.size) where
     pub section_address : (section_in s p).address ≡ little_endian (take 8 (bytes_of s p))
     unfolding section_in
-    section_address = rw (le-leb 8 p.length led, part_in s p.start p.length h, take-take 8 p.length (drop p.start s) led)
+    section_address = rw (le-leb 8 p.size led, part_in s p.start p.size h, take-take 8 p.size (drop p.start s) led)
 
     pub section_bytes : bytes_of s (section_in s p).part ≡ drop 8 (bytes_of s p)
     unfolding section_in
     section_bytes =
         let all : List ℕ = drop p.start s in
-        let size : p.length ≡ 8 + (p.length - 8) = omega arith in
+        let size : p.size ≡ 8 + (p.size - 8) = omega arith in
         let eight : length (take 8 all) ≡ 8 = length-take-le 8 all (simp length-drop (omega arith)) in
-        let split : take p.length all ≡ take 8 all ++ take (p.length - 8) (drop 8 all) = ap (λ (k : ℕ). take k all) size ∙ take-add 8 (p.length - 8) all in
-        rw (le-leb 8 p.length led, part_in s (p.start + 8) (p.length - 8) (omega arith), part_in s p.start p.length h, split, drop_at (take 8 all) (take (p.length - 8) (drop 8 all)) 8 eight, drop-drop)
+        let split : take p.size all ≡ take 8 all ++ take (p.size - 8) (drop 8 all) = ap (λ (k : ℕ). take k all) size ∙ take-add 8 (p.size - 8) all in
+        rw (le-leb 8 p.size led, part_in s (p.start + 8) (p.size - 8) (omega arith), part_in s p.start p.size h, split, drop_at (take 8 all) (take (p.size - 8) (drop 8 all)) 8 eight, drop-drop)
 
 -- what was taken for the segments is whole segments
-taken_whole : (s : List ℕ) (at : ℕ) → (taken_at 2 s at).part.length % 32 ≡ 0
+taken_whole : (s : List ℕ) (at : ℕ) → (taken_at 2 s at).part.size % 32 ≡ 0
 unfolding is_at body_fits
 taken_whole s at = go (is_at 2 s at) refl
   where
-    go : (b : Bool) → is_at 2 s at ≡ b → (taken_at 2 s at).part.length % 32 ≡ 0
+    go : (b : Bool) → is_at 2 s at ≡ b → (taken_at 2 s at).part.size % 32 ≡ 0
     go true is =
         let both = (and-eq-true_iff (leb (at + 6 + size_at s at) (length s)) _).0 is in
         let fit = (and-eq-true_iff (eqb (kind_at s at) 2) _).0 both.1 in
@@ -82,7 +82,7 @@ pub record Fit (s : List ℕ) (l : Layout) : Type 0 where
   pub types : Within s l.types.part
   pub fields : Within s l.fields.part
   pub strings : Within s l.strings.part
-  pub whole : l.segments.length % 32 ≡ 0
+  pub whole : l.segments.size % 32 ≡ 0
   pub short : length s ≤ bundle_most
 
 pub opened_fit : (s : List ℕ) (l : Layout) → open_bundle s ≡ answered l → Fit s l

@@ -1,11 +1,10 @@
 // The segments of a bundle, by their numbers.
 ghost use Rattle.std.specs.Prelude.{◌≡◌, ◌+◌, ◌≤◌, length};
 ghost use Rattle.util.specs.Buffer.{at_start};
-ghost use Rattle.bundle_parts.specs.Parts.{segment_bytes, segment_in, segment_of, u64_in, listed_numbers, segment_numbers_most};
+ghost use Rattle.bundle_parts.specs.Parts.{segment_bytes, segment_in, segment_of, u64_in, listed_numbers};
 
-use crate::parts::{Segment, SegmentRead};
+use crate::parts::Segment;
 use bundle::Layout;
-use util::ReadU64;
 
 // The length of a list that holds the segment numbers of every bundle.
 pub const SEGMENT_NUMBERS: usize = 8192;
@@ -15,52 +14,31 @@ fn u64_in(body: &[u8], at: usize) -> u64
     requires { at + 8 ≤ length body.now }
     ensures { result ≡ u64_in body.now at }
 {
-    match util::read_u64_le_at(body, at) {
-        ReadU64::Value(n) => n,
-        ReadU64::Nothing => 0,
-    }
+    util::read_u64_le_at(body, at).unwrap()
 }
 
-// The segment with a number; nothing past the last.
-pub fn segment(bytes: &[u8], layout: Layout, number: usize) -> SegmentRead
+// The bytes of all segments, 32 to a segment.
+fn segments_part(bytes: &[u8], layout: Layout) -> &[u8]
+    ensures { result.now ≡ segment_bytes bytes.now layout }
+{
+    util::part(bytes, layout.segments.start, layout.segments.size)
+}
+
+// The segment with a number; none past the last.
+pub fn segment(bytes: &[u8], layout: Layout, number: usize) -> Option<Segment>
     ensures { segment_of result ≡ segment_in (segment_bytes bytes.now layout) number }
 {
-    let body = util::part(bytes, layout.segments.start, layout.segments.length);
-    if number < body.len() / 32 {
-        let at = 32 * number;
-        SegmentRead::Segment(Segment {
-            vmaddr: u64_in(body, at),
-            vmsize: u64_in(body, at + 8),
-            fileoff: u64_in(body, at + 16),
-            filesize: u64_in(body, at + 24),
-        })
-    } else {
-        SegmentRead::Nothing
+    let body = segments_part(bytes, layout);
+    if body.len() / 32 <= number {
+        return None;
     }
-}
-
-fn fill(bytes: &[u8], layout: Layout, out: &mut [u64]) -> usize
-    requires { segment_numbers_most ≤ length out.old }
-    ensures value { result ≡ length (listed_numbers bytes.now layout) }
-    ensures out_after { out.new ≡ at_start (listed_numbers bytes.now layout) out.old }
-{
-    let mut k = 0;
-    while k < SEGMENT_NUMBERS / 4 {
-        let at = 4 * k;
-        match segment(bytes, layout, k) {
-            SegmentRead::Segment(s) => {
-                out[at] = s.vmaddr;
-                out[at + 1] = s.vmsize;
-                out[at + 2] = s.fileoff;
-                out[at + 3] = s.filesize;
-                k += 1;
-            }
-            SegmentRead::Nothing => {
-                return at;
-            }
-        }
-    }
-    4 * k
+    let at = 32 * number;
+    Some(Segment {
+        vmaddr: u64_in(body, at),
+        vmsize: u64_in(body, at + 8),
+        fileoff: u64_in(body, at + 16),
+        filesize: u64_in(body, at + 24),
+    })
 }
 
 // Writes the numbers of all segments, four to a segment, at the start of a list, and returns how many there are.
@@ -68,6 +46,10 @@ pub fn segment_numbers(bytes: &[u8], layout: Layout, out: &mut [u64; SEGMENT_NUM
     ensures value { result ≡ length (listed_numbers bytes.now layout) }
     ensures out_after { out.new ≡ at_start (listed_numbers bytes.now layout) out.old }
 {
-    let list: &mut [u64] = out;
-    fill(bytes, layout, list)
+    let body = segments_part(bytes, layout);
+    let count = (body.len() / 32 * 4).min(SEGMENT_NUMBERS);
+    for k in 0..count {
+        out[k] = u64_in(body, 8 * k);
+    }
+    count
 }
