@@ -2,3 +2,4 @@ pub mod Bytes
 pub mod FieldName
 pub mod PlaceNumbers
 pub mod Reads
+pub mod Runtime

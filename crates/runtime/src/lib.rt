@@ -5,5 +5,5 @@
 mod reads;
 mod reflstr;
 
-pub use reads::{find_bytes, read_bytes, read_cstr, vm_to_file_offset};
+pub use reads::{SwiftRuntime, SwiftSection, find_bytes, read_bytes, read_cstr, vm_to_file_offset};
 pub use reflstr::{FieldName, field_name_part, lookup_field_name};

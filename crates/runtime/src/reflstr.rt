@@ -1,7 +1,9 @@
 ghost use Rattle.std.specs.Prelude.{◌≡◌};
 ghost use Rattle.runtime.specs.FieldName.{field_name, field_name_of, name_part, section_text};
+ghost use Rattle.runtime.specs.Runtime.{tried};
 ghost use Rattle.segment.specs.Mapping.{with_mapping};
 
+use crate::reads::{SwiftRuntime, SwiftSection};
 use segment::Mapping;
 use util::Place;
 
@@ -26,7 +28,24 @@ fn section_text(strings: &[u8], vmaddr: u64, target_va: u64) -> Option<Place>
     util::read_cstr_at(strings, off)
 }
 
-// The name at an address: in the image, else in the string section. A missing section is an empty one.
+impl<'a, 's> SwiftRuntime<'a, 's> {
+    // The name at an address: in the image, else in the string section. A missing section is an empty one.
+    pub fn lookup_field_name(&self, strings: SwiftSection, target_va: u64) -> Option<FieldName>
+        ensures { field_name_of result ≡ field_name self.now.image.now (tried self.now) strings.entry.body.now strings.entry.vmaddr target_va }
+    {
+        if target_va == 0 {
+            return None;
+        }
+        match self.read_cstr(target_va) {
+            Some(place) => Some(FieldName::Image(place)),
+            None => {
+                let place = section_text(strings.body, strings.vmaddr, target_va)?;
+                Some(FieldName::Strings(place))
+            }
+        }
+    }
+}
+
 pub fn lookup_field_name(
     image: &[u8],
     segments: &[u64],
@@ -37,16 +56,16 @@ pub fn lookup_field_name(
 ) -> Option<FieldName>
     ensures { field_name_of result ≡ field_name image.now (with_mapping mapping segments.now) strings.now vmaddr target_va }
 {
-    if target_va == 0 {
-        return None;
+    let strings = SwiftSection {
+        body: strings,
+        vmaddr,
+    };
+    SwiftRuntime {
+        image,
+        segments,
+        mapping,
     }
-    match crate::read_cstr(image, segments, mapping, target_va) {
-        Some(place) => Some(FieldName::Image(place)),
-        None => {
-            let place = section_text(strings, vmaddr, target_va)?;
-            Some(FieldName::Strings(place))
-        }
-    }
+    .lookup_field_name(strings, target_va)
 }
 
 // The part of the image or of the string section that a name is: empty if there is none.

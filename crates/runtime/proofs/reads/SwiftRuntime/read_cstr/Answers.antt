@@ -1,8 +1,8 @@
--- `runtime::reads::read_cstr` meets its contract: each `return` is a case of `text_place`.
+-- `runtime::reads::SwiftRuntime::read_cstr` meets its contract: each `return` is a case of `text_place`.
 use Rattle.std.proofs.Common.{◌∙◌}
 use Rattle.util.proofs.AnswersLaws.{known}
 use Rattle.runtime.proofs.CallsLaws.{text_zero, text_at_lem, text_there, text_nowhere}
-use Rattle.runtime.proofs.reads.read_cstr.Goals as goal
+use Rattle.runtime.proofs.reads.SwiftRuntime.read_cstr.Goals as goal
 
 pub returns-then-vmaddr-eq0 : goal.returns-then-vmaddr-eq0
 returns-then-vmaddr-eq0 c = text_zero _ _ _ c.if-vmaddr-eq0.true

@@ -1,7 +1,7 @@
--- `runtime::reads::read_bytes` meets its contract.
+-- `runtime::reads::SwiftRuntime::read_bytes` meets its contract.
 use Rattle.util.proofs.AnswersLaws.{known}
 use Rattle.runtime.proofs.CallsLaws.{read_at_lem, read_nothing}
-use Rattle.runtime.proofs.reads.read_bytes.Goals as goal
+use Rattle.runtime.proofs.reads.SwiftRuntime.read_bytes.Goals as goal
 
 pub returns-in-Some : goal.returns-in-Some
 returns-in-Some c = read_at_lem _ _ _ _ _ _ (known c.find_bytes.ensures c.in-Some.is) c.part.ensures

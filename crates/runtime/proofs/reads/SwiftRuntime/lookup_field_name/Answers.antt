@@ -1,9 +1,9 @@
--- `runtime::reflstr::lookup_field_name` meets its contract: each `return` is a case of `field_name`.
+-- `runtime::reads::SwiftRuntime::lookup_field_name` meets its contract: each `return` is a case of `field_name`.
 use Rattle.std.proofs.Common.{ap, ◌∙◌}
 use Rattle.util.proofs.AnswersLaws.{known}
 use Rattle.runtime.specs.FieldName.{field_name_of}
 use Rattle.runtime.proofs.CallsLaws.{name_zero, name_image, name_strings}
-use Rattle.runtime.proofs.reflstr.lookup_field_name.Goals as goal
+use Rattle.runtime.proofs.reads.SwiftRuntime.lookup_field_name.Goals as goal
 
 pub returns-then-target_va-eq0 : goal.returns-then-target_va-eq0
 returns-then-target_va-eq0 c = name_zero _ _ _ _ _ c.if-target_va-eq0.true
