@@ -12,7 +12,7 @@ use Rattle.util.specs.Cstr.{place, part_of}
 use Rattle.util.specs.CstrLaws.{part_in}
 use Rattle.util.specs.Buffer.{Put, put_end, put_into}
 use Rattle.util.proofs.BufferLaws.{put_none, put_more, put_then, put_length}
-use Rattle.util.specs.declared.cstr.Text.{Text}
+use Rattle.util.specs.declared.cstr.Place.{Place}
 use Rattle.parent.specs.Context.{Header, Context, context_read, name_read}
 use Rattle.parent.specs.Chain.{chain}
 use Rattle.refusal.specs.Refusal.{answered, refused}
@@ -114,18 +114,18 @@ module _ (image segments : List ℕ) (left a rest : ℕ) (places lengths : List 
         fewer = omega (arith, b.fewer);
       }
 
-  pub block_named : (h : Header) (p n : ℕ) → Some (record { header = h; name = name_read image (Text.At p n) }) ≡ context_read image segments a'
-      → (rest'' : ℕ) → rest'' ≡ min (rest' + (n + 1)) (2 ^ 64 - 1) → p + n ≤ length image
+  pub block_named : (h : Header) (p : Place) → Some (record { header = h; name = name_read image (Some p) }) ≡ context_read image segments a'
+      → (rest'' : ℕ) → rest'' ≡ min (rest' + (p.size + 1)) (2 ^ 64 - 1) → p.start + p.size ≤ length image
       → 0 < left' → count < 8 → count < length places → count < length lengths
-      → Block image segments left a rest (set places count p) (set lengths count n) (count + 1) (left' - 1) h.parent rest''
-  block_named h p n e rest'' er hi hl hc hp hn =
-      let t : List ℕ = part_of image (place p n) in
-      let lt : length t ≡ n = part_length image p n hi in
-      let c : Context = record { header = h; name = name_read image (Text.At p n) } in
+      → Block image segments left a rest (set places count p.start) (set lengths count p.size) (count + 1) (left' - 1) h.parent rest''
+  block_named h p e rest'' er hi hl hc hp hn =
+      let t : List ℕ = part_of image p in
+      let lt : length t ≡ p.size = part_length image p.start p.size hi in
+      let c : Context = record { header = h; name = name_read image (Some p) } in
       let further : List ℕ = before image segments (left' - 1) h.parent in
-      let g : gathered image (set places count p) (set lengths count n) (count + 1) ≡ (t ++ (46 ∷ [])) ++ gathered image places lengths count =
-      rw add-one (stored image places lengths count p n hp hn) in
-      let long : length (gathered image (set places count p) (set lengths count n) (count + 1)) ≡ length t + 1 + length (gathered image places lengths count) =
+      let g : gathered image (set places count p.start) (set lengths count p.size) (count + 1) ≡ (t ++ (46 ∷ [])) ++ gathered image places lengths count =
+      rw add-one (stored image places lengths count p.start p.size hp hn) in
+      let long : length (gathered image (set places count p.start) (set lengths count p.size) (count + 1)) ≡ length t + 1 + length (gathered image places lengths count) =
       rw g (simp length-append) in
       let f : before image segments left' a' ≡ further ++ (t ++ (46 ∷ [])) = before_is image segments left' a' c e (left' - 1) (omega arith) in
       record {

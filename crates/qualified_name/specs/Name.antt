@@ -1,11 +1,10 @@
 -- The joined name: docs/SPECIFICATION.md, "Joined names" and "Refusals".
 use Rattle.std.specs.Prelude.{ℕ, List, [], ◌∷◌, ◌++◌, Bool, true, false, cond, length, ltb, Option, Some, None}
-use Rattle.refusal.specs.Refusal.{Guarded, answered, refused, refusal_number}
+use Rattle.refusal.specs.Refusal.{Guarded, answered, refused}
 use Rattle.runtime.specs.Reads.{run}
 use Rattle.typedescriptor.specs.Row.{TypeRow}
 use Rattle.parent.specs.Context.{Name, Context}
 use Rattle.parent.specs.Chain.{contexts_most, header_at, chain}
-use Rattle.qualified_name.specs.declared.name.QualifiedName.{QualifiedName}
 
 -- a present name, even an empty one, and a dot
 abbrev pub hop : Option Name → List ℕ
@@ -34,8 +33,3 @@ unfoldable pub name_answer : List ℕ → List ℕ → TypeRow → ℕ → Guard
 name_answer image segments row size =
     cond (too_deep image segments row.parent) (refused 4)
     (cond (ltb size (length (qualified_name image segments row))) (refused 3) (answered (qualified_name image segments row)))
-
--- what the call's answer says: the name's length
-abbrev pub length_of : QualifiedName → Guarded ℕ
-length_of (QualifiedName.Length n) = answered n
-length_of (QualifiedName.Refused r) = refused (refusal_number r)

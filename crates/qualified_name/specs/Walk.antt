@@ -1,12 +1,12 @@
 -- How the joined name is written, block by block: contexts are read one after the other, and their names are kept. This file is
 -- for the functions that write it; no definition of a name rests on it.
-use Rattle.std.specs.Prelude.{ℕ, zero, suc, ◌+◌, ◌-◌, ◌^◌, ◌≤◌, min, ◌≡◌, List, [], ◌∷◌, ◌++◌, Bool, true, false, cond, length, get_or, leb, ltb}
-use Rattle.refusal.specs.Refusal.{Guarded, answered, refused, refusal_number}
+use Rattle.std.specs.Prelude.{ℕ, zero, suc, ◌+◌, ◌-◌, ◌^◌, ◌≤◌, min, ◌≡◌, List, [], ◌∷◌, ◌++◌, Bool, true, false, cond, length, get_or, leb, ltb, Result, Ok, Err}
+use Rattle.refusal.specs.Refusal.{Guarded, answered, refused}
+use Rattle.refusal.specs.declared.Refusal.{Refusal}
 use Rattle.util.specs.Buffer.{at_start}
 use Rattle.util.specs.Cstr.{place, part_of}
 use Rattle.parent.specs.Chain.{chain}
 use Rattle.qualified_name.specs.Name.{hops}
-use Rattle.qualified_name.specs.declared.name.Hops.{Hops}
 use Rattle.qualified_name.specs.declared.name.Walk.{Walk}
 
 -- whether more than `left` contexts can be read from an address on, and the hops of those that are read to see it
@@ -22,10 +22,6 @@ unfoldable pub hops_answer : List ℕ → List ℕ → ℕ → ℕ → ℕ → �
 hops_answer image segments left a rest size =
     cond (deeper image segments left a) (refused 4)
     (cond (ltb size (rest + length (before image segments left a))) (refused 3) (answered (length (before image segments left a))))
-
-abbrev pub hops_of : Hops → Guarded ℕ
-hops_of (Hops.Written n) = answered n
-hops_of (Hops.Refused r) = refused (refusal_number r)
 
 -- the buffer with a text at its start, unless the answer is a refusal
 unfoldable pub filled : Guarded ℕ → List ℕ → List ℕ → List ℕ
@@ -58,7 +54,7 @@ pub record Last (image segments : List ℕ) (left a rest : ℕ) (places lengths 
   pub few : count ≤ 8
 
 -- what a walk from `a` on ended with, and the names that it kept
-abbrev pub Walked : List ℕ → List ℕ → ℕ → ℕ → ℕ → List ℕ → List ℕ → Walk → Type 0
-Walked image segments left a rest places lengths (Walk.Ended count rest') = Last image segments left a rest places lengths count rest'
-Walked image segments left a rest places lengths (Walk.Full next left' rest') = Block image segments left a rest places lengths 8 left' next rest'
-Walked image segments left a rest places lengths Walk.TooDeep = deeper image segments left a ≡ true
+abbrev pub Walked : List ℕ → List ℕ → ℕ → ℕ → ℕ → List ℕ → List ℕ → Result Walk Refusal → Type 0
+Walked image segments left a rest places lengths (Ok (Walk.Ended count rest')) = Last image segments left a rest places lengths count rest'
+Walked image segments left a rest places lengths (Ok (Walk.Full next left' rest')) = Block image segments left a rest places lengths 8 left' next rest'
+Walked image segments left a rest places lengths (Err r) = (r ≡ Refusal.DeepContexts) × (deeper image segments left a ≡ true)

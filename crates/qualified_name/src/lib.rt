@@ -3,4 +3,4 @@
 
 mod name;
 
-pub use name::{QualifiedName, around_parent, qualified_name, qualified_name_near};
+pub use name::{around_parent, qualified_name, qualified_name_near};

@@ -1,9 +1,11 @@
 -- `qualified_name::name::write_hops` meets its contract. It calls itself with fewer contexts allowed, so its measure is `left`.
 use native.Mathlib.Omega.{arith}
-use mathlib.Core.Path.{refl, ap}
+use Rattle.std.proofs.Common.{refl, ap, sym, ◌∙◌, Ok, Err}
+use Rattle.std.proofs.lemmas.Result.{err_from_is_err_and}
 use Rattle.parent.proofs.ContextLaws.{zero_header, no_context}
 use Rattle.util.proofs.AnswersLaws.{told, case}
-use Rattle.qualified_name.specs.Walk.{Walked, hops_of}
+use Rattle.refusal.specs.Refusal.{outcome, refused, refusal_number}
+use Rattle.qualified_name.specs.Walk.{Walked}
 use Rattle.qualified_name.proofs.NameLaws.{kept, filled_as, refused_as, hops_written}
 use Rattle.qualified_name.proofs.WalkLaws.{walk_deep, last_long, last_fits, last_written, last_filled, none_long, none_written, none_filled, further_fits, further_written, further_refused, further_filled}
 use Rattle.qualified_name.proofs.name.+write_hops.Goals as goal
@@ -23,56 +25,64 @@ collect-requires t c = (refl, refl)
 
 pub returns-then-buffer-room : goal.returns-then-buffer-room
 returns-then-buffer-room t c =
-    let w = case (Walked _ _ _ _ _ _ _) c.collect.ensures c.in-Ended.is in (record {
+    let w = case (Walked _ _ _ _ _ _ _) c.collect.ensures (c.in_ok-walk.was ∙ ap Ok c.in-Ended.is) in (record {
       result_value = last_long _ _ _ _ _ _ _ _ _ w _ (omega arith) (omega (arith, c.well_formed));
       buffer_after = kept _ _ _;
     })
 
 pub put_hops-requires : goal.put_hops-requires
 put_hops-requires t c =
-    let w = case (Walked _ _ _ _ _ _ _) c.collect.ensures c.in-Ended.is in (record {
+    let w = case (Walked _ _ _ _ _ _ _) c.collect.ensures (c.in_ok-walk.was ∙ ap Ok c.in-Ended.is) in (record {
       count_in_bounds = (omega (arith, w.few, c.collect.auto), omega (arith, w.few, c.collect.auto));
       count_in_bounds_2 = omega (arith, last_fits _ _ _ _ _ _ _ _ _ w _ c.if-buffer-room.false (omega (arith, c.well_formed)));
     })
 
 pub write_hops-requires : goal.write_hops-requires
 write_hops-requires t c =
-    let w = case (Walked _ _ _ _ _ _ _) c.collect.ensures c.in-Full.is in
+    let w = case (Walked _ _ _ _ _ _ _) c.collect.ensures (c.in_ok-walk.was ∙ ap Ok c.in-Full.is) in
     (omega (arith, w.fewer), tt)
 
-pub put_hops-requires-in-Written : goal.put_hops-requires-in-Written
-put_hops-requires-in-Written t c =
-    let w = case (Walked _ _ _ _ _ _ _) c.collect.ensures c.in-Full.is in (record {
+pub put_hops-requires-in-Full : goal.put_hops-requires-in-Full
+put_hops-requires-in-Full t c =
+    let w = case (Walked _ _ _ _ _ _ _) c.collect.ensures (c.in_ok-walk.was ∙ ap Ok c.in-Full.is) in (record {
       count_in_bounds = (omega (arith, c.collect.auto), omega (arith, c.collect.auto));
       count_in_bounds_2 = omega (
         arith,
-        further_fits _ _ _ _ _ _ _ _ _ _ _ w _ _ (told hops_of c.write_hops.ensures.result_value c.in-Written.is) (omega (arith, c.well_formed)),
+        further_fits _ _ _ _ _ _ _ _ _ _ _ w _ _ (told outcome c.write_hops.ensures.result_value c.in_ok-at-in-Full.was) (omega (arith, c.well_formed)),
         c.write_hops.auto,
       );
     })
 
 pub returns-else-buffer-room : goal.returns-else-buffer-room
 returns-else-buffer-room t c =
-    let w = case (Walked _ _ _ _ _ _ _) c.collect.ensures c.in-Ended.is in (record {
+    let w = case (Walked _ _ _ _ _ _ _) c.collect.ensures (c.in_ok-walk.was ∙ ap Ok c.in-Ended.is) in (record {
       result_value = last_written _ _ _ _ _ _ _ _ _ w _ _ c.put_hops.ensures.ends c.if-buffer-room.false (omega (arith, c.well_formed));
       buffer_after = last_filled _ _ _ _ _ _ _ _ _ w _ _ _ c.put_hops.ensures;
     })
 
-pub returns-in-Written : goal.returns-in-Written
-returns-in-Written t c =
-    let w = case (Walked _ _ _ _ _ _ _) c.collect.ensures c.in-Full.is in
-    let f = told hops_of c.write_hops.ensures.result_value c.in-Written.is in
+pub returns-in_ok-at-in-Full : goal.returns-in_ok-at-in-Full
+returns-in_ok-at-in-Full t c =
+    let w = case (Walked _ _ _ _ _ _ _) c.collect.ensures (c.in_ok-walk.was ∙ ap Ok c.in-Full.is) in
+    let f = told outcome c.write_hops.ensures.result_value c.in_ok-at-in-Full.was in
     let h = hops_written _ _ _ _ _ _ _ f in (record {
-      result_value = further_written _ _ _ _ _ _ _ _ _ _ _ w _ _ _ f c.put_hops-in-Written.ensures.ends (omega (arith, c.well_formed));
-      buffer_after = further_filled _ _ _ _ _ _ _ _ _ _ _ w _ _ _ _ _ (filled_as _ _ _ _ _ c.write_hops.ensures.buffer_after (ap hops_of c.in-Written.is)) h.0 c.put_hops-in-Written.ensures (omega (arith, h.1));
+      result_value = further_written _ _ _ _ _ _ _ _ _ _ _ w _ _ _ f c.put_hops-in-Full.ensures.ends (omega (arith, c.well_formed));
+      buffer_after = further_filled _ _ _ _ _ _ _ _ _ _ _ w _ _ _ _ _ (filled_as _ _ _ _ _ c.write_hops.ensures.buffer_after (ap outcome c.in_ok-at-in-Full.was)) h.0 c.put_hops-in-Full.ensures (omega (arith, h.1));
     })
 
-pub returns-in-Refused : goal.returns-in-Refused
-returns-in-Refused t c =
-    let w = case (Walked _ _ _ _ _ _ _) c.collect.ensures c.in-Full.is in (record {
-      result_value = further_refused _ _ _ _ _ _ _ _ _ _ _ w _ _ (told hops_of c.write_hops.ensures.result_value c.in-Refused.is) (omega (arith, c.well_formed));
-      buffer_after = refused_as _ _ _ _ _ _ c.write_hops.ensures.buffer_after (ap hops_of c.in-Refused.is);
+pub returns-in_err-at-in-Full : goal.returns-in_err-at-in-Full
+returns-in_err-at-in-Full t c =
+    let w = case (Walked _ _ _ _ _ _ _) c.collect.ensures (c.in_ok-walk.was ∙ ap Ok c.in-Full.is) in
+    let p = err_from_is_err_and c.from_residual-in_err-at-in-Full.result c.from_residual-in_err-at-in-Full.ensures.1 in
+    let r = ap outcome (p.1 ∙ ap Err p.2) in (record {
+      result_value = r ∙ further_refused _ _ _ _ _ _ _ _ _ _ _ w _ _ (told outcome c.write_hops.ensures.result_value c.in_err-at-in-Full.was) (omega (arith, c.well_formed));
+      buffer_after = filled_as _ _ _ _ _ (refused_as _ _ _ _ _ _ c.write_hops.ensures.buffer_after (ap outcome c.in_err-at-in-Full.was)) (sym r);
     })
 
-pub returns-in-TooDeep : goal.returns-in-TooDeep
-returns-in-TooDeep t c = (record { result_value = walk_deep _ _ _ _ _ _ (case (Walked _ _ _ _ _ _ _) c.collect.ensures c.in-TooDeep.is); buffer_after = kept _ _ _ })
+pub returns-in_err-walk : goal.returns-in_err-walk
+returns-in_err-walk t c =
+    let w = case (Walked _ _ _ _ _ _ _) c.collect.ensures c.in_err-walk.was in
+    let p = err_from_is_err_and c.from_residual.result c.from_residual.ensures.1 in
+    let r = ap outcome (p.1 ∙ ap Err p.2) in (record {
+      result_value = r ∙ ap (λ x. refused (refusal_number x)) w.0 ∙ walk_deep _ _ _ _ _ _ w.1;
+      buffer_after = filled_as _ _ _ _ _ (kept _ _ _) (sym r);
+    })

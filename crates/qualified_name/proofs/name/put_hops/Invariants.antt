@@ -4,6 +4,3 @@ use Rattle.qualified_name.proofs.name.put_hops.Given as goal
 
 abbrev pub invariant-loop-k : goal.invariant-loop-k
 invariant-loop-k l = Putting l.image l.places l.lengths l.count l.initial.buffer l.at l.k l.end l.buffer
-
-abbrev pub decreases-loop-k : goal.decreases-loop-k
-decreases-loop-k l = l.k
