@@ -1,8 +1,8 @@
 -- What the code finds of a table is `tableFrom`: where an entry lies (`no_place`, `a-place`), its numbers in the list (`set-put`,
 -- `set_more`), the entries of a run (`Ran`), and run after run (`Going`, for any numbers of an entry: `tableBy`). The table is the entries
 -- that stepping gives, as numbers (`table-listed`); its counts do not depend on those numbers (`same-counts`).
-use Rattle.std.specs.Prelude.{◌≡◌, ℕ, zero, suc, ◌+◌, ◌-◌, ◌*◌, ◌/◌, ◌%◌, ◌^◌, ◌<◌, ◌≤◌, min, Bool, true, false, cond, List, [], ◌∷◌, ◌++◌, length, take, drop, ◌≢◌, slice_set, Option, Some, None}
-use Rattle.std.proofs.Common.{mul-le-mul_left, mul-zero, mul-suc, mul-add, mod-eq_of_lt, le_antisymm, le_trans, div-le_self, zero-add, add-one, subst, ◌∙◌, append_assoc, append-nil, length-append, length-set, take-append-drop, take_at, drop_at, drop-drop, length-take-le, le-leb, lt-ltb, le-ltb}
+use Rattle.std.specs.Prelude.{◌≡◌, ℕ, zero, suc, ◌+◌, ◌-◌, ◌*◌, ◌/◌, ◌%◌, ◌^◌, ◌<◌, ◌≤◌, min, Bool, true, false, List, [], ◌∷◌, ◌++◌, length, take, drop, ◌≢◌, slice_set, Option, Some, None, Result, Ok, Err, ⊤}
+use Rattle.std.proofs.Common.{mul-le-mul_left, mul-zero, mul-suc, mul-add, mod-eq_of_lt, le_antisymm, le_trans, div-le_self, zero-add, add-one, subst, ◌∙◌, append_assoc, append-nil, length-append, take-append-drop, take_at, drop_at, drop-drop, length-take-le, le-leb, lt-ltb, le-ltb}
 use Rattle.std.proofs.Math.Nat.{mul-div-le, div-eq_of_lt, div-eq-sub-div}
 use Rattle.std.proofs.Math.Decide.{dec_le, dec_lt}
 use native.Mathlib.Omega.{arith}
@@ -16,9 +16,9 @@ use Rattle.util.proofs.BufferLaws.{put_none, put_then, put_length}
 use Rattle.segment.specs.Segments.{segments_of, file_offset}
 use Rattle.segment.specs.Mapping.{Located, Has}
 use Rattle.segment.specs.declared.segment.Mapping.{Mapping}
-use Rattle.segment.specs.declared.segment.Around.{Around}
 use Rattle.refusal.specs.Refusal.{Guarded, answered, refused, mapped, answer_of}
-use Rattle.refusal.specs.Guarded.{fault, guarded}
+use Rattle.refusal.specs.declared.Refusal.{Refusal}
+use Rattle.refusal.specs.Guarded.{fault, fault_of, guarded}
 use Rattle.refusal.proofs.GuardedLaws.{refused_list, accepted_list}
 use Rattle.runtime.specs.Reads.{bytes_place, run}
 use Rattle.runtime.proofs.CallsLaws.{bytes_at_lem, bytes_past, bytes_nowhere, bytes_within}
@@ -29,9 +29,9 @@ use Rattle.vtable.proofs.ListLaws.{iter_at}
 use Rattle.vtable.specs.declared.iter.EntryIter.{EntryIter}
 use Rattle.entry_tables.specs.declared.list.Words.{Words}
 use Rattle.entry_tables.specs.declared.list.Listed.{Listed}
-use Rattle.entry_tables.specs.declared.calls.TableAnswer.{TableAnswer}
+use Rattle.entry_tables.specs.declared.list.Stop.{Stop}
 use Rattle.entry_tables.specs.declared.window.Window.{Window}
-use Rattle.entry_tables.specs.Tables.{entry_numbers, WholeTable, Counts, empty_table, stop_at, entry_then, table_by, table_from, table_in, width, counts, table_numbers, table_answer, buffer_with, GivesTable, first, shape, entry_place, Opens, words_in, run_numbers, PutRun, Lists}
+use Rattle.entry_tables.specs.Tables.{entry_numbers, WholeTable, Counts, empty_table, stop_number, stop_at, entry_then, table_by, table_from, table_in, width, counts, table_numbers, buffer_with, GivesTable, first, shape, entry_place, Opens, words_in, run_numbers, PutRun, Lists}
 
 -- ---- where an entry lies
 
@@ -69,20 +69,20 @@ on_words : (a size last : ℕ) → a + (size - 4) < 2 ^ 64 → last ≤ 18446744
 on_words a size last w l = omega arith
 
 module _ (image segments : List ℕ) (size a : ℕ) (w : a + (size - 4) < 2 ^ 64) where
-  pub opens_one : (o : ℕ) → Some o ≡ bytes_place image segments a size → Opens image segments size a (Window.At o 0)
+  pub opens_one : (o : ℕ) → Some o ≡ bytes_place image segments a size → Opens image segments size a (Some (record { place = o; last = 0 }))
   opens_one o e i h =
       let eo : o + i ≡ o = omega arith in
       let ea : a + i ≡ a = omega arith in
       rw (eo, ea) (place_as image segments size a (Some o) w e)
 
-  pub opens_none : None ≡ bytes_place image segments a size → Opens image segments size a Window.Nothing
+  pub opens_none : None ≡ bytes_place image segments a size → Opens image segments size a None
   opens_none e = place_as image segments size a None w e
 
-  pub opens_nowhere : Located segments a Around.Nothing → Opens image segments size a Window.Nothing
+  pub opens_nowhere : Located segments a None → Opens image segments size a None
   opens_nowhere f = opens_none (bytes_nowhere image segments a size f)
 
-  module _ (m : Mapping) (f : Located segments a (Around.Mapping m)) where
-    pub opens_past : length image < m.fileoff + (a - m.vmaddr) + size → Opens image segments size a Window.Nothing
+  module _ (m : Mapping) (f : Located segments a (Some m)) where
+    pub opens_past : length image < m.fileoff + (a - m.vmaddr) + size → Opens image segments size a None
     opens_past h = opens_none (bytes_past image segments a size _ (sym (f.2.offset a f.1)) h)
 
     abbrev past : ℕ
@@ -90,7 +90,7 @@ module _ (image segments : List ℕ) (size a : ℕ) (w : a + (size - 4) < 2 ^ 64
 
     opens_all : (u last : ℕ) → m.fileoff ≤ length image → past ≤ length image - m.fileoff → size ≤ length image - (m.fileoff + past)
         → (u ≤ length image - (m.fileoff + past) - size) × (u ≤ 18446744073709551615 - (size - 4) - a) → (last ≤ m.size - past - 1) × (last ≤ u)
-        → Opens image segments size a (Window.At (m.fileoff + past) last)
+        → Opens image segments size a (Some (record { place = m.fileoff + past; last = last }))
     opens_all u last hf hp hs hu hl i h =
         let reach : last < m.size - past = on_mapping m.size past last (omega (arith, f.1.from, f.1.to)) hl.0 in
         let inside = on_image (length image) m.fileoff past size last hf hp hs (le_trans hl.1 hu.0) in
@@ -100,12 +100,19 @@ module _ (image segments : List ℕ) (size a : ℕ) (w : a + (size - 4) < 2 ^ 64
         let e : file_offset (segments_of segments) (a + i) ≡ Some (m.fileoff + past + i) = f.2.offset (a + i) has ∙ ap Some far in
         place_as image segments size (a + i) (Some (m.fileoff + past + i)) (omega (arith, below)) (bytes_at_lem image segments (a + i) size (m.fileoff + past + i) (sym e) (omega (arith, inside)))
 
-    pub opens_least : (u last : ℕ) → m.fileoff ≤ length image → past ≤ length image - m.fileoff → size ≤ length image - (m.fileoff + past)
-        → u ≡ min (length image - (m.fileoff + past) - size) (18446744073709551615 - (size - 4) - a) → last ≡ min (m.size - past - 1) u
-        → Opens image segments size a (Window.At (m.fileoff + past) last)
-    opens_least u last hf hp hs eu el = opens_all u last hf hp hs (lesser u _ _ eu) (lesser last _ _ el)
+    pub opens_least : (last : ℕ) → m.fileoff ≤ length image → past ≤ length image - m.fileoff → size ≤ length image - (m.fileoff + past)
+        → last ≡ min (m.size - past - 1) (min (length image - (m.fileoff + past) - size) (18446744073709551615 - (size - 4) - a))
+        → Opens image segments size a (Some (record { place = m.fileoff + past; last = last }))
+    opens_least last hf hp hs el = opens_all _ last hf hp hs (lesser _ _ _ refl) (lesser last _ _ el)
 
-module _ (image segments : List ℕ) (size a o last : ℕ) (w : Opens image segments size a (Window.At o last)) where
+-- the same answer by another name, and at an address by another name
+pub opens_same : (image segments : List ℕ) (size a : ℕ) (x y : Option Window) → x ≡ y → Opens image segments size a y → Opens image segments size a x
+opens_same image segments size a x y e h = subst (Opens image segments size a) (sym e) h
+
+pub opens_as : (image segments : List ℕ) (size a b : ℕ) (x : Option Window) → a ≡ b → Opens image segments size a x → Opens image segments size b x
+opens_as image segments size a b x e h = subst (λ (n : ℕ). Opens image segments size n x) e h
+
+module _ (image segments : List ℕ) (size a o last : ℕ) (w : Opens image segments size a (Some (record { place = o; last = last }))) where
   pub opens_here : Some o ≡ entry_place image segments size a
   opens_here =
       let eo : o + 0 ≡ o = omega arith in
@@ -553,14 +560,14 @@ module _ (image segments : List ℕ) (numbered : Bool) (more stride base count :
   by_size k x e = rw (shape_size numbered more stride small, shape_stride numbered more stride) e
 
   module _ (k n : ℕ) (b : List ℕ) (g : Listing image segments l base count b₀ k₀ k n b) where
-    abbrev Done : ℕ → Type 0
+    abbrev Done : Stop → Type 0
     Done s = Lists (table_from image segments l (length b₀ / width l) (iter_at base count k₀)) b₀ (record { entries = n; stop = s }) b
 
-    pub table_full : (s : ℕ) → length b₀ / (2 + more) ≤ n → s ≡ stop_at k count → Done s
-    table_full s h f = stops_full entry_numbers image segments l base count (width l) b₀ k₀ k n b g (le_antisymm g.few (rw wide h)) s f
+    pub table_full : (s : Stop) → length b₀ / (2 + more) ≤ n → stop_number s ≡ stop_at k count → Done s
+    table_full s h f = stops_full entry_numbers image segments l base count (width l) b₀ k₀ k n b g (le_antisymm g.few (rw wide h)) (stop_number s) f
 
     module _ (h : k < count) (m : n < length b₀ / (2 + more)) where
-      pub table_none : None ≡ entry_place image segments (4 + 4 * more) (at k) → Done 2
+      pub table_none : None ≡ entry_place image segments (4 + 4 * more) (at k) → Done Stop.Unreadable
       table_none e = stops_none entry_numbers image segments l base count (width l) b₀ k₀ k n b g h (below n m) (no_place image segments l base k (by_size k None e))
 
       pub table_some : (o a : ℕ) (b' : List ℕ) → Some o ≡ entry_place image segments (4 + 4 * more) (at k) → a ≡ at k % 2 ^ 64
@@ -575,7 +582,7 @@ module _ (image segments : List ℕ) (numbered : Bool) (more stride base count :
           eb ∙ rw (wide, shape_size numbered more stride small, shape_stride numbered more stride, same, shape_words numbered more stride) in
           goes_on_lem entry_numbers image segments l base count (width l) b₀ k₀ k n b g h (below n m) x b' is (ap suc (words_long l.words (entry_address l base k) 0 _)) put
 
-    pub table_run : (o last a most r : ℕ) (b' : List ℕ) → Opens image segments (4 + 4 * more) (at k) (Window.At o last) → a ≡ at k % 2 ^ 64 → most ≤ count - k
+    pub table_run : (o last a most r : ℕ) (b' : List ℕ) → Opens image segments (4 + 4 * more) (at k) (Some (record { place = o; last = last })) → a ≡ at k % 2 ^ 64 → most ≤ count - k
         → most ≤ length b₀ / (2 + more) - n → k < count → PutRun image l o last a most b ((2 + more) * n) r b' → Listing image segments l base count b₀ k₀ (k + r) (n + r) b'
     table_run o last a most r b' w ea mc mr h p =
         let here = (place_in image segments (4 + 4 * more) (at k) o (opens_here image segments (4 + 4 * more) (at k) o last w)).0 in
@@ -591,19 +598,19 @@ module _ (image segments : List ℕ) (numbered : Bool) (more stride base count :
   only = table_from image segments l (length b₀ / width l) (iter_at base count k₀)
 
   module _ (h : k₀ + 1 ≡ count) where
-    pub one_full : length b₀ < 2 + more → Lists only b₀ (record { entries = 0; stop = 1 }) b₀
+    pub one_full : length b₀ < 2 + more → Lists only b₀ (record { entries = 0; stop = Stop.Full }) b₀
     one_full m =
-        table_full k₀ 0 b₀ (start_going entry_numbers image segments l base count (width l) b₀ k₀) 1 (omega (arith, div-eq_of_lt m)) (stop_full k₀ count (omega arith))
+        table_full k₀ 0 b₀ (start_going entry_numbers image segments l base count (width l) b₀ k₀) Stop.Full (omega (arith, div-eq_of_lt m)) (stop_full k₀ count (omega arith))
 
     module _ (m : 2 + more ≤ length b₀) where
       one_fits : 0 < length b₀ / (2 + more)
       one_fits = omega (arith, div-eq-sub-div {m = 2 + more} {n = length b₀} (omega arith) m)
 
-      pub one_none : None ≡ entry_place image segments (4 + 4 * more) (at k₀) → Lists only b₀ (record { entries = 0; stop = 2 }) b₀
+      pub one_none : None ≡ entry_place image segments (4 + 4 * more) (at k₀) → Lists only b₀ (record { entries = 0; stop = Stop.Unreadable }) b₀
       one_none e = table_none k₀ 0 b₀ (start_going entry_numbers image segments l base count (width l) b₀ k₀) (omega arith) one_fits e
 
-      pub one_some : (o last a : ℕ) (b' : List ℕ) → Opens image segments (4 + 4 * more) (at k₀) (Window.At o last) → a ≡ at k₀ % 2 ^ 64
-          → b' ≡ pasted b₀ 0 (entry_numbers (entry_of (shape numbered more 0) a (take (4 + 4 * more) (drop o image)))) → Lists only b₀ (record { entries = 1; stop = 0 }) b'
+      pub one_some : (o last a : ℕ) (b' : List ℕ) → Opens image segments (4 + 4 * more) (at k₀) (Some (record { place = o; last = last })) → a ≡ at k₀ % 2 ^ 64
+          → b' ≡ pasted b₀ 0 (entry_numbers (entry_of (shape numbered more 0) a (take (4 + 4 * more) (drop o image)))) → Lists only b₀ (record { entries = 1; stop = Stop.Ended }) b'
       one_some o last a b' w ea eb =
           stops_end entry_numbers image segments l base count (width l) b₀ k₀ (k₀ + 1) 1 b'
           (table_some k₀ 0 b₀ (start_going entry_numbers image segments l base count (width l) b₀ k₀) (omega arith) one_fits o a b' (opens_here image segments (4 + 4 * more) (at k₀) o last w) ea (rw (mul-zero (2 + more)) eb))
@@ -627,16 +634,20 @@ module _ {A B : Type 0} (tell : A → B) (say : A → List ℕ) (segments : List
       → (answered x ≡ mapped tell (guarded segments (answered r))) × (b' ≡ overwritten b (answer_of (mapped say (guarded segments (answered r)))))
   listed_accepted x b' e h = rw (sym (accepted_list segments (answered r) h)) (ap answered e.0, e.1)
 
-module _ (segments : List ℕ) (t : WholeTable) (b : List ℕ) where
+module _ (segments : List ℕ) (t₀ : WholeTable) (b : List ℕ) where
   abbrev G : Guarded WholeTable
-  G = guarded segments (answered t)
+  G = guarded segments (answered t₀)
 
-  pub table_refused : (x : TableAnswer) {n : ℕ} → refused n ≡ table_answer x → Some n ≡ fault segments → GivesTable G b x b
-  table_refused x e h = record { answers = sym e ∙ ap (mapped counts) (refused_list segments (answered t) h); holds = ap (λ (g : Guarded WholeTable). buffer_with g b) (refused_list segments (answered t) h) }
+  -- from what the test of the segments returned, at its `?`
+  pub table_refused : {r : Result ⊤ Refusal} {e : Refusal} → fault_of r ≡ fault segments → r ≡ Err e → GivesTable G b (Err e) b
+  table_refused f t =
+      let h = refused_list segments (answered t₀) (sym (ap fault_of t) ∙ f) in
+      record { answers = ap (mapped counts) h; holds = ap (λ (g : Guarded WholeTable). buffer_with g b) h }
 
-  pub table_accepted : (x : Listed) (b' : List ℕ) → Lists t b x b' → None ≡ fault segments → GivesTable G b (TableAnswer.Listed x) b'
-  table_accepted x b' e h =
-      record { answers = ap answered e.0 ∙ ap (mapped counts) (accepted_list segments (answered t) h); holds = e.1 ∙ ap (λ (g : Guarded WholeTable). buffer_with g b) (accepted_list segments (answered t) h) }
+  pub table_accepted : {r : Result ⊤ Refusal} {u : ⊤} (x : Listed) (b' : List ℕ) → Lists t₀ b x b' → fault_of r ≡ fault segments → r ≡ Ok u → GivesTable G b (Ok x) b'
+  table_accepted x b' e f t =
+      let h = accepted_list segments (answered t₀) (sym (ap fault_of t) ∙ f) in
+      record { answers = ap answered e.0 ∙ ap (mapped counts) h; holds = e.1 ∙ ap (λ (g : Guarded WholeTable). buffer_with g b) h }
 
 -- ---- what a table says
 

@@ -1,15 +1,16 @@
 -- Whole tables of entries into the caller's list of numbers: docs/SPECIFICATION.md, "Whole tables".
-use Rattle.std.specs.Prelude.{◌≡◌, ℕ, zero, suc, ◌+◌, ◌-◌, ◌*◌, ◌/◌, ◌^◌, ◌<◌, ◌≤◌, Bool, true, false, cond, List, [], ◌∷◌, ◌++◌, length, take, drop, nat_le, nat_lt, Option, Some, None}
+use Rattle.std.specs.Prelude.{◌≡◌, ℕ, zero, suc, ◌+◌, ◌-◌, ◌*◌, ◌/◌, ◌^◌, ◌<◌, ◌≤◌, Bool, true, false, cond, List, [], ◌∷◌, ◌++◌, length, take, drop, nat_le, nat_lt, Option, Some, None, Result}
 use Rattle.util.specs.Buffer.{pasted, at_start, overwritten}
-use Rattle.refusal.specs.Refusal.{Guarded, answered, refused, refusal_number, mapped, answer_of}
+use Rattle.refusal.specs.Refusal.{Guarded, answered, outcome, mapped, answer_of}
+use Rattle.refusal.specs.declared.Refusal.{Refusal}
 use Rattle.refusal.specs.Guarded.{guarded}
 use Rattle.runtime.specs.Reads.{bytes_place}
-use Rattle.vtable.specs.Entries.{Word, number, pointer, Layout, Entry, entry_size, entry_of, Step, entry_step}
+use Rattle.vtable.specs.Entries.{Word, number, pointer, Layout, Entry, entry_size, entry_of, entry_step}
 use Rattle.vtable.specs.declared.iter.EntryIter.{EntryIter}
 use Rattle.entry_tables.specs.declared.list.Words.{Words}
 use Rattle.entry_tables.specs.declared.window.Window.{Window}
 use Rattle.entry_tables.specs.declared.list.Listed.{Listed}
-use Rattle.entry_tables.specs.declared.calls.TableAnswer.{TableAnswer}
+use Rattle.entry_tables.specs.declared.list.Stop.{Stop}
 
 -- ---- the answer
 
@@ -73,16 +74,24 @@ counts t = record { entries = t.entries; stop = t.stop }
 abbrev pub table_numbers : WholeTable → List ℕ
 table_numbers t = t.numbers
 
-abbrev pub table_answer : TableAnswer → Guarded Counts
-table_answer (TableAnswer.Listed l) = answered (record { entries = l.entries; stop = l.stop })
-table_answer (TableAnswer.Refused x) = refused (refusal_number x)
+-- the number of a reason
+abbrev pub stop_number : Stop → ℕ
+stop_number Stop.Ended = 0
+stop_number Stop.Full = 1
+stop_number Stop.Unreadable = 2
+
+abbrev pub listed_counts : Listed → Counts
+listed_counts l = record { entries = l.entries; stop = stop_number l.stop }
+
+abbrev pub table_answer : Result Listed Refusal → Guarded Counts
+table_answer r = mapped listed_counts (outcome r)
 
 -- the caller's list after the call
 abbrev pub buffer_with : Guarded WholeTable → List ℕ → List ℕ
 buffer_with g buffer = overwritten buffer (answer_of (mapped table_numbers g))
 
 -- what a call promises: its answer, and the caller's list after it
-pub record GivesTable (g : Guarded WholeTable) (buffer : List ℕ) (r : TableAnswer) (buffer' : List ℕ) : Type 0 where
+pub record GivesTable (g : Guarded WholeTable) (buffer : List ℕ) (r : Result Listed Refusal) (buffer' : List ℕ) : Type 0 where
   pub answers : table_answer r ≡ mapped counts g
   pub holds : buffer' ≡ buffer_with g buffer
 
@@ -110,9 +119,9 @@ entry_place image segments size a = cond (nat_le (2 ^ 64) (a + (size - 4))) None
 
 -- the entry at an address lies at a place, and each that starts at most `last` bytes after that address lies as far after that place; or it
 -- lies nowhere
-abbrev pub Opens : List ℕ → List ℕ → ℕ → ℕ → Window → Type 0
-Opens image segments size a (Window.At o last) = (i : ℕ) → i ≤ last → Some (o + i) ≡ entry_place image segments size (a + i)
-Opens image segments size a Window.Nothing = None ≡ entry_place image segments size a
+abbrev pub Opens : List ℕ → List ℕ → ℕ → ℕ → Option Window → Type 0
+Opens image segments size a (Some w) = (i : ℕ) → i ≤ w.last → Some (w.place + i) ≡ entry_place image segments size (a + i)
+Opens image segments size a None = None ≡ entry_place image segments size a
 
 -- the numbers of entries that lie one after the other from a place of the image on; the first is at an address
 abbrev pub run_numbers : List ℕ → Layout → ℕ → ℕ → ℕ → List ℕ
@@ -128,4 +137,4 @@ pub record PutRun (image : List ℕ) (l : Layout) (o last a most : ℕ) (buffer 
 
 -- a table was listed: the answer, and the caller's list after it
 abbrev pub Lists : WholeTable → List ℕ → Listed → List ℕ → Type 0
-Lists t buffer r buffer' = (record { entries = r.entries; stop = r.stop } ≡ counts t) × (buffer' ≡ at_start (table_numbers t) buffer)
+Lists t buffer r buffer' = (listed_counts r ≡ counts t) × (buffer' ≡ at_start (table_numbers t) buffer)

@@ -5,14 +5,8 @@ ghost use Rattle.entry_tables.specs.Tables.{shape, guarded_table, GivesTable};
 
 use crate::list::{Listed, list_entries};
 use field::FieldRecordIter;
-use refusal::{Fault, Refusal};
+use refusal::Refusal;
 use vtable::EntryIter;
-
-#[derive(Clone, Copy)]
-pub enum TableAnswer {
-    Listed(Listed),
-    Refused(Refusal),
-}
 
 // A table by the shape of an entry: whether its first word is a number, how many pointers follow, and how many bytes it is from one entry
 // to the next.
@@ -24,17 +18,20 @@ fn table(
     more: u32,
     stride: u32,
     buffer: &mut [u64],
-) -> TableAnswer
+) -> Result<Listed, Refusal>
     ensures { GivesTable (guarded_table image.now segments.now (shape numbered more stride) cursor buffer.old) buffer.old result buffer.new }
 {
-    if let Fault::Refused(refusal) = refusal::find_fault(segments) {
-        return TableAnswer::Refused(refusal);
-    }
-    TableAnswer::Listed(list_entries(image, segments, cursor, numbered, more, stride, buffer))
+    refusal::find_fault(segments)?;
+    Ok(list_entries(image, segments, cursor, numbered, more, stride, buffer))
 }
 
 // Three numbers for each method: its address, its flags, its implementation's address.
-pub fn methods(image: &[u8], segments: &[u64], cursor: EntryIter, buffer: &mut [u64]) -> TableAnswer
+pub fn methods(
+    image: &[u8],
+    segments: &[u64],
+    cursor: EntryIter,
+    buffer: &mut [u64],
+) -> Result<Listed, Refusal>
     ensures { GivesTable (guarded_table image.now segments.now method cursor buffer.old) buffer.old result buffer.new }
 {
     table(image, segments, cursor, true, 1, 8, buffer)
@@ -46,7 +43,7 @@ pub fn overrides(
     segments: &[u64],
     cursor: EntryIter,
     buffer: &mut [u64],
-) -> TableAnswer
+) -> Result<Listed, Refusal>
     ensures { GivesTable (guarded_table image.now segments.now override cursor buffer.old) buffer.old result buffer.new }
 {
     table(image, segments, cursor, false, 2, 12, buffer)
@@ -58,7 +55,7 @@ pub fn default_overrides(
     segments: &[u64],
     cursor: EntryIter,
     buffer: &mut [u64],
-) -> TableAnswer
+) -> Result<Listed, Refusal>
     ensures { GivesTable (guarded_table image.now segments.now default_override cursor buffer.old) buffer.old result buffer.new }
 {
     table(image, segments, cursor, false, 1, 8, buffer)
@@ -70,7 +67,7 @@ pub fn prespecializations(
     segments: &[u64],
     cursor: EntryIter,
     buffer: &mut [u64],
-) -> TableAnswer
+) -> Result<Listed, Refusal>
     ensures { GivesTable (guarded_table image.now segments.now prespecialization cursor buffer.old) buffer.old result buffer.new }
 {
     table(image, segments, cursor, false, 0, 4, buffer)
@@ -82,7 +79,7 @@ pub fn field_records(
     segments: &[u64],
     walk: FieldRecordIter,
     buffer: &mut [u64],
-) -> TableAnswer
+) -> Result<Listed, Refusal>
     ensures { GivesTable (guarded_table image.now segments.now (record_layout walk.entry_size) (entries_of walk) buffer.old) buffer.old result buffer.new }
 {
     let cursor = EntryIter {

@@ -7,7 +7,5 @@ mod calls;
 mod list;
 mod window;
 
-pub use calls::{
-    TableAnswer, default_overrides, field_records, methods, overrides, prespecializations,
-};
-pub use list::{ENDED, Listed, UNREADABLE, stopped};
+pub use calls::{default_overrides, field_records, methods, overrides, prespecializations};
+pub use list::{Listed, Stop, stopped};

@@ -2,23 +2,27 @@
 ghost use Rattle.std.specs.Prelude.{◌≡◌, ◌+◌, ◌*◌, ◌^◌, ◌<◌, ◌≤◌, min, ◌∷◌, length, take, drop};
 ghost use Rattle.util.specs.Buffer.{pasted, at_start};
 ghost use Rattle.vtable.specs.Entries.{entry_of, word_at, words_from};
-ghost use Rattle.entry_tables.specs.Tables.{entry_numbers, stop_at, first, shape, words_in, PutRun, table_in, Lists};
+ghost use Rattle.entry_tables.specs.Tables.{entry_numbers, stop_number, stop_at, first, shape, words_in, PutRun, table_in, Lists};
 
 use crate::window::{Window, window_at};
 use vtable::EntryIter;
 
-// Why there are no more entries.
-pub const ENDED: u64 = 0;
+// Why there are no more entries; `as u64` gives the number that the calls hand on.
+#[derive(Clone, Copy, PartialEq, Eq)]
+pub enum Stop {
+    // The table ends.
+    Ended = 0,
+    // The list is full.
+    Full = 1,
+    // The next entry cannot be read.
+    Unreadable = 2,
+}
 
-const FULL: u64 = 1;
-
-pub const UNREADABLE: u64 = 2;
-
-// How many entries the caller's list has, and why there are no more: 0 the table ends, 1 the list is full, 2 the next entry cannot be read.
+// How many entries the caller's list has, and why there are no more.
 #[derive(Clone, Copy)]
 pub struct Listed {
     pub entries: usize,
-    pub stop: u64,
+    pub stop: Stop,
 }
 
 // The words of an entry; an entry of fewer than three words does not use the last ones.
@@ -151,36 +155,30 @@ fn list_one(
     if buffer.len() < 2 + more as usize {
         return Listed {
             entries: 0,
-            stop: FULL,
+            stop: Stop::Full,
         };
     }
     match window_at(image, segments, base_va, stride, k, more, true) {
-        Window::At { place, last: _ } => {
+        Some(Window { place, last: _ }) => {
             let address = vtable::entry_address(base_va, stride, k);
             put_from(image, place, address, numbered, more, buffer, 0);
             Listed {
                 entries: 1,
-                stop: ENDED,
+                stop: Stop::Ended,
             }
         }
-        Window::Nothing => Listed {
+        None => Listed {
             entries: 0,
-            stop: UNREADABLE,
+            stop: Stop::Unreadable,
         },
     }
 }
 
 // Why a list with no room for entry `k` ends: it is full, unless the table ends there.
-pub fn stopped(k: u32, count: u32) -> u64
-    ensures { result ≡ stop_at k count }
+pub fn stopped(k: u32, count: u32) -> Stop
+    ensures { stop_number result ≡ stop_at k count }
 {
-    if k < count { FULL } else { ENDED }
-}
-
-fn lower(a: usize, b: usize) -> usize
-    ensures { result ≡ min a b }
-{
-    if a < b { a } else { b }
+    if k < count { Stop::Full } else { Stop::Ended }
 }
 
 // Run after run.
@@ -206,14 +204,14 @@ fn list_runs(
         if count <= k {
             return Listed {
                 entries: n,
-                stop: ENDED,
+                stop: Stop::Ended,
             };
         }
         let found = window_at(image, segments, base_va, stride, k, more, false);
         match found {
-            Window::At { place, last } => {
+            Some(Window { place, last }) => {
                 let address = vtable::entry_address(base_va, stride, k);
-                let most = lower((count - k) as usize, room - n);
+                let most = ((count - k) as usize).min(room - n);
                 let run = put_run(
                     image,
                     place,
@@ -229,10 +227,10 @@ fn list_runs(
                 k += run as u32;
                 n += run;
             }
-            Window::Nothing => {
+            None => {
                 return Listed {
                     entries: n,
-                    stop: UNREADABLE,
+                    stop: Stop::Unreadable,
                 };
             }
         }
@@ -241,12 +239,6 @@ fn list_runs(
         entries: n,
         stop: stopped(k, count),
     }
-}
-
-fn at_most_two(more: u32) -> u32
-    ensures { result ≡ min more 2 }
-{
-    if more < 2 { more } else { 2 }
 }
 
 // The entries from a walk's position on: a first word that is a number or a pointer, at most two pointers after it, and `stride` bytes from
@@ -262,7 +254,7 @@ pub fn list_entries(
 ) -> Listed
     ensures { Lists (table_in image.now segments.now (shape numbered more stride) cursor (length buffer.old)) buffer.old result buffer.new }
 {
-    let pointers = at_most_two(more);
+    let pointers = more.min(2);
     if cursor.next < cursor.count {
         if cursor.count - cursor.next == 1 {
             return list_one(image, segments, cursor, numbered, pointers, stride, buffer);

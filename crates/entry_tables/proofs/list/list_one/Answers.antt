@@ -11,13 +11,13 @@ returns-then-buffer-more c =
 
 pub put_from-requires : goal.put_from-requires
 put_from-requires c =
-    let w = opens_last _ _ _ _ _ _ (case (Opens _ _ _ _) c.window_at.ensures c.in-At.is) in
+    let w = opens_last _ _ _ _ _ _ (case (Opens _ _ _ _) c.window_at.ensures c.in-Some.is) in
     (c.requires.0, (omega (arith, below_word _ _ _ _ c.entry_address-address.ensures w.0), (omega (arith, w.1), search rules)))
 
-pub returns-in-At : goal.returns-in-At
-returns-in-At c =
-    one_some c.args.image.now c.args.segments.now c.args.numbered c.args.more c.args.stride c.args.cursor.base_va c.args.cursor.count c.args.buffer.now c.args.cursor.next c.requires.0 c.requires.1 (search rules) _ _ _ _ (case (Opens _ _ _ _) c.window_at.ensures c.in-At.is) c.entry_address-address.ensures c.put_from.ensures
+pub returns-in-Some : goal.returns-in-Some
+returns-in-Some c =
+    one_some c.args.image.now c.args.segments.now c.args.numbered c.args.more c.args.stride c.args.cursor.base_va c.args.cursor.count c.args.buffer.now c.args.cursor.next c.requires.0 c.requires.1 (search rules) _ _ _ _ (case (Opens _ _ _ _) c.window_at.ensures c.in-Some.is) c.entry_address-address.ensures c.put_from.ensures
 
-pub returns-in-Nothing : goal.returns-in-Nothing
-returns-in-Nothing c =
-    one_none c.args.image.now c.args.segments.now c.args.numbered c.args.more c.args.stride c.args.cursor.base_va c.args.cursor.count c.args.buffer.now c.args.cursor.next c.requires.0 c.requires.1 (search rules) (case (Opens _ _ _ _) c.window_at.ensures c.in-Nothing.is)
+pub returns-in-None : goal.returns-in-None
+returns-in-None c =
+    one_none c.args.image.now c.args.segments.now c.args.numbered c.args.more c.args.stride c.args.cursor.base_va c.args.cursor.count c.args.buffer.now c.args.cursor.next c.requires.0 c.requires.1 (search rules) (case (Opens _ _ _ _) c.window_at.ensures c.in-None.is)

@@ -1,44 +1,31 @@
 -- `entry_tables::window::window_of_all` meets its contract.
 use Rattle.std.proofs.Common.{arith}
-use Rattle.util.proofs.AnswersLaws.{case}
-use Rattle.segment.specs.Mapping.{Located}
-use Rattle.entry_tables.proofs.TablesLaws.{opens_nowhere, opens_past, opens_least}
+use Rattle.entry_tables.proofs.TablesLaws.{opens_nowhere, opens_past, opens_least, opens_same}
 use Rattle.entry_tables.proofs.window.window_of_all.Goals as goal
+use Rattle.entry_tables.proofs.window.window_of_all.Goals.{then-image-from-via-then-image-from, then-image-from-via-else-image-from+then-image-from-2}
+
+pub returns-in_err-mapping : goal.returns-in_err-mapping
+returns-in_err-mapping c = opens_same c.args.image.now c.args.segments.now c.args.size c.args.address _ _ c.from_residual.ensures (opens_nowhere _ _ _ _ c.requires.1 c.in_err-mapping.ensures)
 
 pub overflow_sub-before : goal.overflow_sub-before
-overflow_sub-before c =
-    let found = case (Located _ _) c.locate.ensures c.in-Mapping.is in
-    omega (arith, found.1.from)
+overflow_sub-before c = let found = c.in_ok-mapping.ensures in omega (arith, found.1.from)
 
 pub returns-then-image-from : goal.returns-then-image-from
 returns-then-image-from c =
-    let found = case (Located _ _) c.locate.ensures c.in-Mapping.is in
-    opens_past _ _ _ _ c.requires.1 _ found (omega arith)
-
-pub returns-then-image-from-2 : goal.returns-then-image-from-2
-returns-then-image-from-2 c =
-    let found = case (Located _ _) c.locate.ensures c.in-Mapping.is in
-    opens_past _ _ _ _ c.requires.1 _ found (omega arith)
+    let found = c.in_ok-mapping.ensures in
+    opens_past _ _ _ _ c.requires.1 _ found (elim c.then-image-from.branch [
+      | then-image-from-via-then-image-from w ↦ omega arith
+      | then-image-from-via-else-image-from+then-image-from-2 w ↦ omega arith
+    ])
 
 pub returns-then-left-size : goal.returns-then-left-size
-returns-then-left-size c =
-    let found = case (Located _ _) c.locate.ensures c.in-Mapping.is in
-    opens_past _ _ _ _ c.requires.1 _ found (omega arith)
+returns-then-left-size c = opens_past _ _ _ _ c.requires.1 _ c.in_ok-mapping.ensures (omega arith)
 
 pub overflow_sub-mapping : goal.overflow_sub-mapping
-overflow_sub-mapping c =
-    let found = case (Located _ _) c.locate.ensures c.in-Mapping.is in
-    omega (arith, found.1.from, found.1.to)
+overflow_sub-mapping c = let found = c.in_ok-mapping.ensures in omega (arith, found.1.from, found.1.to)
 
-pub overflow_sub-mapping-in-Mapping : goal.overflow_sub-mapping-in-Mapping
-overflow_sub-mapping-in-Mapping c =
-    let found = case (Located _ _) c.locate.ensures c.in-Mapping.is in
-    omega (arith, found.1.from, found.1.to)
+pub overflow_sub-mapping-2 : goal.overflow_sub-mapping-2
+overflow_sub-mapping-2 c = let found = c.in_ok-mapping.ensures in omega (arith, found.1.from, found.1.to)
 
-pub returns-else-left-size : goal.returns-else-left-size
-returns-else-left-size c =
-    let found = case (Located _ _) c.locate.ensures c.in-Mapping.is in
-    opens_least _ _ _ _ c.requires.1 _ found _ _ c.if-image-from.false c.if-image-from-2.false c.if-left-size.false c.least.ensures c.least-in-Mapping.ensures
-
-pub returns-in-Nothing : goal.returns-in-Nothing
-returns-in-Nothing c = opens_nowhere _ _ _ _ c.requires.1 (case (Located _ _) c.locate.ensures c.in-Nothing.is)
+pub returns : goal.returns
+returns c = opens_least _ _ _ _ c.requires.1 _ c.in_ok-mapping.ensures _ c.if-image-from.false c.if-image-from-2.false c.if-left-size.false c.least-last.ensures

@@ -1,11 +1,9 @@
 -- `entry_tables::window::window_of_one` meets its contract.
-use Rattle.util.proofs.AnswersLaws.{told}
-use Rattle.runtime.specs.Bytes.{bytes_place_of}
-use Rattle.entry_tables.proofs.TablesLaws.{opens_one, opens_none}
+use Rattle.entry_tables.proofs.TablesLaws.{opens_one, opens_none, opens_same}
 use Rattle.entry_tables.proofs.window.window_of_one.Goals as goal
 
-pub returns-in-At : goal.returns-in-At
-returns-in-At c = opens_one _ _ _ _ c.requires _ (told bytes_place_of c.find_bytes.ensures c.in-At.is)
+pub returns-in_err-place : goal.returns-in_err-place
+returns-in_err-place c = opens_same c.args.image.now c.args.segments.now c.args.size c.args.address _ _ c.from_residual.ensures (opens_none _ _ _ _ c.requires c.in_err-place.ensures)
 
-pub returns-in-Nothing : goal.returns-in-Nothing
-returns-in-Nothing c = opens_none _ _ _ _ c.requires (told bytes_place_of c.find_bytes.ensures c.in-Nothing.is)
+pub returns : goal.returns
+returns c = opens_one _ _ _ _ c.requires _ c.in_ok-place.ensures
