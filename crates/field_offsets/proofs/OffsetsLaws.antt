@@ -23,11 +23,11 @@ use Rattle.classtrailers.specs.declared.block.BlockBody.{BlockBody}
 use Rattle.classtrailers.specs.declared.block.BlockKind.{BlockKind}
 use Rattle.type_body.specs.Body.{Body, of_class, of_struct, of_enum, body, slot_body, body_of}
 use Rattle.type_body.specs.Singleton.{needing, singleton_pointer}
-use Rattle.type_body.specs.Items.{Start, place_of, pointer_of_block, trailers}
-use Rattle.field_offsets.specs.Offsets.{Vector, vector, u32s, field_offsets, slot_offsets, Offsets, offsets, offsets_place, offset_in, metadata_at, blocks_start, static_place, metadata_after, offsets_of}
+use Rattle.type_body.specs.Items.{place_of, pointer_of_block, trailers}
+use Rattle.type_body.specs.declared.trailers.Start.{Start}
+use Rattle.field_offsets.specs.Offsets.{Vector, vector, u32s, field_offsets, slot_offsets, FieldOffsets, offsets, offsets_place, offset_in, metadata_at, blocks_start, static_place, metadata_after}
 use Rattle.type_body.proofs.PathLaws.{both_read, blocks_start_lem}
 use Rattle.type_body.specs.declared.body.TypeBody.{TypeBody}
-use Rattle.field_offsets.specs.declared.offsets.FieldOffsets.{FieldOffsets}
 
 -- ---- an answer's cases
 
@@ -37,7 +37,7 @@ of_case f t e = e ∙ ap f (sym t)
 
 module _ (image segments : List ℕ) where
   module _ (m : ℕ) (b k : TypeBody) (t : b ≡ k) where
-    pub offsets_of_lem : (x : Option Offsets) → x ≡ offsets_place image segments (body_of k) m → x ≡ offsets_place image segments (body_of b) m
+    pub offsets_of_lem : (x : Option FieldOffsets) → x ≡ offsets_place image segments (body_of k) m → x ≡ offsets_place image segments (body_of b) m
     offsets_of_lem x e = of_case (λ (c : TypeBody). offsets_place image segments (body_of c) m) t e
 
     pub no_offsets_of : and_then (body_of k) (λ b. vector b m) ≡ None → None ≡ offsets_place image segments (body_of b) m
@@ -51,10 +51,6 @@ module _ (image segments : List ℕ) where
     pub no_pointer_of : place_of k ≡ None → None ≡ run image segments (needing (place_of b) singleton_pointer)
     unfolding run
     no_pointer_of e = pointer_of_lem None (rw e)
-
-pub offset_of_lem : (image : List ℕ) (n : ℕ) (o k : FieldOffsets) (x : Option ℕ) → o ≡ k → x ≡ and_then (offsets_of k) (λ v. offset_in image v n)
-    → x ≡ and_then (offsets_of o) (λ v. offset_in image v n)
-offset_of_lem image n o k x t e = of_case (λ (c : FieldOffsets). and_then (offsets_of c) (λ v. offset_in image v n)) t e
 
 -- ---- the vector
 
@@ -123,7 +119,7 @@ module _ (image segments : List ℕ) (s : Start) where
         → x ≡ run image segments (pointer_of_block b) → x ≡ metadata_after image segments t
     by_block b x e ex = ex ∙ rw (← es, its_metadata, ← e)
 
-pub static_at : (image segments : List ℕ) (a flags : ℕ) (o : Option Body) (p : Option ℕ) (x : Option Offsets) → o ≡ run image segments (body a flags)
+pub static_at : (image segments : List ℕ) (a flags : ℕ) (o : Option Body) (p : Option ℕ) (x : Option FieldOffsets) → o ≡ run image segments (body a flags)
     → p ≡ metadata_after image segments (trailers a flags o) → x ≡ and_then p (offsets_place image segments o) → x ≡ static_place image segments a flags
 unfolding static_place
 static_at image segments a flags None p x eo ep ex = ex ∙ rw (← eo, ep)
@@ -138,7 +134,7 @@ unfoldable pub static_offsets : ℕ → ℕ → Reads (List ℕ)
 static_offsets a flags = bind (body a flags) (λ b. bind (metadata_at (blocks_start a flags b)) (field_offsets b))
 
 -- the numbers of a vector in the image
-abbrev pub offset_list : List ℕ → Offsets → List ℕ
+abbrev pub offset_list : List ℕ → FieldOffsets → List ℕ
 offset_list image v = u32s v.count (take (4 * v.count) (drop v.place image))
 
 u32s_nth : (n k : ℕ) (h : List ℕ) → k < n → slice_get (u32s n h) k ≡ Some (little_endian (take 4 (drop (4 * k) h)))
@@ -162,7 +158,7 @@ part_bytes m (suc f) zero s h = absurd (omega arith)
 part_bytes m (suc f) (suc c) [] h = refl
 part_bytes m (suc f) (suc c) (x ∷ s) h = part_bytes m f c s (omega arith)
 
-module _ (image : List ℕ) (v : Offsets) (whole : v.place + 4 * v.count ≤ length image) (k : ℕ) where
+module _ (image : List ℕ) (v : FieldOffsets) (whole : v.place + 4 * v.count ≤ length image) (k : ℕ) where
   -- there is an offset for every field
   pub offset_there : k < v.count → offset_in image v k ≡ Some (little_endian (take 4 (drop (v.place + 4 * k) image)))
   unfolding little_at bytes_at
@@ -183,7 +179,7 @@ module _ (image : List ℕ) (v : Offsets) (whole : v.place + 4 * v.count ≤ len
 
 module _ (image segments : List ℕ) where
   -- a vector that was found lies in the image
-  pub offsets_within : (o : Option Body) (m : ℕ) (v : Offsets) → offsets_place image segments o m ≡ Some v → v.place + 4 * v.count ≤ length image
+  pub offsets_within : (o : Option Body) (m : ℕ) (v : FieldOffsets) → offsets_place image segments o m ≡ Some v → v.place + 4 * v.count ≤ length image
   unfolding offsets_place
   offsets_within o m v e = go (and_then o (λ b. vector b m)) e
     where
@@ -228,7 +224,7 @@ module _ (image segments : List ℕ) where
       go (Some b) = run_bind image segments (field_offsets b) (metadata_at (blocks_start a flags b)) ∙ at b (run image segments (metadata_at (blocks_start a flags b)))
 
   -- what `static_field_offsets` finds lies in the image too
-  pub static_within : (a flags : ℕ) (v : Offsets) → static_place image segments a flags ≡ Some v → v.place + 4 * v.count ≤ length image
+  pub static_within : (a flags : ℕ) (v : FieldOffsets) → static_place image segments a flags ≡ Some v → v.place + 4 * v.count ≤ length image
   unfolding static_place
   static_within a flags v e = go (run image segments (body a flags)) e
     where
@@ -242,8 +238,8 @@ module _ (image segments : List ℕ) where
       go (Some b) f = at b (run image segments (metadata_at (blocks_start a flags b))) f
 
   -- what `field_offset` answers for what was found is the number in the program's list
-  listed : (k : ℕ) (x : Option (List ℕ)) (y : Option Offsets) → x ≡ option_map (offset_list image) y
-      → ((v : Offsets) → y ≡ Some v → v.place + 4 * v.count ≤ length image) → and_then x (λ l. slice_get l k) ≡ and_then y (λ v. offset_in image v k)
+  listed : (k : ℕ) (x : Option (List ℕ)) (y : Option FieldOffsets) → x ≡ option_map (offset_list image) y
+      → ((v : FieldOffsets) → y ≡ Some v → v.place + 4 * v.count ≤ length image) → and_then x (λ l. slice_get l k) ≡ and_then y (λ v. offset_in image v k)
   listed k x None e w = rw e
   listed k x (Some v) e w = rw e (offset_nth image v (w v refl) k)
 

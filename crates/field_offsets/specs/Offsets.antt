@@ -7,9 +7,9 @@ use Rattle.classtrailers.specs.Blocks.{block}
 use Rattle.classtrailers.specs.declared.block.BlockKind.{BlockKind}
 use Rattle.type_body.specs.Body.{Body, of_class, of_struct, of_enum, body, slot_body, trailing, trailing_start}
 use Rattle.type_body.specs.Singleton.{needing}
-use Rattle.type_body.specs.Items.{Start, pointer_of_block}
-use Rattle.field_offsets.specs.declared.offsets.FieldOffsets.{FieldOffsets}
-use Rattle.field_offsets.specs.declared.offsets.FieldOffset.{FieldOffset}
+use Rattle.type_body.specs.Items.{pointer_of_block}
+use Rattle.type_body.specs.declared.trailers.Start.{Start}
+pub use Rattle.field_offsets.specs.declared.offsets.FieldOffsets.{FieldOffsets}
 
 -- a list of numbers of four bytes at an address
 pub record Vector : Type 0 where
@@ -39,20 +39,16 @@ slot_offsets types start i m = bind (slot_body types start i) (λ b. field_offse
 -- ---- one offset by its number
 
 -- where a vector lies in the image, and how many numbers it has
-pub record Offsets : Type 0 where
-  pub place : ℕ
-  pub count : ℕ
-
-abbrev pub offsets : ℕ → ℕ → Offsets
+abbrev pub offsets : ℕ → ℕ → FieldOffsets
 offsets o n = record { place = o; count = n }
 
-unfoldable pub offsets_place : List ℕ → List ℕ → Option Body → ℕ → Option Offsets
+unfoldable pub offsets_place : List ℕ → List ℕ → Option Body → ℕ → Option FieldOffsets
 offsets_place image segments o m =
     and_then (and_then o (λ b. vector b m))
     (λ v. option_map (λ p. offsets p v.count) (bytes_place image segments v.address (4 * v.count)))
 
 -- number `k`; nothing unless the whole vector lies in the image
-unfoldable pub offset_in : List ℕ → Offsets → ℕ → Option ℕ
+unfoldable pub offset_in : List ℕ → FieldOffsets → ℕ → Option ℕ
 offset_in image v k =
     cond (ltb k v.count && leb (v.place + 4 * v.count) (length image)) (little_at 4 image (v.place + 4 * k)) None
 
@@ -66,7 +62,7 @@ abbrev pub blocks_start : ℕ → ℕ → Body → Start
 blocks_start a flags b = record { trailing = trailing flags b; start = trailing_start a b }
 
 -- where the field offsets lie for a descriptor with these flags at an address
-unfoldable pub static_place : List ℕ → List ℕ → ℕ → ℕ → Option Offsets
+unfoldable pub static_place : List ℕ → List ℕ → ℕ → ℕ → Option FieldOffsets
 static_place image segments a flags =
     and_then (run image segments (body a flags))
     (λ b. and_then (run image segments (metadata_at (blocks_start a flags b))) (offsets_place image segments (Some b)))
@@ -76,11 +72,3 @@ static_place image segments a flags =
 abbrev pub metadata_after : List ℕ → List ℕ → Option Start → Option ℕ
 metadata_after image segments None = None
 metadata_after image segments (Some s) = run image segments (metadata_at s)
-
-abbrev pub offsets_of : FieldOffsets → Option Offsets
-offsets_of (FieldOffsets.At o n) = Some (offsets o n)
-offsets_of FieldOffsets.Nothing = None
-
-abbrev pub field_offset_of : FieldOffset → Option ℕ
-field_offset_of (FieldOffset.At n) = Some n
-field_offset_of FieldOffset.Nothing = None

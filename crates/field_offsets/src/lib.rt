@@ -3,4 +3,4 @@
 
 mod offsets;
 
-pub use offsets::{FieldOffset, FieldOffsets, field_offset, field_offsets, static_field_offsets};
+pub use offsets::{FieldOffsets, field_offset, field_offsets, static_field_offsets};

@@ -11,7 +11,9 @@ use Rattle.std.proofs.lemmas.List.{length-replicate, replicate-append-replicate}
 use Rattle.util.specs.Buffer.{pasted}
 use Rattle.util.proofs.BufferLaws.{put_none}
 use Rattle.runtime.specs.Reads.{run}
-use Rattle.classtrailers.specs.Blocks.{Trailing, row_at, row_number, Ended, block_at, reached, block_in, kind_there, block}
+use Rattle.classtrailers.specs.Blocks.{row_at, row_number, block_at, reached, block_in, kind_there, block}
+use Rattle.classtrailers.specs.declared.trailing.Trailing.{Trailing}
+use Rattle.classtrailers.specs.declared.block.Ended.{Ended}
 use Rattle.classtrailers.proofs.BlocksLaws.{row_absent, row_fails, row_read}
 use Rattle.classtrailers.proofs.CallsLaws.{is_there_lem, is_absent, reached_start, stopped, kind_stops}
 use Rattle.classtrailers.specs.declared.block.Block.{Block}

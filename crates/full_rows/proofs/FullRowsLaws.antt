@@ -28,7 +28,8 @@ use Rattle.type_body.specs.Body.{Body, of_class, of_struct, of_enum, fixed, resi
 use Rattle.type_body.specs.declared.body.ClassBody.{ClassBody}
 use Rattle.type_body.specs.declared.body.ClassSizes.{ClassSizes}
 use Rattle.type_body.specs.declared.body.TypeBody.{TypeBody}
-use Rattle.type_body.specs.Items.{Start, trailers}
+use Rattle.type_body.specs.Items.{trailers}
+use Rattle.type_body.specs.declared.trailers.Start.{Start}
 use Rattle.full_rows.specs.FullRows.{record_row, body_numbers, block_four, kind_fours, block_fours, body_and_blocks, full_row, full_rows_in, given_of, numbers_of}
 use Rattle.entry_tables.proofs.PastedLaws.{pasted_then}
 use Rattle.full_rows.proofs.BlocksLaws.{block_long}

@@ -10,7 +10,8 @@ use Rattle.classtrailers.specs.declared.block.BlockKind.{BlockKind}
 use Rattle.typedescriptor.specs.Row.{TypeRow}
 use Rattle.typedescriptor.specs.Given.{RowsGiven, rows_given}
 use Rattle.type_body.specs.Body.{Body, of_class, of_struct, of_enum, fixed, resilient, body}
-use Rattle.type_body.specs.Items.{Start, trailers}
+use Rattle.type_body.specs.Items.{trailers}
+use Rattle.type_body.specs.declared.trailers.Start.{Start}
 use Rattle.steps.specs.Blocks.{kind_from}
 use Rattle.full_rows.specs.declared.rows.Given.{Given}
 use Rattle.full_rows.specs.declared.rows.Recorded.{Recorded}

@@ -13,7 +13,8 @@ use Rattle.std.proofs.Math.Bool.{true, false}
 use Rattle.runtime.specs.Reads.{Reads, done, nothing, and_then, run, bind}
 use Rattle.runtime.proofs.ReadsLaws.{run_bind}
 use Rattle.runtime.proofs.PathLaws.{bytes_read_lem}
-use Rattle.classtrailers.specs.Blocks.{Trailing, placed_block, table_block, BlockRow, block_table, row_at, row_number, block, with_block, blocks_of, blocks}
+use Rattle.classtrailers.specs.Blocks.{placed_block, table_block, BlockRow, block_table, row_at, row_number, block, with_block, blocks_of, blocks}
+use Rattle.classtrailers.specs.declared.trailing.Trailing.{Trailing}
 use Rattle.classtrailers.proofs.BlocksLaws.{stepped_blocks, stepped_blocks_lem, RecordedAs, block_recorded}
 use Rattle.classtrailers.specs.declared.block.Block.{Block}
 use Rattle.classtrailers.specs.declared.block.BlockKind.{BlockKind}
@@ -27,7 +28,8 @@ use Rattle.type_body.specs.Singleton.{needing, singleton_init, singleton_pointer
 use Rattle.type_body.specs.Items.{slot_block, slot_pointer, pointer_of_block}
 use Rattle.typedescriptor.proofs.PathLaws as Slot
 use Rattle.type_body.proofs.PathLaws as Hung
-use Rattle.field_offsets.specs.Offsets.{field_offsets, Offsets, offsets_place, static_place, metadata_at, blocks_start}
+use Rattle.field_offsets.specs.Offsets.{field_offsets, offsets_place, static_place, metadata_at, blocks_start}
+use Rattle.field_offsets.specs.declared.offsets.FieldOffsets.{FieldOffsets}
 use Rattle.field_offsets.proofs.OffsetsLaws as Vector
 use Rattle.field_offsets.proofs.OffsetsLaws.{offset_list}
 use Rattle.vtable.specs.Entries.{Layout, method, override, default_override, prespecialization, Entry, entry, start}

@@ -11,7 +11,8 @@ use Rattle.runtime.specs.Reads.{Reads, done, bytes, and_then, within, bytes_plac
 use Rattle.runtime.proofs.ReadsLaws.{run_bind, path_bind, cut}
 use Rattle.type_body.specs.Body.{Body}
 use Rattle.type_body.specs.Singleton.{needing}
-use Rattle.field_offsets.specs.Offsets.{Vector, vector, u32s, field_offsets, slot_offsets, Offsets, offsets, offsets_place}
+use Rattle.field_offsets.specs.Offsets.{Vector, vector, u32s, field_offsets, slot_offsets, offsets, offsets_place}
+use Rattle.field_offsets.specs.declared.offsets.FieldOffsets.{FieldOffsets}
 use Rattle.items.specs.Keys.{Sections, Key, Answer}
 use Rattle.items.specs.Items.{item, body_of_slot, offsets_of_slot}
 use Rattle.items.proofs.ProgramLaws.{path_map}

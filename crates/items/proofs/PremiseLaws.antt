@@ -10,7 +10,8 @@ use Rattle.std.specs.Prelude.{Bool, true, false, cond, drop, leb, ltb, eqb, Opti
 use Rattle.utf8.specs.Text.{until_nul}
 use Rattle.util.specs.LittleEndian.{unsigned_in, signed_in}
 use Rattle.util.specs.Pointer.{relative_pointer}
-use Rattle.util.specs.Cstr.{Place, text_at}
+use Rattle.util.specs.Cstr.{text_at}
+use Rattle.util.specs.declared.cstr.Place.{Place}
 use Rattle.runtime.specs.Reads.{Reads, done, nothing, bytes, text, text_offset, run, Range, bytes_range, text_range, also, path, bind, All, Clear}
 use Rattle.runtime.proofs.ReadsLaws.{path_bind}
 use Rattle.runtime.proofs.PathLaws.{bytes_clear}

@@ -12,7 +12,8 @@ use Rattle.runtime.proofs.ReadsLaws.{run_bind, path_bind}
 use Rattle.util.specs.LittleEndian.{unsigned_in}
 use Rattle.context.specs.Context.{context_kind, has_name}
 use Rattle.context.specs.declared.descriptor.ContextDescriptorKind.{ContextDescriptorKind}
-use Rattle.classtrailers.specs.Blocks.{Trailing, BlockRow, row_at, read_header, below, ended, block_at, record_at, somewhere, end_at, passed, reached, block_in, row_number, block}
+use Rattle.classtrailers.specs.Blocks.{BlockRow, row_at, read_header, below, ended, block_at, record_at, somewhere, end_at, passed, reached, block_in, row_number, block}
+use Rattle.classtrailers.specs.declared.trailing.Trailing.{Trailing}
 use Rattle.classtrailers.specs.declared.block.Block.{Block}
 use Rattle.classtrailers.specs.declared.block.BlockKind.{BlockKind}
 use Rattle.typedescriptor.specs.Slots.{slot_descriptor, read_at}

@@ -8,7 +8,8 @@ use Rattle.std.proofs.Common.{arith, ◌∙◌, append-nil, eq-eqb, ne_eqb}
 use Rattle.std.proofs.Math.Path.{◌≡◌, refl, sym, ap}
 use Rattle.std.proofs.Math.Bool.{true, false, cond}
 use Rattle.std.proofs.lemmas.Bool.{false≢true}
-use Rattle.util.specs.Cstr.{Place, part_of}
+use Rattle.util.specs.Cstr.{part_of}
+use Rattle.util.specs.declared.cstr.Place.{Place}
 use Rattle.runtime.specs.Reads.{Reads, done, and_then, text_place, run, Range, bytes_range, also, path, bind, every, Clear, ends_by}
 use Rattle.runtime.proofs.ReadsLaws.{run_bind, path_bind, cut}
 use Rattle.runtime.proofs.PathLaws.{bytes_clear, path_text_zero}

@@ -2,11 +2,13 @@
 use Rattle.std.specs.Prelude.{ℕ, List, false, Option, Some, None}
 use Rattle.refusal.specs.Refusal.{Guarded, answered, refused, refusal_number}
 use Rattle.runtime.specs.Reads.{and_then, run}
-use Rattle.classtrailers.specs.Blocks.{Walk, Step, block}
+use Rattle.classtrailers.specs.Blocks.{block}
+use Rattle.classtrailers.specs.declared.iter.BlockIter.{BlockIter}
+use Rattle.classtrailers.specs.declared.iter.BlockStep.{BlockStep}
 use Rattle.classtrailers.specs.Calls.{walk_of}
 use Rattle.classtrailers.specs.declared.block.Block.{Block}
 use Rattle.classtrailers.specs.declared.block.BlockKind.{BlockKind}
-use Rattle.type_body.specs.Items.{Start}
+use Rattle.type_body.specs.declared.trailers.Start.{Start}
 use Rattle.steps.specs.declared.blocks.NextBlock.{NextBlock}
 use Rattle.steps.specs.declared.blocks.BlockAnswer.{BlockAnswer}
 

@@ -1,7 +1,8 @@
 -- The answers of the calls over bodies and texts: docs/SPECIFICATION.md, "Refusals" and "Bodies".
 use Rattle.std.specs.Prelude.{Option}
 use Rattle.refusal.specs.Refusal.{Guarded, answered, refused, refusal_number}
-use Rattle.util.specs.Cstr.{Place, text_of}
+use Rattle.util.specs.Cstr.{text_of}
+use Rattle.util.specs.declared.cstr.Place.{Place}
 use Rattle.type_body.specs.Body.{Body, body_of}
 use Rattle.steps.specs.declared.bodies.BodyAnswer.{BodyAnswer}
 use Rattle.steps.specs.declared.bodies.TextAnswer.{TextAnswer}

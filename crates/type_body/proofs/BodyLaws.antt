@@ -1,12 +1,12 @@
 -- What the tests on a body say about its program.
-use Rattle.std.specs.Prelude.{ℕ, ◌+◌, ◌/◌, ◌%◌, ◌^◌, ◌≤◌, ◌<◌, ◌≡◌, List, [], Bool, true, false, length, Option, Some, None}
+use Rattle.std.specs.Prelude.{ℕ, ◌+◌, ◌/◌, ◌%◌, ◌^◌, ◌≤◌, ◌<◌, ◌≡◌, ◌⊎◌, List, [], Bool, true, false, length, Option, Some, None}
 use Rattle.std.proofs.Math.Decide.{dec_lt}
-use Rattle.std.proofs.Common.{arith, ◌∙◌, le-leb}
-use Rattle.std.proofs.Math.Path.{sym, ap}
+use Rattle.std.proofs.Common.{arith, ◌∙◌, inl, inr, le-leb}
+use Rattle.std.proofs.Math.Path.{refl, sym, ap}
 use Rattle.std.proofs.lemmas.Bool.{lt-leb}
 use Rattle.util.specs.LittleEndian.{unsigned_in, signed_in}
 use Rattle.util.specs.Pointer.{relative_address}
-use Rattle.util.specs.Cstr.{Place}
+use Rattle.util.specs.declared.cstr.Place.{Place}
 use Rattle.runtime.specs.Reads.{Reads, done, nothing, run}
 use Rattle.runtime.specs.Bytes.{bytes_read}
 use Rattle.runtime.proofs.CallsLaws.{run_bytes, run_no_bytes}
@@ -14,6 +14,8 @@ use Rattle.context.specs.Context.{context_kind, kind_specific_flags}
 use Rattle.context.specs.TypeContext.{class_has_resilient_superclass}
 use Rattle.context.specs.declared.descriptor.ContextDescriptorKind.{ContextDescriptorKind}
 use Rattle.type_body.specs.Body.{Sizes, fixed, resilient, Body, of_class, of_struct, of_enum, sizes_at, class_body, struct_body, enum_body, body_bytes, body_part, body_of_kind, body, body_of, superclass_name}
+use Rattle.type_body.specs.declared.body.StructBody.{StructBody}
+use Rattle.type_body.specs.declared.body.EnumBody.{EnumBody}
 use Rattle.type_body.specs.declared.body.TypeBody.{TypeBody}
 
 -- ---- the numbers in the bytes
@@ -84,8 +86,29 @@ module _ (image segments : List ℕ) (a flags : ℕ) (r k : ContextDescriptorKin
   unfolding run
   bodiless_kind n = body_kind None (sym (ap (λ (p : Reads Body). run image segments p) n))
 
+-- the kinds without a body
+abbrev pub Bodiless : ContextDescriptorKind → Type 0
+Bodiless r =
+    (r ≡ ContextDescriptorKind.Module)
+    ⊎ ((r ≡ ContextDescriptorKind.Extension)
+    ⊎ ((r ≡ ContextDescriptorKind.Anonymous)
+    ⊎ ((r ≡ ContextDescriptorKind.Protocol) ⊎ ((r ≡ ContextDescriptorKind.OpaqueType) ⊎ ((n : ℕ) × (r ≡ ContextDescriptorKind.Other n))))))
+
+pub bodiless : (image segments : List ℕ) (a flags : ℕ) (r : ContextDescriptorKind) → r ≡ context_kind flags → Bodiless r → None ≡ run image segments (body a flags)
+bodiless image segments a flags r e (inl t) = bodiless_kind image segments a flags r _ e t refl
+bodiless image segments a flags r e (inr (inl t)) = bodiless_kind image segments a flags r _ e t refl
+bodiless image segments a flags r e (inr (inr (inl t))) = bodiless_kind image segments a flags r _ e t refl
+bodiless image segments a flags r e (inr (inr (inr (inl t)))) = bodiless_kind image segments a flags r _ e t refl
+bodiless image segments a flags r e (inr (inr (inr (inr (inl t))))) = bodiless_kind image segments a flags r _ e t refl
+bodiless image segments a flags r e (inr (inr (inr (inr (inr t))))) = bodiless_kind image segments a flags r _ e t.1 refl
+
 -- ---- the superclass's name
 
-pub superclass_of : (image segments : List ℕ) (b k : TypeBody) (x : Option Place) → b ≡ k → x ≡ superclass_name image segments (body_of k)
+pub superclass_of : (image segments : List ℕ) (b k : Option TypeBody) (x : Option Place) → b ≡ k → x ≡ superclass_name image segments (body_of k)
     → x ≡ superclass_name image segments (body_of b)
-superclass_of image segments b k x t e = e ∙ ap (λ (c : TypeBody). superclass_name image segments (body_of c)) (sym t)
+superclass_of image segments b k x t e = e ∙ ap (λ (c : Option TypeBody). superclass_name image segments (body_of c)) (sym t)
+
+pub no_superclass_of : (image segments : List ℕ) (b : Option TypeBody) (k : TypeBody) → b ≡ Some k → ((s : StructBody) × (k ≡ TypeBody.Struct s)) ⊎ ((e : EnumBody) × (k ≡ TypeBody.Enum e))
+    → None ≡ superclass_name image segments (body_of b)
+no_superclass_of image segments b k t (inl e) = superclass_of image segments b _ None (t ∙ ap Some e.1) refl
+no_superclass_of image segments b k t (inr e) = superclass_of image segments b _ None (t ∙ ap Some e.1) refl

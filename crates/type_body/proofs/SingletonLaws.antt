@@ -26,6 +26,10 @@ module _ (a : ℕ) (h : List ℕ) (o u : ℕ) (e : u ≡ unsigned_in 4 h o) wher
     unfolding slot_target
     target_at v ev w = rw (← e) (simp (ne_eqb u 0 z, lt-leb (2 ^ 64) (a + o) w) (ap Some ev))
 
+    -- the same with another name for the slot's address
+    pub target_slot : (v w : ℕ) → w ≡ a + o → v ≡ relative_pointer w (signed_in 4 h o) → a + o < 2 ^ 64 → Some v ≡ slot_target a h o
+    target_slot v w q ev l = target_at v (rw q at ev) l
+
 -- ---- the records
 
 module _ (image segments : List ℕ) (a : ℕ) (h : List ℕ) where

@@ -1,15 +1,15 @@
 -- The body of a row: docs/SPECIFICATION.md, "Bodies"; Metadata.h, `TargetClassDescriptor`, `TargetStructDescriptor`, `TargetEnumDescriptor`:
 -- what follows the 20 bytes that all descriptors have.
-use Rattle.std.specs.Prelude.{ℕ, ◌+◌, ◌/◌, ◌%◌, ◌^◌, List, [], Bool, true, false, cond, leb, Option, Some, None}
+use Rattle.std.specs.Prelude.{ℕ, ◌+◌, ◌/◌, ◌%◌, ◌^◌, List, [], Bool, true, false, cond, leb, Option, Some, None, option_map}
 use Rattle.util.specs.LittleEndian.{unsigned_in, signed_in}
 use Rattle.util.specs.Pointer.{relative_address}
-use Rattle.util.specs.Cstr.{Place}
+use Rattle.util.specs.declared.cstr.Place.{Place}
 use Rattle.context.specs.Context.{context_kind, kind_specific_flags}
 use Rattle.context.specs.TypeContext.{class_has_resilient_superclass}
 use Rattle.context.specs.declared.descriptor.ContextDescriptorKind.{ContextDescriptorKind}
 use Rattle.runtime.specs.Reads.{Reads, done, nothing, bytes, bind, text_place}
 use Rattle.runtime.specs.Bytes.{bytes_read}
-use Rattle.classtrailers.specs.Blocks.{Trailing}
+use Rattle.classtrailers.specs.declared.trailing.Trailing.{Trailing}
 use Rattle.typedescriptor.specs.Slots.{slot_row}
 use Rattle.type_body.specs.declared.body.ClassSizes.{ClassSizes}
 use Rattle.type_body.specs.declared.body.ClassBody.{ClassBody}
@@ -123,8 +123,10 @@ struct_of s = of_struct s.num_fields s.field_offset_vector_offset
 abbrev pub enum_of : EnumBody → Body
 enum_of e = of_enum e.num_payload_cases e.payload_size_offset e.num_empty_cases
 
-abbrev pub body_of : TypeBody → Option Body
-body_of (TypeBody.Class c) = Some (class_of c)
-body_of (TypeBody.Struct s) = Some (struct_of s)
-body_of (TypeBody.Enum e) = Some (enum_of e)
-body_of TypeBody.Nothing = None
+abbrev pub of_type : TypeBody → Body
+of_type (TypeBody.Class c) = class_of c
+of_type (TypeBody.Struct s) = struct_of s
+of_type (TypeBody.Enum e) = enum_of e
+
+abbrev pub body_of : Option TypeBody → Option Body
+body_of b = option_map of_type b

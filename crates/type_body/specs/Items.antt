@@ -1,15 +1,14 @@
 -- What a slot has besides its row and body, as programs of reads: its blocks, and its singleton records. docs/SPECIFICATION.md, "Items, paths and the cut".
 use Rattle.std.specs.Prelude.{ℕ, ◌^◌, List, cond, leb, Option, Some, None}
 use Rattle.runtime.specs.Reads.{Reads, bind}
-use Rattle.classtrailers.specs.Blocks.{Trailing, block}
-use Rattle.classtrailers.specs.Calls.{trailing_of}
+use Rattle.classtrailers.specs.Blocks.{block}
 use Rattle.classtrailers.specs.declared.block.Block.{Block}
 use Rattle.classtrailers.specs.declared.block.BlockBody.{BlockBody}
 use Rattle.classtrailers.specs.declared.block.BlockKind.{BlockKind}
 use Rattle.typedescriptor.specs.Slots.{slot_row}
 use Rattle.type_body.specs.Body.{Body, body, trailing, trailing_start}
 use Rattle.type_body.specs.Singleton.{Initialization, needing, singleton_init, singleton_pointer}
-use Rattle.type_body.specs.declared.trailers.TrailingRead.{TrailingRead}
+pub use Rattle.type_body.specs.declared.trailers.Start.{Start}
 
 -- a slot's block of a kind: the row, the body, the headers of earlier blocks, and its own
 unfoldable pub slot_block : List ℕ → ℕ → ℕ → BlockKind → Reads Block
@@ -39,10 +38,6 @@ slot_pointer types start i = bind (slot_block types start i BlockKind.SingletonM
 
 -- ---- from a row and a body to its blocks
 
-pub record Start : Type 0 where
-  pub trailing : Trailing
-  pub start : ℕ
-
 -- made-up rows and bodies may have them start at or above 2^64: then there are none
 unfoldable pub start_below : Start → Option Start
 start_below s = cond (leb (2 ^ 64) s.start) None (Some s)
@@ -50,7 +45,3 @@ start_below s = cond (leb (2 ^ 64) s.start) None (Some s)
 abbrev pub trailers : ℕ → ℕ → Option Body → Option Start
 trailers a flags None = None
 trailers a flags (Some b) = start_below (record { trailing = trailing flags b; start = trailing_start a b })
-
-abbrev pub trailers_of : TrailingRead → Option Start
-trailers_of (TrailingRead.Start t s) = Some (record { trailing = trailing_of t; start = s })
-trailers_of TrailingRead.Nothing = None

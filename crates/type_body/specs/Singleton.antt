@@ -1,11 +1,10 @@
 -- Singleton records: docs/SPECIFICATION.md, "Singleton records"; Metadata.h, `TargetSingletonMetadataInitialization` (the
 -- initialization cache, the incomplete metadata, the completion function) and `TargetSingletonMetadataPointer`: relative pointers.
-use Rattle.std.specs.Prelude.{ℕ, ◌+◌, ◌^◌, List, cond, leb, eqb, Option, Some, None}
+use Rattle.std.specs.Prelude.{ℕ, ◌+◌, ◌^◌, List, cond, leb, eqb, Option, Some, None, option_map}
 use Rattle.util.specs.LittleEndian.{unsigned_in, signed_in}
 use Rattle.util.specs.Pointer.{relative_pointer, relative_address}
 use Rattle.runtime.specs.Reads.{Reads, done, nothing, bytes}
 use Rattle.type_body.specs.declared.singleton.SingletonMetadataInit.{SingletonMetadataInit}
-use Rattle.type_body.specs.declared.singleton.SingletonMetadataPointer.{SingletonMetadataPointer}
 
 pub record Initialization : Type 0 where
   pub cache : ℕ
@@ -39,12 +38,7 @@ singleton_init a = bytes a 12 (targets a)
 unfoldable pub singleton_pointer : ℕ → Reads ℕ
 singleton_pointer a = bytes a 4 (λ h. done (relative_address a (signed_in 4 h 0)))
 
--- ---- what the calls' answers say
+-- ---- what a call's answer says
 
-abbrev pub init_of : SingletonMetadataInit → Option Initialization
-init_of (SingletonMetadataInit.At c i f) = Some (initialization c i f)
-init_of SingletonMetadataInit.Nothing = None
-
-abbrev pub pointer_of : SingletonMetadataPointer → Option ℕ
-pointer_of (SingletonMetadataPointer.At v) = Some v
-pointer_of SingletonMetadataPointer.Nothing = None
+abbrev pub init_of : Option SingletonMetadataInit → Option Initialization
+init_of o = option_map (λ s. initialization s.initialization_cache_va s.incomplete_metadata_va s.completion_function_va) o

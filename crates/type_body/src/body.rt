@@ -1,12 +1,11 @@
 ghost use Rattle.std.specs.Prelude.{◌≡◌, ◌+◌, ◌≤◌, ◌<◌, ◌^◌};
 ghost use Rattle.segment.specs.Mapping.{with_mapping};
 ghost use Rattle.runtime.specs.Reads.{run};
-ghost use Rattle.util.specs.Cstr.{text_of};
 ghost use Rattle.type_body.specs.Body.{sizes_at, sizes_of, class_body, class_of, struct_body, struct_of, enum_body, enum_of, body_part, body, body_of, superclass_name};
 
 use context::{ContextDescriptorFlags, ContextDescriptorKind};
 use segment::Mapping;
-use util::Text;
+use util::Place;
 
 // The two words of a class whose meaning a resilient superclass changes: the metadata's sizes, or the address of its bounds (0 if it
 // has none) and the extra class flags.
@@ -50,7 +49,6 @@ pub enum TypeBody {
     Class(ClassBody),
     Struct(StructBody),
     Enum(EnumBody),
-    Nothing,
 }
 
 // The words at 4 and 8 of a class's 24 bytes; `slot_va` is the address of the first of them.
@@ -133,53 +131,48 @@ pub fn decode_body(
     mapping: Mapping,
     address: u64,
     flags: u32,
-) -> TypeBody
+) -> Option<TypeBody>
     ensures { body_of result ≡ run image.now (with_mapping mapping segments.now) (body address flags) }
 {
     match ContextDescriptorFlags(flags).kind() {
         ContextDescriptorKind::Class => {
             let header = body_part(image, segments, mapping, address, 24);
             if header.len() < 24 {
-                return TypeBody::Nothing;
+                return None;
             }
-            TypeBody::Class(class_in(header, address, flags))
+            Some(TypeBody::Class(class_in(header, address, flags)))
         }
         ContextDescriptorKind::Struct => {
             let header = body_part(image, segments, mapping, address, 8);
             if header.len() < 8 {
-                return TypeBody::Nothing;
+                return None;
             }
-            TypeBody::Struct(struct_in(header))
+            Some(TypeBody::Struct(struct_in(header)))
         }
         ContextDescriptorKind::Enum => {
             let header = body_part(image, segments, mapping, address, 8);
             if header.len() < 8 {
-                return TypeBody::Nothing;
+                return None;
             }
-            TypeBody::Enum(enum_in(header))
+            Some(TypeBody::Enum(enum_in(header)))
         }
-        ContextDescriptorKind::Module => TypeBody::Nothing,
-        ContextDescriptorKind::Extension => TypeBody::Nothing,
-        ContextDescriptorKind::Anonymous => TypeBody::Nothing,
-        ContextDescriptorKind::Protocol => TypeBody::Nothing,
-        ContextDescriptorKind::OpaqueType => TypeBody::Nothing,
-        ContextDescriptorKind::Other(_) => TypeBody::Nothing,
+        ContextDescriptorKind::Module
+        | ContextDescriptorKind::Extension
+        | ContextDescriptorKind::Anonymous
+        | ContextDescriptorKind::Protocol
+        | ContextDescriptorKind::OpaqueType
+        | ContextDescriptorKind::Other(_) => None,
     }
 }
 
 // The name of a class's superclass; `util::text_part` returns the part of the image. There is none for any other body.
-pub fn superclass_name(image: &[u8], segments: &[u64], body: TypeBody) -> Text
-    ensures { text_of result ≡ superclass_name image.now segments.now (body_of body) }
+pub fn superclass_name(image: &[u8], segments: &[u64], body: Option<TypeBody>) -> Option<Place>
+    ensures { result ≡ superclass_name image.now segments.now (body_of body) }
 {
-    match body {
-        TypeBody::Class(class) => runtime::read_cstr(
-            image,
-            segments,
-            segment::NO_MAPPING,
-            class.superclass_va,
-        ),
-        TypeBody::Struct(_) => Text::Nothing,
-        TypeBody::Enum(_) => Text::Nothing,
-        TypeBody::Nothing => Text::Nothing,
+    match body? {
+        TypeBody::Class(class) => {
+            runtime::read_cstr(image, segments, segment::NO_MAPPING, class.superclass_va)
+        }
+        TypeBody::Struct(_) | TypeBody::Enum(_) => None,
     }
 }

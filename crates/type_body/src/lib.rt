@@ -9,8 +9,5 @@ mod trailers;
 pub use body::{
     ClassBody, ClassSizes, EnumBody, StructBody, TypeBody, decode_body, superclass_name,
 };
-pub use singleton::{
-    SingletonMetadataInit, SingletonMetadataPointer, singleton_metadata_init,
-    singleton_metadata_pointer,
-};
-pub use trailers::{TrailingRead, trailing};
+pub use singleton::{SingletonMetadataInit, singleton_metadata_init, singleton_metadata_pointer};
+pub use trailers::{Start, trailing};

@@ -1,7 +1,6 @@
--- `type_body::body::decode_body` meets its contract: each kind is a case of `bodyOfKind`.
+-- `type_body::body::decode_body` meets its contract: each kind is a case of `body_of_kind`.
 use native.Mathlib.Omega.{arith}
-use mathlib.Core.Path.{refl}
-use Rattle.type_body.proofs.BodyLaws.{ends_below, no_body, body_at, body_kind, bodiless_kind}
+use Rattle.type_body.proofs.BodyLaws.{ends_below, no_body, body_at, body_kind, bodiless}
 use Rattle.type_body.proofs.body.decode_body.Goals as goal
 
 pub returns-then-header-lt24 : goal.returns-then-header-lt24
@@ -26,19 +25,4 @@ pub returns-else-header-lt8-2 : goal.returns-else-header-lt8-2
 returns-else-header-lt8-2 c = body_kind _ _ _ _ _ _ c.kind.ensures c.in-Enum.is _ (body_at _ _ _ _ _ c.body_part-header-in-Enum.ensures _ (omega arith) _ c.enum_in.ensures (omega arith))
 
 pub returns-in-Module : goal.returns-in-Module
-returns-in-Module c = bodiless_kind _ _ _ _ _ _ c.kind.ensures c.in-Module.is refl
-
-pub returns-in-Extension : goal.returns-in-Extension
-returns-in-Extension c = bodiless_kind _ _ _ _ _ _ c.kind.ensures c.in-Extension.is refl
-
-pub returns-in-Anonymous : goal.returns-in-Anonymous
-returns-in-Anonymous c = bodiless_kind _ _ _ _ _ _ c.kind.ensures c.in-Anonymous.is refl
-
-pub returns-in-Protocol : goal.returns-in-Protocol
-returns-in-Protocol c = bodiless_kind _ _ _ _ _ _ c.kind.ensures c.in-Protocol.is refl
-
-pub returns-in-OpaqueType : goal.returns-in-OpaqueType
-returns-in-OpaqueType c = bodiless_kind _ _ _ _ _ _ c.kind.ensures c.in-OpaqueType.is refl
-
-pub returns-in-Other : goal.returns-in-Other
-returns-in-Other c = bodiless_kind _ _ _ _ _ _ c.kind.ensures c.in-Other.is refl
+returns-in-Module c = bodiless _ _ _ _ _ c.kind.ensures c.in-Module.is

@@ -1,10 +1,11 @@
 -- `type_body::trailers::trailing_after` meets its contract.
 use native.Mathlib.Omega.{arith}
-use Rattle.type_body.proofs.ItemsLaws.{start_wraps, start_below_lem}
+use mathlib.Core.Path.{◌∙◌}
+use Rattle.type_body.proofs.ItemsLaws.{start_wraps, start_is}
 use Rattle.type_body.proofs.trailers.trailing_after.Goals as goal
 
-pub returns-then-address-length : goal.returns-then-address-length
-returns-then-address-length c = start_wraps _ (omega arith)
+pub returns-in_err-start : goal.returns-in_err-start
+returns-in_err-start c = c.from_residual.ensures ∙ start_wraps _ (omega (arith, c.in_err-start.ensures))
 
 pub returns : goal.returns
-returns c = start_below_lem _ (omega arith)
+returns c = start_is _ _ _ c.in_ok-start.ensures.1 c.in_ok-start.ensures.0
