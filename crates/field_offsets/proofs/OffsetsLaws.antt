@@ -5,9 +5,9 @@ use Prim.Native.Nat.{ℕ, zero, suc, ◌+◌, ◌*◌, ◌^◌, ◌≤◌, ◌<�
 use Rattle.std.proofs.Math.Decide.{dec_lt}
 use native.Mathlib.Omega.{arith}
 use Rattle.std.proofs.Math.Path.{◌≡◌, refl, sym}
-use Rattle.std.proofs.Common.{◌∙◌, ap, take-take, drop-drop}
+use Rattle.std.proofs.Common.{◌∙◌, ap, inl, inr, take-take, drop-drop}
 use mathlib.Core.List.{List, [], ◌∷◌, ◌++◌}
-use Rattle.std.specs.Prelude.{Bool, ◌&&◌, take, drop, ltb, Option, Some, None, option_map, slice_get}
+use Rattle.std.specs.Prelude.{◌⊎◌, Bool, ◌&&◌, take, drop, ltb, Option, Some, None, option_map, slice_get}
 use Rattle.std.proofs.Math.Bool.{true, false, cond}
 use Rattle.std.proofs.Math.ListN.{length}
 use borrow.Author.Tests.{ltb-true, lt-ltb, le-ltb, le-leb, lt-leb}
@@ -27,6 +27,8 @@ use Rattle.type_body.specs.Items.{place_of, pointer_of_block, trailers}
 use Rattle.type_body.specs.declared.trailers.Start.{Start}
 use Rattle.field_offsets.specs.Offsets.{Vector, vector, u32s, field_offsets, slot_offsets, FieldOffsets, offsets, offsets_place, offset_in, metadata_at, blocks_start, static_place, metadata_after}
 use Rattle.type_body.proofs.PathLaws.{both_read, blocks_start_lem}
+use Rattle.type_body.specs.declared.body.ClassBody.{ClassBody}
+use Rattle.type_body.specs.declared.body.EnumBody.{EnumBody}
 use Rattle.type_body.specs.declared.body.TypeBody.{TypeBody}
 
 -- ---- an answer's cases
@@ -36,13 +38,19 @@ of_case : {A B : Type 0} (f : A → B) {r k : A} {x : B} → r ≡ k → x ≡ f
 of_case f t e = e ∙ ap f (sym t)
 
 module _ (image segments : List ℕ) where
-  module _ (m : ℕ) (b k : TypeBody) (t : b ≡ k) where
+  module _ (m : ℕ) (b k : Option TypeBody) (t : b ≡ k) where
     pub offsets_of_lem : (x : Option FieldOffsets) → x ≡ offsets_place image segments (body_of k) m → x ≡ offsets_place image segments (body_of b) m
-    offsets_of_lem x e = of_case (λ (c : TypeBody). offsets_place image segments (body_of c) m) t e
+    offsets_of_lem x e = of_case (λ (c : Option TypeBody). offsets_place image segments (body_of c) m) t e
 
     pub no_offsets_of : and_then (body_of k) (λ b. vector b m) ≡ None → None ≡ offsets_place image segments (body_of b) m
     unfolding offsets_place
     no_offsets_of e = offsets_of_lem None (rw e)
+
+  pub no_offsets_beside : (m : ℕ) (b : Option TypeBody) (k : TypeBody) → b ≡ Some k → ((c : ClassBody) × (k ≡ TypeBody.Class c)) ⊎ ((e : EnumBody) × (k ≡ TypeBody.Enum e))
+      → None ≡ offsets_place image segments (body_of b) m
+  unfolding vector
+  no_offsets_beside m b k t (inl e) = no_offsets_of m b _ (t ∙ ap Some e.1) refl
+  no_offsets_beside m b k t (inr e) = no_offsets_of m b _ (t ∙ ap Some e.1) refl
 
   module _ (b k : BlockBody) (t : b ≡ k) where
     pub pointer_of_lem : (x : Option ℕ) → x ≡ run image segments (needing (place_of k) singleton_pointer) → x ≡ run image segments (needing (place_of b) singleton_pointer)
@@ -51,6 +59,16 @@ module _ (image segments : List ℕ) where
     pub no_pointer_of : place_of k ≡ None → None ≡ run image segments (needing (place_of b) singleton_pointer)
     unfolding run
     no_pointer_of e = pointer_of_lem None (rw e)
+
+  -- a block of which more is recorded than its place
+  pub no_place : (b : BlockBody) → ((a : ℕ) → b ≡ BlockBody.At a → ⊥) → None ≡ run image segments (needing (place_of b) singleton_pointer)
+  no_place (BlockBody.At a) n = absurd (n a refl)
+  no_place (BlockBody.Table o n a) e = no_pointer_of (BlockBody.Table o n a) _ refl refl
+  no_place (BlockBody.Set s n) e = no_pointer_of (BlockBody.Set s n) _ refl refl
+
+pub offset_of_lem : (image : List ℕ) (n : ℕ) (o k : Option FieldOffsets) (x : Option ℕ) → o ≡ k → x ≡ and_then k (λ v. offset_in image v n)
+    → x ≡ and_then o (λ v. offset_in image v n)
+offset_of_lem image n o k x t e = of_case (λ (c : Option FieldOffsets). and_then c (λ v. offset_in image v n)) t e
 
 -- ---- the vector
 
@@ -87,6 +105,11 @@ module _ (f v m : ℕ) where
         → option_map (λ p. offsets p f) x ≡ offsets_place image segments (Some (of_struct f v)) m
     unfolding offsets_place
     offsets_at w x e = rw (vector_at w, e)
+
+    -- the same with another name for the vector's address
+    pub offsets_placed : Wants → (a : ℕ) (x : Option ℕ) → a ≡ m + 8 * v → x ≡ bytes_place image segments a (4 * f)
+        → option_map (λ p. offsets p f) x ≡ offsets_place image segments (Some (of_struct f v)) m
+    offsets_placed w a x q e = offsets_at w x (rw q at e)
 
 -- ---- one offset
 

@@ -1,7 +1,5 @@
--- `field_offsets::offsets::offset_at` meets its contract: each `return` is a case of `offsetIn`.
+-- `field_offsets::offsets::offset_at` meets its contract: each `return` is a case of `offset_in`.
 use native.Mathlib.Omega.{arith}
-use Rattle.util.proofs.AnswersLaws.{told}
-use Rattle.util.specs.LittleEndian.{u32_value}
 use Rattle.field_offsets.proofs.OffsetsLaws.{no_number, not_whole, number_at}
 use Rattle.field_offsets.proofs.offsets.offset_at.Goals as goal
 
@@ -14,8 +12,5 @@ returns-then-image-place c = not_whole _ _ _ _ (omega arith) (omega arith)
 pub returns-then-image-place-2 : goal.returns-then-image-place-2
 returns-then-image-place-2 c = not_whole _ _ _ _ (omega arith) (omega arith)
 
-pub returns-in-Value : goal.returns-in-Value
-returns-in-Value c = number_at _ _ _ _ (omega arith) (omega arith) _ (told u32_value c.read_u32_le_at.ensures c.in-Value.is)
-
-pub returns-in-Nothing : goal.returns-in-Nothing
-returns-in-Nothing c = number_at _ _ _ _ (omega arith) (omega arith) _ (told u32_value c.read_u32_le_at.ensures c.in-Nothing.is)
+pub returns : goal.returns
+returns c = number_at _ _ _ _ (omega arith) (omega arith) _ c.read_u32_le_at.ensures

@@ -1,8 +1,7 @@
--- `field_offsets::offsets::struct_offsets` meets its contract: each `return` is a case of `offsetsPlace`.
+-- `field_offsets::offsets::struct_offsets` meets its contract: each `return` is a case of `offsets_place`.
 use native.Mathlib.Omega.{arith}
-use Rattle.util.proofs.AnswersLaws.{told}
-use Rattle.runtime.specs.Bytes.{bytes_place_of}
-use Rattle.field_offsets.proofs.OffsetsLaws.{no_offsets, offsets_at}
+use mathlib.Core.Path.{◌∙◌}
+use Rattle.field_offsets.proofs.OffsetsLaws.{no_offsets, offsets_placed}
 use Rattle.field_offsets.proofs.offsets.struct_offsets.Goals as goal
 
 pub returns-then-count-eq0 : goal.returns-then-count-eq0
@@ -14,11 +13,13 @@ returns-then-word-eq0 c = no_offsets _ _ _ _ _ (λ w. omega (arith, w.word))
 pub returns-then-metadata_va-eq0 : goal.returns-then-metadata_va-eq0
 returns-then-metadata_va-eq0 c = no_offsets _ _ _ _ _ (λ w. omega (arith, w.metadata))
 
-pub returns-then-distance-metadata_va : goal.returns-then-distance-metadata_va
-returns-then-distance-metadata_va c = no_offsets _ _ _ _ _ (λ w. omega (arith, w.below))
+pub returns-in_err-vector_va : goal.returns-in_err-vector_va
+returns-in_err-vector_va c = c.from_residual.ensures ∙ no_offsets _ _ _ _ _ (λ w. omega (arith, w.below, c.in_err-vector_va.ensures))
 
-pub returns-in-At : goal.returns-in-At
-returns-in-At c = offsets_at _ _ _ _ _ (record { count = omega arith; word = omega arith; metadata = omega arith; below = omega arith }) _ (told bytes_place_of c.find_bytes.ensures c.in-At.is)
+pub returns-in_err-place : goal.returns-in_err-place
+returns-in_err-place c =
+    c.from_residual-in_err-place.ensures
+    ∙ offsets_placed _ _ _ _ _ (record { count = omega arith; word = omega arith; metadata = omega arith; below = c.in_ok-vector_va.ensures.0 }) _ _ c.in_ok-vector_va.ensures.1 c.in_err-place.ensures
 
-pub returns-in-Nothing : goal.returns-in-Nothing
-returns-in-Nothing c = offsets_at _ _ _ _ _ (record { count = omega arith; word = omega arith; metadata = omega arith; below = omega arith }) _ (told bytes_place_of c.find_bytes.ensures c.in-Nothing.is)
+pub returns : goal.returns
+returns c = offsets_placed _ _ _ _ _ (record { count = omega arith; word = omega arith; metadata = omega arith; below = c.in_ok-vector_va.ensures.0 }) _ _ c.in_ok-vector_va.ensures.1 c.in_ok-place.ensures
