@@ -13,7 +13,7 @@ use Rattle.std.proofs.Math.ListN.{length}
 use borrow.Author.Tests.{ltb-true, lt-ltb, le-ltb, le-leb, lt-leb}
 use Rattle.segment.specs.Segments.{segments_of, file_offset}
 use Rattle.util.specs.LittleEndian.{little_endian, bytes_at, little_at}
-use Rattle.runtime.specs.Reads.{Reads, done, nothing, bytes, bind, and_then, bytes_place, run, Range, bytes_range, path}
+use Rattle.runtime.specs.Reads.{Reads, done, bytes, bind, and_then, bytes_place, run, Range, bytes_range, path}
 use Rattle.runtime.proofs.ReadsLaws.{run_bind, path_bind}
 use Rattle.runtime.proofs.CallsLaws.{bytes_within}
 use Rattle.runtime.proofs.PathLaws.{path_bytes, bytes_read_lem}
