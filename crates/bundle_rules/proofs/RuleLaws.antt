@@ -3,9 +3,9 @@
 use Prim.Native.Nat.{ℕ, zero, suc, ◌+◌, ◌-◌, ◌≤◌, ◌<◌}
 use Rattle.std.proofs.Math.Decide.{dec_le}
 use Rattle.std.proofs.Common.{arith, sym, ◌∙◌, subst}
-use Rattle.std.specs.Prelude.{◌≡◌, List, [], ◌∷◌, Bool, true, false, cond, ◌&&◌, ◌||◌, leb, ltb, Some}
+use Rattle.std.specs.Prelude.{◌≡◌, List, [], ◌∷◌, Bool, true, false, cond, ◌&&◌, ◌||◌, leb, ltb, Option, Some, None, Result, Ok, Err}
 use Rattle.std.proofs.Math.Path.{refl, ap}
-use Rattle.std.proofs.Math.Bool.{or-true, and-false, and-eq-true_iff, and_comm}
+use Rattle.std.proofs.Math.Bool.{or-true, or_comm, and-false, and-eq-true_iff, and_comm}
 use Rattle.std.proofs.Math.ListN.{length}
 use Rattle.std.proofs.Math.Dec.{eqb}
 use borrow.Author.Tests.{le-leb, lt-leb, lt-ltb, le-ltb, eq-eqb, ne_eqb, leb-true, ltb-true, eqb-true}
@@ -16,46 +16,46 @@ use Rattle.bundle.specs.Bundle.{body_fits}
 use Rattle.bundle.specs.Open.{size_at, kind_at, is_at, taken_at, image, segments, types, fields, strings, answer, bundle_most, open_bundle}
 use Rattle.bundle.proofs.OpenLaws.{take_some, take_none, too_long}
 use Rattle.bundle.proofs.BundleLaws.{taken_layout}
-use Rattle.bundle_rules.specs.Rule.{body_rule, check_kind, check_at, turn, at_end, walk, broken_rule}
+use Rattle.bundle_rules.specs.Rule.{keeps, breaks, broken, body_rule, check_kind, check_at, turn, at_end, walk, broken_rule}
 use Rattle.bundle.specs.declared.open.Layout.{Layout}
 use Rattle.bundle.specs.declared.open.Taken.{Taken}
 use Rattle.bundle_rules.specs.declared.rules.Rule.{Rule}
 use Rattle.bundle_rules.specs.declared.rules.Broken.{Broken}
-use Rattle.bundle_rules.specs.declared.rules.Checked.{Checked}
+use Rattle.bundle_rules.specs.declared.rules.Kept.{Kept}
 
 -- ---- a record
 
 module _ (last k n next : ℕ) where
-  pub kind_low : k < 1 → Checked.Breaks Rule.KindRange ≡ check_kind last k n next
+  pub kind_low : k < 1 → breaks Rule.KindRange ≡ check_kind last k n next
   unfolding check_kind
   kind_low h = rw (lt-leb 1 k h)
 
-  pub kind_high : 5 < k → Checked.Breaks Rule.KindRange ≡ check_kind last k n next
+  pub kind_high : 5 < k → breaks Rule.KindRange ≡ check_kind last k n next
   unfolding check_kind
   kind_high h = rw (lt-leb k 5 h, and-false)
 
   module _ (low : 1 ≤ k) (high : k ≤ 5) where
-    pub kind_not_above : k ≤ last → Checked.Breaks Rule.KindOrder ≡ check_kind last k n next
+    pub kind_not_above : k ≤ last → breaks Rule.KindOrder ≡ check_kind last k n next
     unfolding check_kind
     kind_not_above h = rw (le-leb 1 k low, le-leb k 5 high, le-ltb last k h)
 
     module _ (above : last < k) where
-      pub kind_kept : body_fits k n ≡ true → Checked.Keeps k next ≡ check_kind last k n next
+      pub kind_kept : body_fits k n ≡ true → keeps k next ≡ check_kind last k n next
       unfolding check_kind
       kind_kept h = rw (le-leb 1 k low, le-leb k 5 high, lt-ltb last k above, h)
 
-      pub kind_unfit : body_fits k n ≡ false → Checked.Breaks (body_rule k) ≡ check_kind last k n next
+      pub kind_unfit : body_fits k n ≡ false → breaks (body_rule k) ≡ check_kind last k n next
       unfolding check_kind
       kind_unfit h = rw (le-leb 1 k low, le-leb k 5 high, lt-ltb last k above, h)
 
-      pub kind_segments : k ≡ 2 → body_fits k n ≡ false → Checked.Breaks Rule.SegmentBody ≡ check_kind last k n next
+      pub kind_segments : k ≡ 2 → body_fits k n ≡ false → breaks Rule.SegmentBody ≡ check_kind last k n next
       kind_segments e h = rw (eq-eqb k 2 e) at (kind_unfit h)
 
-      pub kind_led : (k ≡ 2 → ⊥) → body_fits k n ≡ false → Checked.Breaks Rule.LedBody ≡ check_kind last k n next
+      pub kind_led : (k ≡ 2 → ⊥) → body_fits k n ≡ false → breaks Rule.LedBody ≡ check_kind last k n next
       kind_led e h = rw (ne_eqb k 2 e) at (kind_unfit h)
 
 module _ (s : List ℕ) (last at : ℕ) where
-  pub check_short : length s < at + 6 + size_at s at → Checked.Breaks Rule.CutShort ≡ check_at s last at
+  pub check_short : length s < at + 6 + size_at s at → breaks Rule.CutShort ≡ check_at s last at
   unfolding check_at
   check_short h = rw (lt-leb (at + 6 + size_at s at) (length s) h)
 
@@ -63,7 +63,7 @@ module _ (s : List ℕ) (last at : ℕ) where
   unfolding check_at
   check_whole h = rw (le-leb (at + 6 + size_at s at) (length s) h)
 
-  pub check_past : length s < at + 6 → Checked.Breaks Rule.CutShort ≡ check_at s last at
+  pub check_past : length s < at + 6 → breaks Rule.CutShort ≡ check_at s last at
   check_past h = check_short (omega arith)
 
   -- the header's two numbers as they were read
@@ -74,42 +74,50 @@ module _ (s : List ℕ) (last at : ℕ) where
     whole : at + 6 ≤ length s
     whole = omega (arith, little_within 2 s (at + 4) k found)
 
-    pub check_cut : length s - (at + 6) < n → Checked.Breaks Rule.CutShort ≡ check_at s last at
+    pub check_cut : length s - (at + 6) < n → breaks Rule.CutShort ≡ check_at s last at
     check_cut h = check_short (omega (arith, size_is, whole))
 
-    pub check_kind_lem : {r : Checked} → r ≡ check_kind last k n (at + 6 + n) → n ≤ length s - (at + 6) → r ≡ check_at s last at
+    pub check_kind_lem : {r : Result Kept Rule} → r ≡ check_kind last k n (at + 6 + n) → n ≤ length s - (at + 6) → r ≡ check_at s last at
     check_kind_lem e h =
         e
         ∙ (λ i. check_kind last (little_value 2 s (at + 4) k found i) (size_is i) (at + 6 + size_is i))
         ∙ check_whole (omega (arith, size_is, whole))
 
 -- what a record says that obeys the rules
-pub record Kept (s : List ℕ) (last at k n : ℕ) : Type 0 where
+pub record Obeyed (s : List ℕ) (last at k n : ℕ) : Type 0 where
   pub above : last < k
   pub high : k ≤ 5
   pub next : at + 6 ≤ n
 
 -- each test either goes on or breaks a rule
-on : (b : Bool) (x : Checked) (r : Rule) (k n : ℕ) → Checked.Keeps k n ≡ cond b x (Checked.Breaks r) → (b ≡ true) × (Checked.Keeps k n ≡ x)
+on : (b : Bool) (x : Result Kept Rule) (r : Rule) (k n : ℕ) → keeps k n ≡ cond b x (breaks r) → (b ≡ true) × (keeps k n ≡ x)
 on true x r k n e = (refl, e)
 on false x r k n e = let z : ◌≡◌ {A = ℕ} 0 1 = cc in absurd (omega arith)
 
-pub kept_by_check : (s : List ℕ) (last at k n : ℕ) → Checked.Keeps k n ≡ check_at s last at → Kept s last at k n
+abbrev kind_of : Result Kept Rule → ℕ
+kind_of (Ok w) = w.kind
+kind_of (Err r) = 0
+
+abbrev next_of : Result Kept Rule → ℕ
+next_of (Ok w) = w.next
+next_of (Err r) = 0
+
+pub kept_by_check : (s : List ℕ) (last at k n : ℕ) → keeps k n ≡ check_at s last at → Obeyed s last at k n
 unfolding check_at check_kind
 kept_by_check s last at k n e =
     let whole = on (leb (at + 6 + size_at s at) (length s)) _ _ k n e in
     let range = on (leb 1 (kind_at s at) && leb (kind_at s at) 5) _ _ k n whole.1 in
     let above = on (ltb last (kind_at s at)) _ _ k n range.1 in
     let fits = on (body_fits (kind_at s at) (size_at s at)) _ _ k n above.1 in
-    let is : Checked.Keeps k n ≡ Checked.Keeps (kind_at s at) (at + 6 + size_at s at) = fits.1 in
-    let kind : k ≡ kind_at s at = cc in
-    let next : n ≡ at + 6 + size_at s at = cc in
+    let is : keeps k n ≡ keeps (kind_at s at) (at + 6 + size_at s at) = fits.1 in
+    let next : n ≡ at + 6 + size_at s at = ap (λ (r : Result Kept Rule). next_of r) is in
+    let kind : k ≡ kind_at s at = ap (λ (r : Result Kept Rule). kind_of r) is in
     let high = ((and-eq-true_iff (leb 1 (kind_at s at)) _).0 range.0).1 in
     record { above = omega (arith, ltb-true last (kind_at s at) above.0); high = omega (arith, leb-true (kind_at s at) 5 high); next = omega arith }
 
 -- ---- the walk
 
-pub too_long_whole : (s : List ℕ) → bundle_most < length s → Broken.Whole ≡ broken_rule s
+pub too_long_whole : (s : List ℕ) → bundle_most < length s → None ≡ broken_rule s
 unfolding broken_rule
 too_long_whole s h = rw (lt-ltb bundle_most (length s) h)
 
@@ -134,15 +142,15 @@ module _ (s : List ℕ) (image : Bool) (last at : ℕ) where
   unfolding walk
   turned_end n h = rw (walk, le-leb (length s) at h)
 
-  pub walked_breaks : (r : Rule) → RulesWalked s image last at → at < length s → Checked.Breaks r ≡ check_at s last at → Broken.At r at ≡ broken_rule s
+  pub walked_breaks : (r : Rule) → RulesWalked s image last at → at < length s → breaks r ≡ check_at s last at → broken r at ≡ broken_rule s
   walked_breaks r w h e = go w.turns w.enough w.same
     where
-      go : (n : ℕ) → 6 ≤ n + last → walk n s image last at ≡ broken_rule s → Broken.At r at ≡ broken_rule s
+      go : (n : ℕ) → 6 ≤ n + last → walk n s image last at ≡ broken_rule s → broken r at ≡ broken_rule s
       go zero m f = absurd (omega (arith, w.low))
-      go (suc n) m f = ap (λ (c : Checked). turn at c (λ kind next. walk n s (eqb kind 1 || image) kind next)) e ∙ sym (turned n h) ∙ f
+      go (suc n) m f = ap (λ (c : Result Kept Rule). turn at c (λ kind next. walk n s (eqb kind 1 || image) kind next)) e ∙ sym (turned n h) ∙ f
 
-  pub walked_keeps : (k n : ℕ) → RulesWalked s image last at → at < length s → Checked.Keeps k n ≡ check_at s last at → RulesWalked s (eqb k 1 || image) k n
-  walked_keeps k n w h e = go w.turns w.enough w.same
+  walked_on : (k n : ℕ) → RulesWalked s image last at → at < length s → keeps k n ≡ check_at s last at → RulesWalked s (eqb k 1 || image) k n
+  walked_on k n w h e = go w.turns w.enough w.same
     where
       go : (m : ℕ) → 6 ≤ m + last → walk m s image last at ≡ broken_rule s → RulesWalked s (eqb k 1 || image) k n
       go zero m f = absurd (omega (arith, w.low))
@@ -151,8 +159,12 @@ module _ (s : List ℕ) (image : Bool) (last at : ℕ) where
             turns = m;
             enough = omega (arith, (kept_by_check s last at k n e).above);
             low = (kept_by_check s last at k n e).high;
-            same = ap (λ (c : Checked). turn at c (λ kind next. walk m s (eqb kind 1 || image) kind next)) e ∙ sym (turned m h) ∙ f;
+            same = ap (λ (c : Result Kept Rule). turn at c (λ kind next. walk m s (eqb kind 1 || image) kind next)) e ∙ sym (turned m h) ∙ f;
           }
+
+  -- whether there was an image, as the code has it after a record that obeyed the rules
+  pub walked_keeps : (k n : ℕ) → RulesWalked s image last at → at < length s → keeps k n ≡ check_at s last at → RulesWalked s (image || eqb k 1) k n
+  walked_keeps k n w h e = subst (λ (b : Bool). RulesWalked s b k n) (or_comm (eqb k 1) image) (walked_on k n w h e)
 
   walked_ended : RulesWalked s image last at → length s ≤ at → at_end s image ≡ broken_rule s
   walked_ended w h = go w.turns w.enough w.same
@@ -161,28 +173,20 @@ module _ (s : List ℕ) (image : Bool) (last at : ℕ) where
       go zero m f = absurd (omega (arith, w.low))
       go (suc n) m f = sym (turned_end n h) ∙ f
 
-  pub walked_whole : RulesWalked s image last at → length s ≤ at → image ≡ true → Broken.Whole ≡ broken_rule s
+  pub walked_whole : RulesWalked s image last at → length s ≤ at → image ≡ true → None ≡ broken_rule s
   walked_whole w h e = sym (ap (at_end s) e) ∙ walked_ended w h
 
-  pub walked_empty : RulesWalked s image last at → length s ≡ 0 → Broken.Whole ≡ broken_rule s
+  pub walked_empty : RulesWalked s image last at → length s ≡ 0 → None ≡ broken_rule s
   walked_empty w e = sym (rw (eq-eqb (length s) 0 e, or-true)) ∙ walked_ended w (omega arith)
 
-  pub walked_missing : RulesWalked s image last at → length s ≤ at → image ≡ false → (length s ≡ 0 → ⊥) → Broken.At Rule.NoImage (length s) ≡ broken_rule s
+  pub walked_missing : RulesWalked s image last at → length s ≤ at → image ≡ false → (length s ≡ 0 → ⊥) → broken Rule.NoImage (length s) ≡ broken_rule s
   walked_missing w h e bytes = sym (rw (e, ne_eqb (length s) 0 bytes)) ∙ walked_ended w h
-
--- whether there was an image, as the code has it after a record that obeyed the rules
-module _ (s : List ℕ) (image : Bool) (k n : ℕ) where
-  pub seen_image : k ≡ 1 → RulesWalked s (eqb k 1 || image) k n → RulesWalked s (eqb k 1) k n
-  seen_image e w = subst (λ (b : Bool). RulesWalked s b k n) (rw (eq-eqb k 1 e)) w
-
-  pub seen_other : (k ≡ 1 → ⊥) → RulesWalked s (eqb k 1 || image) k n → RulesWalked s image k n
-  seen_other e w = subst (λ (b : Bool). RulesWalked s b k n) (rw (ne_eqb k 1 e)) w
 
 -- ---- whole exactly if it is not refused for a rule
 
-abbrev is_whole : Broken → Bool
-is_whole (Broken.At r at) = false
-is_whole Broken.Whole = true
+abbrev is_whole : Option Broken → Bool
+is_whole (Some b) = false
+is_whole None = true
 
 above_same : (a b k n next : ℕ) → ltb a k ≡ ltb b k → check_kind a k n next ≡ check_kind b k n next
 unfolding check_kind
@@ -190,8 +194,8 @@ above_same a b k n next e = rw e
 
 -- a kind that is missing may be passed over: a record of another kind breaks the same rule, or obeys the rules, and a record of this kind
 -- that does not fit breaks a rule either way
-module _ (last at : ℕ) (most : suc last ≤ 5) (more : ℕ → ℕ → Broken) where
-  abbrev whole_after : Checked → Bool
+module _ (last at : ℕ) (most : suc last ≤ 5) (more : ℕ → ℕ → Option Broken) where
+  abbrev whole_after : Result Kept Rule → Bool
   whole_after c = is_whole (turn at c more)
 
   passed_kind : (k n next : ℕ) → (eqb k (suc last) && body_fits (suc last) n) ≡ false → whole_after (check_kind last k n next) ≡ whole_after (check_kind (suc last) k n next)
@@ -225,7 +229,7 @@ module _ (s : List ℕ) (image : Bool) (last at : ℕ) (most : suc last ≤ 5) w
   walk_passed zero is = refl
   walk_passed (suc n) is = go (leb (length s) at)
     where
-      more : ℕ → ℕ → Broken
+      more : ℕ → ℕ → Option Broken
       more kind next = walk n s (eqb kind 1 || image) kind next
 
       go : (b : Bool) → is_whole (cond b (at_end s image) (turn at (check_at s last at) more)) ≡ is_whole (cond b (at_end s image) (turn at (check_at s (suc last) at) more))
@@ -239,27 +243,27 @@ module _ (s : List ℕ) (image : Bool) (last at : ℕ) (most : suc last ≤ 5) w
       let fit = (and-eq-true_iff (eqb (kind_at s at) (suc last)) _).0 both.1 in
       let within : at + 6 + size_at s at ≤ length s = leb-true _ _ both.0 in
       let kind : kind_at s at ≡ suc last = eqb-true _ _ fit.0 in
-      let keeps : Checked.Keeps (suc last) (at + 6 + size_at s at) ≡ check_at s last at =
+      let kept : keeps (suc last) (at + 6 + size_at s at) ≡ check_at s last at =
       kind_kept last (suc last) (size_at s at) (at + 6 + size_at s at) (omega arith) most (omega arith) fit.1
       ∙ ap (λ (k : ℕ). check_kind last k (size_at s at) (at + 6 + size_at s at)) (sym kind)
       ∙ check_whole s last at within in
-      turned s image last at n (omega arith) ∙ ap (λ (c : Checked). turn at c (λ kind next. walk n s (eqb kind 1 || image) kind next)) (sym keeps)
+      turned s image last at n (omega arith) ∙ ap (λ (c : Result Kept Rule). turn at c (λ kind next. walk n s (eqb kind 1 || image) kind next)) (sym kept)
 
 -- past the last kind, nothing may be left
 walk_end_lem : (n : ℕ) (s : List ℕ) (image : Bool) (at : ℕ) → is_whole (walk (suc n) s image 5 at) ≡ (leb (length s) at && (image || eqb (length s) 0))
 walk_end_lem n s image at =
     elim (dec_le (length s) at) [
       | yes h ↦ ap is_whole (turned_end s image 5 at n h) ∙ rw (le-leb (length s) at h) (seen (image || eqb (length s) 0))
-      | no h ↦ ap is_whole (turned s image 5 at n (omega arith)) ∙ breaks (check_at s 5 at) refl ∙ rw (lt-leb (length s) at (omega arith))
+      | no h ↦ ap is_whole (turned s image 5 at n (omega arith)) ∙ never (check_at s 5 at) refl ∙ rw (lt-leb (length s) at (omega arith))
     ]
   where
-    seen : (b : Bool) → is_whole (cond b Broken.Whole (Broken.At Rule.NoImage (length s))) ≡ b
+    seen : (b : Bool) → is_whole (cond b None (broken Rule.NoImage (length s))) ≡ b
     seen true = refl
     seen false = refl
 
-    breaks : (c : Checked) → c ≡ check_at s 5 at → is_whole (turn at c (λ kind next. walk n s (eqb kind 1 || image) kind next)) ≡ false
-    breaks (Checked.Breaks r) e = refl
-    breaks (Checked.Keeps k m) e = absurd (omega (arith, (kept_by_check s 5 at k m e).above, (kept_by_check s 5 at k m e).high))
+    never : (c : Result Kept Rule) → c ≡ check_at s 5 at → is_whole (turn at c (λ kind next. walk n s (eqb kind 1 || image) kind next)) ≡ false
+    never (Err r) e = refl
+    never (Ok w) e = absurd (omega (arith, (kept_by_check s 5 at w.kind w.next e).above, (kept_by_check s 5 at w.kind w.next e).high))
 
 -- the kinds up to `last` are taken, as `openBundle` takes them, with enough turns for the others
 record Stage (s : List ℕ) (image : Bool) (last at : ℕ) : Type 0 where
@@ -320,43 +324,43 @@ module _ (s : List ℕ) where
   unfolding open_bundle answer broken_rule
   opened_whole h = rw (le-ltb bundle_most (length s) h, walk_whole, and_comm (leb (length s) (strings s).next) (there || eqb (length s) 0))
 
-  pub told_refused : (r : Rule) (at : ℕ) → broken_rule s ≡ Broken.At r at → open_bundle s ≡ refused 2
+  pub told_refused : (r : Rule) (at : ℕ) → broken_rule s ≡ broken r at → open_bundle s ≡ refused 2
   told_refused r at e =
       elim (dec_le (length s) bundle_most) [
-        | yes h ↦ opened_whole h ∙ ap (λ (b : Broken). refusal (is_whole b)) e
+        | yes h ↦ opened_whole h ∙ ap (λ (b : Option Broken). refusal (is_whole b)) e
         | no h ↦ let f = too_long_whole s (omega arith) in let z : ◌≡◌ {A = ℕ} 0 1 = cc in absurd (omega arith)
       ]
 
-  pub whole_not_refused : broken_rule s ≡ Broken.Whole → open_bundle s ≡ refused 2 → ⊥
+  pub whole_not_refused : broken_rule s ≡ None → open_bundle s ≡ refused 2 → ⊥
   whole_not_refused e f =
       elim (dec_le (length s) bundle_most) [
         | yes h ↦
-            let g : open_bundle s ≡ answered (taken_layout s) = opened_whole h ∙ ap (λ (b : Broken). refusal (is_whole b)) e in
+            let g : open_bundle s ≡ answered (taken_layout s) = opened_whole h ∙ ap (λ (b : Option Broken). refusal (is_whole b)) e in
             let z : ◌≡◌ {A = ℕ} 0 1 = cc in
             omega arith
         | no h ↦ let g = too_long s (omega arith) in let z : ◌≡◌ {A = ℕ} 5 2 = cc in omega arith
       ]
 
-  pub not_refused_whole : (open_bundle s ≡ refused 2 → ⊥) → broken_rule s ≡ Broken.Whole
+  pub not_refused_whole : (open_bundle s ≡ refused 2 → ⊥) → broken_rule s ≡ None
   not_refused_whole f = go (broken_rule s) refl
     where
-      go : (b : Broken) → broken_rule s ≡ b → b ≡ Broken.Whole
-      go (Broken.At r at) e = absurd (f (told_refused r at e))
-      go Broken.Whole e = refl
+      go : (b : Option Broken) → broken_rule s ≡ b → b ≡ None
+      go (Some b) e = absurd (f (told_refused b.rule b.at e))
+      go None e = refl
 
 -- each rule, broken by a bundle of a few bytes; the empty bundle breaks none
 pub record Examples : Type 0 where
-  pub empty : broken_rule [] ≡ Broken.Whole
-  pub one_byte : broken_rule (0 ∷ []) ≡ Broken.At Rule.CutShort 0
-  pub image : broken_rule (0 ∷ 0 ∷ 0 ∷ 0 ∷ 1 ∷ 0 ∷ []) ≡ Broken.Whole
-  pub header_cut : broken_rule (0 ∷ 0 ∷ 0 ∷ 0 ∷ 1 ∷ []) ≡ Broken.At Rule.CutShort 0
-  pub body_cut : broken_rule (0 ∷ 0 ∷ 0 ∷ 0 ∷ 1 ∷ 0 ∷ 9 ∷ 0 ∷ 0 ∷ 0 ∷ 3 ∷ 0 ∷ 7 ∷ []) ≡ Broken.At Rule.CutShort 6
-  pub kind_none : broken_rule (0 ∷ 0 ∷ 0 ∷ 0 ∷ 0 ∷ 0 ∷ []) ≡ Broken.At Rule.KindRange 0
-  pub kind_six : broken_rule (0 ∷ 0 ∷ 0 ∷ 0 ∷ 1 ∷ 0 ∷ 0 ∷ 0 ∷ 0 ∷ 0 ∷ 6 ∷ 0 ∷ []) ≡ Broken.At Rule.KindRange 6
-  pub twice : broken_rule (1 ∷ 0 ∷ 0 ∷ 0 ∷ 1 ∷ 0 ∷ 7 ∷ 0 ∷ 0 ∷ 0 ∷ 0 ∷ 1 ∷ 0 ∷ []) ≡ Broken.At Rule.KindOrder 7
-  pub ragged : broken_rule (0 ∷ 0 ∷ 0 ∷ 0 ∷ 1 ∷ 0 ∷ 1 ∷ 0 ∷ 0 ∷ 0 ∷ 2 ∷ 0 ∷ 7 ∷ []) ≡ Broken.At Rule.SegmentBody 6
-  pub not_led : broken_rule (0 ∷ 0 ∷ 0 ∷ 0 ∷ 1 ∷ 0 ∷ 1 ∷ 0 ∷ 0 ∷ 0 ∷ 5 ∷ 0 ∷ 7 ∷ []) ≡ Broken.At Rule.LedBody 6
-  pub no_image : broken_rule (0 ∷ 0 ∷ 0 ∷ 0 ∷ 2 ∷ 0 ∷ []) ≡ Broken.At Rule.NoImage 6
+  pub empty : broken_rule [] ≡ None
+  pub one_byte : broken_rule (0 ∷ []) ≡ broken Rule.CutShort 0
+  pub image : broken_rule (0 ∷ 0 ∷ 0 ∷ 0 ∷ 1 ∷ 0 ∷ []) ≡ None
+  pub header_cut : broken_rule (0 ∷ 0 ∷ 0 ∷ 0 ∷ 1 ∷ []) ≡ broken Rule.CutShort 0
+  pub body_cut : broken_rule (0 ∷ 0 ∷ 0 ∷ 0 ∷ 1 ∷ 0 ∷ 9 ∷ 0 ∷ 0 ∷ 0 ∷ 3 ∷ 0 ∷ 7 ∷ []) ≡ broken Rule.CutShort 6
+  pub kind_none : broken_rule (0 ∷ 0 ∷ 0 ∷ 0 ∷ 0 ∷ 0 ∷ []) ≡ broken Rule.KindRange 0
+  pub kind_six : broken_rule (0 ∷ 0 ∷ 0 ∷ 0 ∷ 1 ∷ 0 ∷ 0 ∷ 0 ∷ 0 ∷ 0 ∷ 6 ∷ 0 ∷ []) ≡ broken Rule.KindRange 6
+  pub twice : broken_rule (1 ∷ 0 ∷ 0 ∷ 0 ∷ 1 ∷ 0 ∷ 7 ∷ 0 ∷ 0 ∷ 0 ∷ 0 ∷ 1 ∷ 0 ∷ []) ≡ broken Rule.KindOrder 7
+  pub ragged : broken_rule (0 ∷ 0 ∷ 0 ∷ 0 ∷ 1 ∷ 0 ∷ 1 ∷ 0 ∷ 0 ∷ 0 ∷ 2 ∷ 0 ∷ 7 ∷ []) ≡ broken Rule.SegmentBody 6
+  pub not_led : broken_rule (0 ∷ 0 ∷ 0 ∷ 0 ∷ 1 ∷ 0 ∷ 1 ∷ 0 ∷ 0 ∷ 0 ∷ 5 ∷ 0 ∷ 7 ∷ []) ≡ broken Rule.LedBody 6
+  pub no_image : broken_rule (0 ∷ 0 ∷ 0 ∷ 0 ∷ 2 ∷ 0 ∷ []) ≡ broken Rule.NoImage 6
 
 pub examples : Examples
 unfolding broken_rule walk check_at check_kind body_fits little_endian

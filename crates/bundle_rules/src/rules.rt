@@ -3,7 +3,6 @@ ghost use Rattle.std.specs.Prelude.{◌≡◌};
 ghost use Rattle.bundle_rules.specs.Rule.{check_at, broken_rule};
 
 use bundle::{BUNDLE_BYTES, body_fits};
-use util::{ReadU16, ReadU32};
 
 #[derive(Clone, Copy)]
 pub enum Rule {
@@ -21,85 +20,75 @@ pub enum Rule {
     NoImage,
 }
 
+// The first rule that a bundle breaks, and the offset of the record that breaks it; for a missing image, the end of the bytes.
 #[derive(Clone, Copy)]
-pub enum Broken {
-    // The rule, and the offset of the record that breaks it; for a missing image, the end of the bytes.
-    At { rule: Rule, at: usize },
-    // The bundle is not refused for a rule.
-    Whole,
+pub struct Broken {
+    pub rule: Rule,
+    pub at: usize,
+}
+
+// A record that obeys the rules, and where the next one starts.
+#[derive(Clone, Copy)]
+pub struct Kept {
+    pub kind: u16,
+    pub next: usize,
 }
 
 // A record by itself, after one of the kind `last`.
-#[derive(Clone, Copy)]
-pub enum Checked {
-    Breaks(Rule),
-    Keeps { kind: u16, next: usize },
-}
-
-fn check_record(bytes: &[u8], last: u16, at: usize) -> Checked
+fn check_record(bytes: &[u8], last: u16, at: usize) -> Result<Kept, Rule>
     ensures { result ≡ check_at bytes.now last at }
 {
-    let ReadU32::Value(size) = util::read_u32_le_at(bytes, at) else {
-        return Checked::Breaks(Rule::CutShort);
-    };
-    let ReadU16::Value(kind) = util::read_u16_le_at(bytes, at + 4) else {
-        return Checked::Breaks(Rule::CutShort);
-    };
+    let size = util::read_u32_le_at(bytes, at).ok_or(Rule::CutShort)? as usize;
+    let kind = util::read_u16_le_at(bytes, at + 4).ok_or(Rule::CutShort)?;
     let start = at + 6;
-    let length = size as usize;
-    if bytes.len() - start < length {
-        return Checked::Breaks(Rule::CutShort);
+    if bytes.len() - start < size {
+        return Err(Rule::CutShort);
     }
-    if kind < 1 {
-        return Checked::Breaks(Rule::KindRange);
-    }
-    if 5 < kind {
-        return Checked::Breaks(Rule::KindRange);
+    if kind < 1 || 5 < kind {
+        return Err(Rule::KindRange);
     }
     if kind <= last {
-        return Checked::Breaks(Rule::KindOrder);
+        return Err(Rule::KindOrder);
     }
-    if body_fits(kind, length) {
-        return Checked::Keeps {
+    if body_fits(kind, size) {
+        return Ok(Kept {
             kind,
-            next: start + length,
-        };
+            next: start + size,
+        });
     }
     if kind == 2 {
-        Checked::Breaks(Rule::SegmentBody)
+        Err(Rule::SegmentBody)
     } else {
-        Checked::Breaks(Rule::LedBody)
+        Err(Rule::LedBody)
     }
 }
 
-// The first rule that a bundle breaks, in the order of its records.
-pub fn broken_rule(bytes: &[u8]) -> Broken
+// The first rule that a bundle breaks, in the order of its records; none if the bundle is not refused for a rule.
+pub fn broken_rule(bytes: &[u8]) -> Option<Broken>
     ensures { result ≡ broken_rule bytes.now }
 {
     if BUNDLE_BYTES < bytes.len() {
-        return Broken::Whole;
+        return None;
     }
     let mut image = false;
     let mut last: u16 = 0;
     let mut at: usize = 0;
     while at < bytes.len() {
         match check_record(bytes, last, at) {
-            Checked::Breaks(rule) => {
-                return Broken::At { rule, at };
+            Ok(kept) => {
+                image |= kept.kind == 1;
+                last = kept.kind;
+                at = kept.next;
             }
-            Checked::Keeps { kind, next } => {
-                image = kind == 1 || image;
-                last = kind;
-                at = next;
-            }
+            Err(rule) => return Some(Broken { rule, at }),
         }
     }
-    if image || bytes.len() == 0 {
-        Broken::Whole
+    if image || bytes.is_empty() {
+        None
     } else {
-        Broken::At {
+        Some(Broken {
             rule: Rule::NoImage,
             at: bytes.len(),
-        }
+        })
     }
 }

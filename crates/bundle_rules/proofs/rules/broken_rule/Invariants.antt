@@ -1,7 +1,6 @@
 -- `bundle_rules::rules::broken_rule` meets its contract. The invariant: the walk from here on finds what the whole walk finds.
 use Prim.Native.Nat.{◌-◌}
 use lib.ListN.{length}
-use borrow.Author.Rules.{rules}
 use Rattle.bundle_rules.proofs.RuleLaws.{RulesWalked}
 use Rattle.bundle_rules.proofs.rules.broken_rule.Given as goal
 
