@@ -8,7 +8,8 @@ use Rattle.utf8.specs.Text.{following, goes_on, until_nul, text_length}
 use Rattle.util.specs.Letters.{letters}
 use Rattle.util.specs.LittleEndian.{little_endian, bytes_at, little_at, twos_complement, signed_at, unsigned_in, signed_in}
 use Rattle.util.specs.Pointer.{relative_pointer, relative_address}
-use Rattle.util.specs.Cstr.{Place, text_at}
+use Rattle.util.specs.declared.cstr.Place.{Place}
+use Rattle.util.specs.Cstr.{text_at}
 use Rattle.segment.specs.Segments.{segments_of, decides, in_file, file_offset}
 use Rattle.runtime.specs.Reads.{within, bytes_place, text_offset, text_place, run}
 use Rattle.runtime.specs.FieldName.{NamePlace, in_image, in_strings, section_text, field_name}

@@ -2,9 +2,9 @@ ghost use Rattle.entry_tables.specs.Tables.{GivesTable};
 ghost use Rattle.named_records.specs.NamedRecords.{guarded_named};
 
 use crate::records::list_records;
-use entry_tables::TableAnswer;
+use entry_tables::Listed;
 use field::FieldRecordIter;
-use refusal::Fault;
+use refusal::Refusal;
 
 // The records from a walk's position up to the first that cannot be read, as many as the list holds. Ten numbers for each: its address, its
 // flags, the addresses of the type's name and of the field's; 1, place and length of the type's name; and for the field's name 1 for the
@@ -16,11 +16,9 @@ pub fn named_records(
     strings_va: u64,
     walk: FieldRecordIter,
     buffer: &mut [u64],
-) -> TableAnswer
+) -> Result<Listed, Refusal>
     ensures { GivesTable (guarded_named image.now segments.now strings.now strings_va walk buffer.old) buffer.old result buffer.new }
 {
-    if let Fault::Refused(refusal) = refusal::find_fault(segments) {
-        return TableAnswer::Refused(refusal);
-    }
-    TableAnswer::Listed(list_records(image, segments, strings, strings_va, walk, buffer))
+    refusal::find_fault(segments)?;
+    Ok(list_records(image, segments, strings, strings_va, walk, buffer))
 }

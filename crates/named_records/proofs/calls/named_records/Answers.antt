@@ -1,12 +1,12 @@
 -- `named_records::calls::named_records` meets its contract.
-use mathlib.Core.Path.{refl}
+use Rattle.std.proofs.lemmas.Result.{err_from_is_err_and}
 use Rattle.entry_tables.proofs.TablesLaws.{table_refused, table_accepted}
-use Rattle.util.proofs.AnswersLaws.{told}
-use Rattle.refusal.specs.Guarded.{fault_of}
 use Rattle.named_records.proofs.calls.named_records.Goals as goal
 
-pub returns-in-Refused : goal.returns-in-Refused
-returns-in-Refused c = table_refused _ _ _ _ refl (told fault_of c.find_fault.ensures c.in-Refused.is)
+pub returns-in_err-find_fault : goal.returns-in_err-find_fault
+returns-in_err-find_fault c =
+    let p = err_from_is_err_and c.from_residual.result c.from_residual.ensures.1 in
+    rw (p.1, p.2) (table_refused _ _ _ c.find_fault.ensures c.in_err-find_fault.was)
 
 pub returns : goal.returns
-returns c = table_accepted _ _ _ _ _ c.list_records.ensures (told fault_of c.find_fault.ensures c.in_default.is)
+returns c = table_accepted _ _ _ _ _ c.list_records.ensures c.find_fault.ensures c.in_ok-find_fault.was
