@@ -1,13 +1,13 @@
 -- The printed listing, line by line: docs/SPECIFICATION.md, "The printed listing".
-use Rattle.std.specs.Prelude.{ℕ, ◌+◌, ◌%◌, ◌^◌, true, false, cond, List, [], ◌∷◌, ◌++◌, map, length, take, ◌==◌, Option, Some, None}
-use Rattle.refusal.specs.Refusal.{Guarded, answered, refused, refusal_number}
+use Rattle.std.specs.Prelude.{ℕ, ◌+◌, ◌%◌, ◌^◌, true, false, cond, List, [], ◌∷◌, ◌++◌, map, length, take, ◌==◌, Option, Some, None, option_map}
+use Rattle.refusal.specs.Refusal.{Guarded, answered, refused}
 use Rattle.typedescriptor.specs.Row.{TypeRow}
 use Rattle.typedescriptor.specs.Slots.{Found, next_row, rows}
 use Rattle.qualified_name.specs.Name.{name_answer}
 use Rattle.type_lines.specs.Digits.{hex, decimal}
 use Rattle.util.specs.Letters.{letters}
 use Rattle.type_lines.specs.declared.lines.LineIter.{LineIter}
-use Rattle.type_lines.specs.declared.lines.NextLine.{NextLine}
+use Rattle.type_lines.specs.declared.lines.Line.{Line as Answer}
 
 -- the name's buffer, and the longest line: 16 digits, a space, a kind of at most 6 letters, a space, a name, a line end
 abbrev pub name_bytes : ℕ
@@ -83,7 +83,5 @@ line_step image segments types start c =
     cond c.ended None (Some (line_at image segments c.given (next_row image segments types start c.slot)))
 
 -- what a step's answer says, with the line's buffer after it
-abbrev pub line_answer : List ℕ → NextLine → Guarded (Option (Line LineIter))
-line_answer buffer (NextLine.Line n l) = answered (Some (record { text = take n buffer; size = n; next = l }))
-line_answer buffer NextLine.Done = answered None
-line_answer buffer (NextLine.Refused x) = refused (refusal_number x)
+abbrev pub line_answer : List ℕ → Option Answer → Option (Line LineIter)
+line_answer buffer o = option_map (λ l. record { text = take l.length buffer; size = l.length; next = l.next }) o

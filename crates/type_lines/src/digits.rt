@@ -7,7 +7,7 @@ pub fn digit_of(n: u64) -> u8
     ensures { result ≡ digit (n % 16) }
 {
     let d = (n % 16) as u8;
-    if d < 10 { 48 + d } else { 87 + d }
+    if d < 10 { b'0' + d } else { b'a' - 10 + d }
 }
 
 // All 16 hexadecimal digits, made from the lowest on.
@@ -16,10 +16,8 @@ pub fn hex_digits(value: u64) -> [u8; 16]
 {
     let mut digits = [0u8; 16];
     let mut rest = value;
-    let mut left: usize = 16;
-    while left > 0 {
-        left -= 1;
-        digits[left] = digit_of(rest);
+    for place in (0..16).rev() {
+        digits[place] = digit_of(rest);
         rest /= 16;
     }
     digits

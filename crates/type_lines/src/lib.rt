@@ -4,4 +4,4 @@
 mod digits;
 mod lines;
 
-pub use lines::{LINE_BYTES, LineIter, NextLine, next_line, refused_line};
+pub use lines::{LINE_BYTES, Line, LineIter, next_line, refused_line};

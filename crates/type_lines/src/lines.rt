@@ -1,6 +1,6 @@
 // The lines of the printed listing, one after the other into the caller's buffer.
 ghost use Rattle.std.specs.Prelude.{◌≡◌, ◌+◌, ◌<◌, ◌≤◌, false, [], ◌∷◌, ◌++◌, length};
-ghost use Rattle.refusal.specs.Refusal.{answered, refusal_number};
+ghost use Rattle.refusal.specs.Refusal.{answered, mapped, outcome, refusal_number};
 ghost use Rattle.util.specs.Buffer.{Put, overwritten};
 ghost use Rattle.typedescriptor.specs.Row.{row_of};
 ghost use Rattle.refusal.specs.Guarded.{guarded};
@@ -8,9 +8,8 @@ ghost use Rattle.type_lines.specs.Digits.{digit, hex, decimal};
 ghost use Rattle.type_lines.specs.Lines.{name_bytes, line_bytes, space, kind_word, refused_text, refused_line, name_text, row_line, end_line, line_step, line_answer, line_text};
 
 use crate::digits::{digit_of, hex_digits};
-use qualified_name::QualifiedName;
-use refusal::{Fault, Refusal};
-use typedescriptor::{Row, TypeIter, TypeStep};
+use refusal::Refusal;
+use typedescriptor::{Row, TypeIter};
 
 // The bytes of a name's buffer, and of a line's: no line is longer.
 pub const NAME_BYTES: usize = 4096;
@@ -25,12 +24,11 @@ pub struct LineIter {
     pub ended: bool,
 }
 
+// A line of `length` bytes at the buffer's start, and the walk from there on.
 #[derive(Clone, Copy)]
-pub enum NextLine {
-    // A line of `length` bytes at the buffer's start, and the walk from there on.
-    Line { length: usize, next: LineIter },
-    Done,
-    Refused(Refusal),
+pub struct Line {
+    pub length: usize,
+    pub next: LineIter,
 }
 
 // One digit of a number below 10.
@@ -57,21 +55,16 @@ fn put_decimal(n: u64, left: usize, buffer: &mut [u8], at: usize) -> usize
     put_digit(n % 10, buffer, end)
 }
 
-fn put_kind(flags: u32, line: &mut [u8], at: usize) -> usize
-    requires { at + 6 ≤ length line.old }
-    ensures { Put line.old at (kind_word flags) result line.new }
+// The kind's word, by the low five bits of the flags.
+fn kind_word(flags: u32) -> &'static [u8]
+    ensures { result.now ≡ kind_word flags }
 {
-    let kind = flags % 32;
-    if kind == 16 {
-        return util::put(b"class", line, at);
+    match flags % 32 {
+        16 => b"class",
+        17 => b"struct",
+        18 => b"enum",
+        _ => b"other",
     }
-    if kind == 17 {
-        return util::put(b"struct", line, at);
-    }
-    if kind == 18 {
-        return util::put(b"enum", line, at);
-    }
-    util::put(b"other", line, at)
 }
 
 // The address and the kind, each with a space after it.
@@ -82,7 +75,7 @@ fn put_head(row: Row, line: &mut [u8]) -> usize
     let digits = hex_digits(row.address);
     let a = util::put(&digits, line, 0);
     let b = util::put(b" ", line, a);
-    let c = put_kind(row.flags, line, b);
+    let c = util::put(kind_word(row.flags), line, b);
     util::put(b" ", line, c)
 }
 
@@ -117,8 +110,8 @@ fn put_name(image: &[u8], segments: &[u64], row: Row, line: &mut [u8], at: usize
     ensures { Put line.old at (name_text image.now segments.now (row_of image.now row)) result line.new }
 {
     match qualified_name::qualified_name(image, segments, row, &mut line[at..at + NAME_BYTES]) {
-        QualifiedName::Length(n) => at + n,
-        QualifiedName::Refused(refusal) => put_refused(refusal, line, at),
+        Ok(length) => at + length,
+        Err(refusal) => put_refused(refusal, line, at),
     }
 }
 
@@ -148,34 +141,33 @@ fn next_into(
     types: &[u8],
     vmaddr: u64,
     line: &mut [u8],
-) -> NextLine
+) -> Option<Line>
     requires { line_bytes ≤ length line.old }
-    ensures result_after { line_answer line.new result ≡ answered (line_step image.now segments.now types.now vmaddr lister) }
+    ensures result_after { answered (line_answer line.new result) ≡ answered (line_step image.now segments.now types.now vmaddr lister) }
     ensures line_after { line.new ≡ overwritten line.old (line_text (answered (line_step image.now segments.now types.now vmaddr lister))) }
 {
     let given = lister.given;
-    let ended = lister.ended;
-    if ended {
-        return NextLine::Done;
+    if lister.ended {
+        return None;
     }
     let walk = TypeIter { slot: lister.slot };
     match walk.next(image, segments, types, vmaddr) {
-        TypeStep::Row { slot: _, row, next } => NextLine::Line {
-            length: put_row(image, segments, row, line),
+        Some(step) => Some(Line {
+            length: put_row(image, segments, step.row, line),
             next: LineIter {
-                slot: next.slot,
-                given: std::num::wrapping_add_usize(given, 1),
+                slot: step.next.slot,
+                given: given.wrapping_add(1),
                 ended: false,
             },
-        },
-        TypeStep::End => NextLine::Line {
+        }),
+        None => Some(Line {
             length: put_end(given, line),
             next: LineIter {
                 slot: 0,
                 given,
                 ended: true,
             },
-        },
+        }),
     }
 }
 
@@ -200,13 +192,11 @@ pub fn next_line(
     vmaddr: u64,
     walk: LineIter,
     line: &mut [u8; LINE_BYTES],
-) -> NextLine
-    ensures result_after { line_answer line.new result ≡ guarded segments.now (answered (line_step image.now segments.now types.now vmaddr walk)) }
+) -> Result<Option<Line>, Refusal>
+    ensures result_after { mapped (line_answer line.new) (outcome result) ≡ guarded segments.now (answered (line_step image.now segments.now types.now vmaddr walk)) }
     ensures line_after { line.new ≡ overwritten line.old (line_text (guarded segments.now (answered (line_step image.now segments.now types.now vmaddr walk)))) }
 {
-    if let Fault::Refused(refusal) = refusal::find_fault(segments) {
-        return NextLine::Refused(refusal);
-    }
+    refusal::find_fault(segments)?;
     let buffer: &mut [u8] = line;
-    next_into(walk, image, segments, types, vmaddr, buffer)
+    Ok(next_into(walk, image, segments, types, vmaddr, buffer))
 }

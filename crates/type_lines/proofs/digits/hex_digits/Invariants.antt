@@ -2,8 +2,5 @@
 use Rattle.type_lines.proofs.DigitsLaws.{Made}
 use Rattle.type_lines.proofs.digits.hex_digits.Given as goal
 
-abbrev pub invariant-loop-left : goal.invariant-loop-left
-invariant-loop-left l = Made l.value l.left l.digits l.rest
-
-abbrev pub decreases-loop-left : goal.decreases-loop-left
-decreases-loop-left l = l.left
+abbrev pub invariant-loop-place : goal.invariant-loop-place
+invariant-loop-place l = Made l.value l.place l.digits l.rest
