@@ -1,9 +1,12 @@
 -- What the tests on a line and on a text say about their definitions. `i` is a walk's place in a list: its turns go from `i` to `i + 1`.
 use Prim.Native.Nat.{ℕ, zero, suc, ◌+◌, ◌-◌, ◌*◌, ◌/◌, ◌%◌, ◌^◌, ◌≤◌, ◌<◌}
-use Rattle.std.proofs.Common.{zero-add, add-one, sym, ◌∙◌, append_assoc, length-set, take-append-drop, length-take-le}
+use Rattle.std.proofs.Common.{Bor, inl, inr, zero-add, add-one, sym, ◌∙◌, append_assoc, length-set, take-append-drop, length-take-le}
 use Rattle.std.proofs.Math.Decide.{dec_le, dec_lt, ℕ_discrete}
 use native.Mathlib.Omega.{arith}
-use Rattle.std.specs.Prelude.{◌≡◌, refl, List, [], ◌∷◌, ◌++◌, true, false, cond, ◌&&◌, take, get_or, set, leb, ltb, eqb, Option, Some, None, option_map}
+use Rattle.std.specs.Slice.{IsGetRangeResult}
+use Rattle.std.specs.List.{list_all as all_of}
+use lib.Pointwise.{pointwise}
+use Rattle.std.specs.Prelude.{◌≡◌, refl, unwrap_or, List, [], ◌∷◌, ◌++◌, true, false, cond, ◌&&◌, take, get_or, set, leb, ltb, eqb, Option, Some, None, option_map}
 use Rattle.std.proofs.Math.Path.{ap}
 use Rattle.std.proofs.Math.Bool.{and-false, and-eq-true_iff}
 use Rattle.std.proofs.Math.ListN.{length, drop, length-drop, drop_of_length-le}
@@ -48,6 +51,15 @@ module _ (s : List ℕ) (at : ℕ) where
   pub line_here : (e : ℕ) → e ≡ find_from s at 10 → take (e - at) (drop at s) ≡ line_at_offset s at
   unfolding line_at_offset find_from
   line_here e f = let n : e - at ≡ span 10 (drop at s) = omega arith in rw n
+
+  -- as `get` and `unwrap_or` give it
+  pub line_got : (e : ℕ) (o : Option (Bor (List ℕ))) (none : Bor (List ℕ)) → e ≡ find_from s at 10 → none.now ≡ [] → IsGetRangeResult s at e o → (unwrap_or o none).now ≡ line_at_offset s at
+  line_got e (Some part) none f n got = got.0.2 ∙ line_here e f
+  line_got e None none f n got =
+      elim (dec_le at (length s)) [
+        | yes h ↦ let b = find_bounds s at 10 e f h in absurd (elim got.0 [ inl l ↦ omega (arith, b) | inr l ↦ omega (arith, b) ])
+        | no h ↦ n ∙ line_past (omega arith)
+      ]
 
   pub after_found : (e : ℕ) → e ≡ find_from s at 10 → e < length s → e + 1 ≡ after_line s at
   unfolding after_line
@@ -96,6 +108,11 @@ module _ (s : List ℕ) (n : ℕ) where
   unfolding first_of
   first_out h = simp (lt-leb n (length s) h)
 
+  -- as `get` and `unwrap_or` give them
+  pub first_got : (o : Option (Bor (List ℕ))) (none : Bor (List ℕ)) → none.now ≡ [] → IsGetRangeResult s 0 n o → (unwrap_or o none).now ≡ first_of s n
+  first_got None none e got = e ∙ first_out (elim got.0 [ inl l ↦ absurd (omega arith) | inr l ↦ l ])
+  first_got (Some part) none e got = got.0.2 ∙ ap (λ (k : ℕ). take k s) (omega arith) ∙ first_in got.0.1
+
 -- `equals` says whether two lists are equal
 pub equals_sound : (a b : List ℕ) → equals a b ≡ true → a ≡ b
 unfolding equals
@@ -131,6 +148,14 @@ module _ (a b : List ℕ) (i : ℕ) where
   unfolding equals
   equals_end h k = rw (drop_of_length-le a {i = i} h, drop_of_length-le b {i = i} k)
 
+-- `==` of two slices, as std says it
+pub equals_by : (a b : List ℕ) → pointwise eqb a b ≡ equals a b
+unfolding equals
+equals_by [] [] = refl
+equals_by [] (y ∷ b) = refl
+equals_by (x ∷ a) [] = refl
+equals_by (x ∷ a) (y ∷ b) = rw (equals_by a b)
+
 -- a byte that is not between two others
 outside : (l h b : ℕ) → (l ≤ b → b ≤ h → ⊥) → (leb l b && leb b h) ≡ false
 outside l h b n =
@@ -151,6 +176,12 @@ module _ (b : ℕ) where
   pub digit_other : (48 ≤ b → b ≤ 57 → ⊥) → (97 ≤ b → b ≤ 102 → ⊥) → 16 ≡ digit_of b
   unfolding digit_of
   digit_other n m = simp (outside 48 57 b n, outside 97 102 b m)
+
+-- `all` of the digits, as std says it
+pub digits_by : (s : List ℕ) → all_of (λ b. ltb (digit_of b) 16) s ≡ all_digits s
+unfolding all_digits
+digits_by [] = refl
+digits_by (b ∷ s) = rw (digits_by s)
 
 digits_each : (s : List ℕ) (i : ℕ) → all_digits s ≡ true → i < length s → digit_of (get_or s i 0) < 16
 unfolding all_digits

@@ -1,7 +1,5 @@
 -- The fields of a line, and what their texts stand for.
 use Rattle.std.specs.Prelude.{ℕ, zero, suc, ◌+◌, ◌-◌, ◌*◌, ◌%◌, ◌^◌, List, [], ◌∷◌, Bool, true, false, cond, ◌&&◌, length, take, drop, leb, ltb, eqb, Option, Some, None}
-use Rattle.test_lines.specs.declared.hex.Number.{Number}
-use Rattle.test_lines.specs.declared.hex.Count.{Count}
 
 -- how many bytes come before the first `stop`; all of them if there is none
 unfoldable pub span : ℕ → List ℕ → ℕ
@@ -86,12 +84,3 @@ list_count s from room =
       | None ↦ None
       | Some n ↦ cond (leb n room && eqb (length (numbers_of_fields s (from + 1) 1 n)) n) (Some n) None
     ]
-
--- what an answer says: the number that was read, or how many bytes or numbers were
-abbrev pub number_of : Number → Option ℕ
-number_of (Number.Value n) = Some n
-number_of Number.Bad = None
-
-abbrev pub count_of : Count → Option ℕ
-count_of (Count.Of n) = Some n
-count_of Count.Bad = None

@@ -5,6 +5,6 @@ mod hex;
 mod input;
 mod line;
 
-pub use hex::{Count, Number, digit, parse_bytes, parse_list, parse_number, parse_numbers};
+pub use hex::{digit, parse_bytes, parse_list, parse_number, parse_numbers};
 pub use input::read_full;
-pub use line::{after_line, field, find, first, line_at, same};
+pub use line::{after_line, field, find, first, line_at};

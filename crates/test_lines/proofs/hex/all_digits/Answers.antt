@@ -1,19 +1,12 @@
-use native.Mathlib.Omega.{arith}
-use mathlib.Core.Path.{refl, sym, ◌∙◌}
-use Rattle.test_lines.proofs.LinesLaws.{digits_next, digits_other, digits_end}
+-- `test_lines::hex::all_digits` meets its contract.
+use Rattle.std.proofs.Common.{ltb, ◌∙◌, rules, tests}
+use Rattle.std.proofs.lemmas.Iterator.{YieldsList-from_slice}
+use Rattle.std.proofs.lemmas.Iterator.Search.{all_from_yields_List}
+use Rattle.test_lines.specs.Lines.{digit_of}
+use Rattle.test_lines.proofs.LinesLaws.{digits_by}
 use Rattle.test_lines.proofs.hex.all_digits.Goals as goal
-
-pub loop-i-init : goal.loop-i-init
-loop-i-init c = refl
-
-pub returns-then-digit-gt15 : goal.returns-then-digit-gt15
-returns-then-digit-gt15 c =
-    digits_other c.args.s.now c.loop-i.i (omega arith) (omega arith) ∙ sym c.loop-i.invariant
-
-pub loop-i-preserved : goal.loop-i-preserved
-loop-i-preserved c =
-    c.loop-i.invariant ∙ digits_next c.args.s.now c.loop-i.i (omega arith) (omega arith)
 
 pub returns : goal.returns
 returns c =
-    digits_end c.args.s.now c.loop-i.i (omega arith) ∙ sym c.loop-i.invariant
+    let s = c.args.s.now in
+    all_from_yields_List (λ b. ltb (digit_of b) 16) _ _ c.all.result c.all.ensures.ran (YieldsList-from_slice s cc) (λ x b q k. search (rules, tests)) ∙ digits_by s

@@ -1,34 +1,36 @@
-use native.Mathlib.Omega.{arith}
-use mathlib.Core.Path.{refl, sym, ◌∙◌}
+use Rattle.std.proofs.Common.{ℕ, ◌+◌, drop, ap, arith, rules, refl, sym, ◌∙◌}
+use Rattle.test_lines.specs.Lines.{hex_value}
 use Rattle.test_lines.proofs.LinesLaws.{digits_next, digits_other, digits_end, value_next, value_end, value_large, number_empty, number_other, number_large, number_read}
-use borrow.Author.Rules.{rules}
 use Rattle.test_lines.proofs.hex.parse_number.Goals as goal
 
-pub returns-then-s-eq0 : goal.returns-then-s-eq0
-returns-then-s-eq0 c = number_empty _ (omega arith)
+pub returns-then-is_empty : goal.returns-then-is_empty
+returns-then-is_empty c = number_empty _ (search rules)
 
-pub loop-i-init : goal.loop-i-init
-loop-i-init c = (omega arith, omega arith, refl, refl)
+pub loop-b-init : goal.loop-b-init
+loop-b-init c = (search rules, omega arith, refl, refl)
 
 pub returns-then-d-gt15 : goal.returns-then-d-gt15
 returns-then-d-gt15 c =
-    number_other _ (digits_other c.args.s.now c.loop-i.i (omega arith) (omega arith) ∙ sym c.loop-i.invariant.2)
+    number_other _ (digits_other c.args.s.now c.loop-b.b-index (omega arith) (omega arith) ∙ sym c.loop-b.invariant.2)
 
-pub returns-then-value-gt1152921504606846975 : goal.returns-then-value-gt1152921504606846975
-returns-then-value-gt1152921504606846975 c =
-    number_large _ (omega (arith, value_large c.args.s.now c.loop-i.i c.loop-i.value _ c.digit-d.ensures (omega arith) _ c.loop-i.invariant.3))
+pub returns-in_err-value : goal.returns-in_err-value
+returns-in_err-value c =
+    c.from_residual.ensures
+    ∙ number_large _ (omega (arith, value_large c.args.s.now c.loop-b.b-index c.loop-b.value _ c.digit-d.ensures (omega arith) _ c.loop-b.invariant.3))
 
-pub loop-i-preserved : goal.loop-i-preserved
-loop-i-preserved c =
-    let s = c.args.s.now in (
-      search rules,
-      search rules,
-      c.loop-i.invariant.2 ∙ digits_next s c.loop-i.i (omega arith) (omega arith),
-      c.loop-i.invariant.3 ∙ value_next s c.loop-i.i c.loop-i.value _ c.digit-d.ensures (omega arith),
+pub loop-b-preserved : goal.loop-b-preserved
+loop-b-preserved c =
+    let s = c.args.s.now in
+    let i = c.loop-b.b-index in (
+      c.loop-b.invariant.0,
+      omega (arith, c.in_ok-value.ensures),
+      c.loop-b.invariant.2 ∙ digits_next s i (omega arith) (omega arith),
+      c.loop-b.invariant.3 ∙ value_next s i c.loop-b.value _ c.digit-d.ensures (omega arith) ∙ ap (λ (v : ℕ). hex_value v (drop (i + 1) s)) (omega (arith, c.in_ok-value.ensures)),
     )
 
 pub returns : goal.returns
 returns c =
     let s = c.args.s.now in
-    number_read _ _ c.loop-i.invariant.0 (digits_end s c.loop-i.i (omega arith) ∙ sym c.loop-i.invariant.2)
-    (c.loop-i.invariant.3 ∙ value_end s c.loop-i.i c.loop-i.value (omega arith)) c.loop-i.invariant.1
+    let i = c.loop-b.b-index in
+    number_read _ _ c.loop-b.invariant.0 (digits_end s i (omega arith) ∙ sym c.loop-b.invariant.2)
+    (c.loop-b.invariant.3 ∙ value_end s i c.loop-b.value (omega arith)) c.loop-b.invariant.1

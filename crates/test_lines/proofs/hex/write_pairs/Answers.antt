@@ -5,7 +5,7 @@ use borrow.Author.Rules.{rules}
 use Rattle.test_lines.proofs.hex.write_pairs.Goals as goal
 
 pub loop-n-init : goal.loop-n-init
-loop-n-init c = (omega arith, refl, refl)
+loop-n-init c = (refl, refl)
 
 pub overflow_mul-out : goal.overflow_mul-out
 overflow_mul-out c = let b = pair_byte _ c.loop-n.n c.requires.0 (omega arith) in search rules
@@ -20,10 +20,9 @@ pub loop-n-preserved : goal.loop-n-preserved
 loop-n-preserved c =
     let s = c.args.s.now in (
       search rules,
-      search rules,
-      pairs_next s c.args.out.now c.loop-n.n _ _ c.loop-n.invariant.2 (omega arith) (omega arith) (omega arith),
+      pairs_next s c.args.out.now c.loop-n.n _ _ c.loop-n.invariant.1 (omega arith) (omega arith) (omega arith),
     )
 
 pub returns : goal.returns
 returns c =
-    c.loop-n.invariant.2 ∙ pairs_written c.args.s.now c.args.out.now c.loop-n.n (omega arith)
+    c.loop-n.invariant.1 ∙ pairs_written c.args.s.now c.args.out.now c.loop-n.n (omega arith)

@@ -1,12 +1,7 @@
--- `test_lines::line::field` meets its contract. The invariant: the field that is `left` fields after the place `at` is the answer.
-use Prim.Native.Nat.{◌≤◌}
-use mathlib.Core.Path.{◌≡◌}
-use lib.ListN.{length, drop}
+-- `test_lines::line::field` meets its contract. The invariant: the field that is as many fields after the place `at` as turns are left is the answer.
+use Rattle.std.proofs.Common.{◌≡◌, ◌-◌, ◌≤◌, length, drop}
 use Rattle.test_lines.specs.Lines.{field_of}
 use Rattle.test_lines.proofs.line.field.Given as goal
 
-abbrev pub invariant-loop-left : goal.invariant-loop-left
-invariant-loop-left l = (l.at ≤ length l.line) × (field_of l.line l.number ≡ field_of (drop l.at l.line) l.left)
-
-abbrev pub decreases-loop-left : goal.decreases-loop-left
-decreases-loop-left l = l.left
+abbrev pub invariant-loop : goal.invariant-loop
+invariant-loop l = (l.at ≤ length l.line) × (field_of l.line l.number ≡ field_of (drop l.at l.line) (l.number - l.counter))

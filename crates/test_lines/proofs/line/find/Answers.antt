@@ -1,5 +1,5 @@
-use native.Mathlib.Omega.{arith}
-use mathlib.Core.Path.{refl, sym, ◌∙◌}
+use Rattle.std.proofs.Math.Decide.{dec_le}
+use Rattle.std.proofs.Common.{◌≡◌, length, arith, refl, sym, ◌∙◌}
 use Rattle.test_lines.proofs.LinesLaws.{find_here, find_next, find_end}
 use Rattle.test_lines.proofs.line.find.Goals as goal
 
@@ -13,4 +13,8 @@ pub loop-i-preserved : goal.loop-i-preserved
 loop-i-preserved c = c.loop-i.invariant ∙ find_next _ _ _ (omega arith) (λ e. omega arith)
 
 pub returns : goal.returns
-returns c = find_end _ _ _ (omega arith) ∙ sym c.loop-i.invariant
+returns c =
+    elim (dec_le c.args.at (length c.args.s.now)) [
+      | yes h ↦ let e : c.max.result ≡ c.loop-i.i = omega (arith, c.max.ensures) in e ∙ find_end _ _ _ (omega arith) ∙ sym c.loop-i.invariant
+      | no h ↦ let e : c.max.result ≡ c.args.at = omega (arith, c.max.ensures) in e ∙ find_end _ _ _ (omega arith)
+    ]
