@@ -3,12 +3,12 @@
 use Rattle.std.specs.Prelude.{ℕ, ◌≡◌, refl, List, [], ◌∷◌, ◌++◌}
 use Rattle.util.specs.Letters.{letters}
 use Rattle.util.specs.LittleEndian.{little_endian}
-use Rattle.util.specs.Cstr.{part_of}
+use Rattle.util.specs.Cstr.{place, part_of}
 use Rattle.segment.specs.Segments.{segments_of}
 use Rattle.refusal.specs.Refusal.{answered}
 use Rattle.refusal.specs.Guarded.{any_wrapping, fault, guarded}
 use Rattle.typedescriptor.specs.Slots.{rows_from, rows}
-use Rattle.bundle.specs.Bundle.{part, body_fits, section_in}
+use Rattle.bundle.specs.Bundle.{body_fits, section_in}
 use Rattle.bundle.specs.Open.{is_at, taken_at, answer, open_bundle}
 use Rattle.bundle.specs.declared.open.Section.{Section}
 use Rattle.bundle_parts.specs.Parts.{numbers}
@@ -26,7 +26,7 @@ abbrev bare : ℕ → List ℕ
 bare kind = 0 ∷ 0 ∷ 0 ∷ 0 ∷ kind ∷ 0 ∷ []
 
 abbrev missing : Section
-missing = record { address = 0; part = part 0 0 }
+missing = record { address = 0; part = place 0 0 }
 
 abbrev end_zero : List (List ℕ)
 end_zero = (letters "end 0" ++ 10 ∷ []) ∷ []
@@ -35,7 +35,7 @@ abbrev refused_two : List (List ℕ)
 refused_two = (letters "refused 2" ++ 10 ∷ []) ∷ []
 
 pub record EmptyWorked : Type 0 where
-  pub nothing_in_it : accept_bundle [] ≡ answered (record { image = part 0 0; segments = part 0 0; types = missing; fields = missing; strings = missing })
+  pub nothing_in_it : accept_bundle [] ≡ answered (record { image = place 0 0; segments = place 0 0; types = missing; fields = missing; strings = missing })
   pub no_bytes : printed [] ≡ end_zero
   pub one_byte : printed (0 ∷ []) ≡ refused_two
   pub two_bytes : printed (0 ∷ 0 ∷ []) ≡ refused_two

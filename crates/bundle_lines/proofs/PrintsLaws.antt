@@ -1,13 +1,12 @@
 -- Stepping to the end gives the lines of the definition, and then nothing is left: for every bundle, and for every number of steps from
 -- 16,385 on.
 use Prim.Native.Nat.{ℕ, zero, suc, ◌+◌, ◌-◌, ◌%◌, ◌^◌, ◌≤◌, ◌<◌}
-use Rattle.std.proofs.Common.{add-zero, zero-add, mod-eq_of_lt, arith, sym, ◌∙◌, length-append, length-drop, length-take-le, take_at}
-use Rattle.std.specs.Prelude.{◌≡◌, List, [], ◌∷◌, ◌++◌, map, true, false, length, take, drop, Option, Some, None}
+use Rattle.std.proofs.Common.{add-zero, zero-add, mod-eq_of_lt, arith, sym, ◌∙◌, length-drop, length-take-le}
+use Rattle.std.specs.Prelude.{◌≡◌, List, [], ◌∷◌, ◌++◌, map, true, false, length, drop, Option, Some, None}
 use Rattle.std.proofs.Math.Path.{refl, ap}
 use Rattle.refusal.specs.Refusal.{Guarded, answered, refused}
 use Rattle.refusal.specs.Guarded.{any_wrapping, fault}
 use Rattle.segment.specs.Segments.{segments_of}
-use Rattle.util.specs.Buffer.{at_start}
 use Rattle.util.specs.Cstr.{place, part_of}
 use Rattle.util.specs.CstrLaws.{part_in}
 use Rattle.bundle_parts.specs.Parts.{bytes_of, segment_numbers}
@@ -139,7 +138,7 @@ bundle_prints : (s : List ℕ) (l : Layout) (n : ℕ) → Fit s l → lines_most
 unfolding lines
 bundle_prints s l n f h =
     let few : slots (bytes_of s l.types.part) ≤ 16384 =
-    omega (arith, part_length s l.types.part.start l.types.part.length f.types, f.types, f.short) in
+    omega (arith, part_length s l.types.part.start l.types.part.size f.types, f.types, f.short) in
     let ns : List ℕ = segment_numbers s l in
     let all : Slots.rows (bytes_of s l.image) ns (bytes_of s l.types.part) l.types.address ≡ below s ns l 0 = rows_start (bytes_of s l.image) ns (bytes_of s l.types.part) l.types.address in
     let t : taken n s ns (at s ns l 0 0) ≡ spelled s ns l 0 (below s ns l 0) = rows_taken s ns l 16384 n 0 0 (omega arith) (omega arith) (omega arith) in

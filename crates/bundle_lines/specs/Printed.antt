@@ -7,7 +7,7 @@ use Rattle.bundle.specs.declared.open.Layout.{Layout}
 use Rattle.type_lines.specs.Lines.{refused_line, lines, Line, line, line_step}
 use Rattle.type_lines.specs.declared.lines.LineIter.{LineIter}
 use Rattle.bundle_lines.specs.declared.lines.BundleLineIter.{BundleLineIter}
-use Rattle.bundle_lines.specs.declared.lines.PrintStep.{PrintStep}
+use Rattle.bundle_lines.specs.declared.lines.PrintedLine.{PrintedLine}
 
 -- all lines of a bundle
 unfoldable pub printed : List ℕ → List (List ℕ)
@@ -49,10 +49,8 @@ print_step s segments (refusal n) = Some (line (refused_line n) finished)
 print_step s segments finished = None
 
 -- what a step's answer says, with the line's buffer after it
-abbrev pub print_answer : List ℕ → PrintStep → Guarded (Option (Line Pending))
-print_answer buffer (PrintStep.Line n p) = answered (Some (record { text = take n buffer; size = n; next = pending_of p }))
-print_answer buffer PrintStep.Done = answered None
-print_answer buffer (PrintStep.Refused x) = refused (refusal_number x)
+abbrev pub print_answer : List ℕ → Option PrintedLine → Option (Line Pending)
+print_answer buffer o = option_map (λ l. record { text = take l.length buffer; size = l.length; next = pending_of l.next }) o
 
 -- the numbers of the segments for what is left to print
 abbrev pub numbers_for : List ℕ → Pending → List ℕ

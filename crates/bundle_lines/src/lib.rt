@@ -3,4 +3,4 @@
 
 mod lines;
 
-pub use lines::{BundleLineIter, LINES, PrintStep, start};
+pub use lines::{BundleLineIter, LINES, PrintedLine, start};

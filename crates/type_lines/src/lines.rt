@@ -174,7 +174,7 @@ fn next_into(
 impl LineIter {
     // The walk from the first line on.
     pub fn new() -> LineIter
-        ensures { (result.slot ≡ 0) × (result.given ≡ 0) × (result.ended ≡ false) }
+        ensures { result ≡ record { slot = 0; given = 0; ended = false } }
     {
         LineIter {
             slot: 0,
