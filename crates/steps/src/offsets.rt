@@ -1,34 +1,25 @@
 // The byte offsets of a struct's fields. `field_offsets::field_offset` returns one of them by its number; it takes no segments.
 ghost use Rattle.std.specs.Prelude.{◌≡◌};
-ghost use Rattle.refusal.specs.Refusal.{answered};
+ghost use Rattle.refusal.specs.Refusal.{outcome, answered};
+ghost use Rattle.refusal.specs.Guarded.{guarded};
 ghost use Rattle.type_body.specs.Body.{body_of};
 ghost use Rattle.field_offsets.specs.Offsets.{offsets_place, static_place};
-ghost use Rattle.refusal.specs.Guarded.{guarded};
-ghost use Rattle.steps.specs.Offsets.{offsets_answer};
 
 use field_offsets::FieldOffsets;
-use refusal::{Fault, Refusal};
+use refusal::Refusal;
 use type_body::TypeBody;
-
-#[derive(Clone, Copy)]
-pub enum OffsetsAnswer {
-    Offsets(FieldOffsets),
-    Refused(Refusal),
-}
 
 // Where the offsets of a body's fields lie, for metadata at an address.
 pub fn field_offsets(
     image: &[u8],
     segments: &[u64],
-    body: TypeBody,
+    body: Option<TypeBody>,
     metadata_va: u64,
-) -> OffsetsAnswer
-    ensures { offsets_answer result ≡ guarded segments.now (answered (offsets_place image.now segments.now (body_of body) metadata_va)) }
+) -> Result<Option<FieldOffsets>, Refusal>
+    ensures { outcome result ≡ guarded segments.now (answered (offsets_place image.now segments.now (body_of body) metadata_va)) }
 {
-    if let Fault::Refused(refusal) = refusal::find_fault(segments) {
-        return OffsetsAnswer::Refused(refusal);
-    }
-    OffsetsAnswer::Offsets(field_offsets::field_offsets(image, segments, body, metadata_va))
+    refusal::find_fault(segments)?;
+    Ok(field_offsets::field_offsets(image, segments, body, metadata_va))
 }
 
 // The same for the descriptor with these flags at an address, for the metadata that its singleton pointer refers to.
@@ -37,11 +28,9 @@ pub fn static_field_offsets(
     segments: &[u64],
     address: u64,
     flags: u32,
-) -> OffsetsAnswer
-    ensures { offsets_answer result ≡ guarded segments.now (answered (static_place image.now segments.now address flags)) }
+) -> Result<Option<FieldOffsets>, Refusal>
+    ensures { outcome result ≡ guarded segments.now (answered (static_place image.now segments.now address flags)) }
 {
-    if let Fault::Refused(refusal) = refusal::find_fault(segments) {
-        return OffsetsAnswer::Refused(refusal);
-    }
-    OffsetsAnswer::Offsets(field_offsets::static_field_offsets(image, segments, address, flags))
+    refusal::find_fault(segments)?;
+    Ok(field_offsets::static_field_offsets(image, segments, address, flags))
 }
