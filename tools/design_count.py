@@ -137,7 +137,7 @@ TABLE = [
     (1, "c_rows", "hodrupec_file_offset hodrupec_text hodrupec_field_name hodrupec_next_row hodrupec_next_context hodrupec_qualified_name",
      r"-> u64", "a call's status is a number"),
     (1, "c_blocks", "hodrupec_first_block hodrupec_next_block", r"-> u64", "a call's status is a number"),
-    (2, "util", "read_u16_le_at read_u32_le_at read_u64_le_at read_u32_be_at read_u64_be_at", r"\boff", "a number of 2, 4 or 8 bytes at an offset, by byte order"),
+    (2, "util", "read_u16_le_at read_u32_le_at read_u64_le_at read_u32_be_at read_u64_be_at", r"data\.len\(\)|match", "a number of 2, 4 or 8 bytes at an offset, by byte order"),
     (2, "util", "u16_at u32_at i32_at", r"match|unwrap_or", "a number in a header, or 0"),
     (2, "util", "byte16 byte32", r"b as u", "a byte as a wider number (and `byte64` of leb128)"),
     (2, "c_numbers", "half wide size", r"as u64", "a number as a wider one"),
@@ -257,7 +257,7 @@ def count(files):
             found.add(3, it.file, it.name, f"{loops} loop{'s' if loops > 1 else ''} by hand")
         if METHOD.search(it.name) and it.crate != "util":
             found.add(3, it.file, it.name, "a method of the library by hand")
-        if CONVERT.search(it.name) and (it.crate, it.name) not in PASSES_ON:
+        if CONVERT.search(it.name) and (it.crate, it.name) not in PASSES_ON and re.search(r"\b(?:match|if|while|for)\b|[%/] ", code):
             found.add(4, it.file, it.name, "a conversion, comparison or print by hand")
         buffers = re.findall(r"let mut (\w+) = \[\d\w*; [\w ]+\]", code)
         if buffers:
