@@ -4,6 +4,7 @@ use Rattle.std.specs.Prelude.{ℕ, zero, suc, ◌+◌, ◌-◌, ◌^◌, ◌≤�
 use Rattle.refusal.specs.Refusal.{Guarded, answered, refused}
 use Rattle.refusal.specs.declared.Refusal.{Refusal}
 use Rattle.util.specs.Buffer.{at_start}
+use Rattle.util.specs.declared.cstr.Place.{Place}
 use Rattle.util.specs.Cstr.{place, part_of}
 use Rattle.parent.specs.Chain.{chain}
 use Rattle.qualified_name.specs.Name.{hops}
@@ -29,32 +30,32 @@ filled (refused n) t buffer = buffer
 filled (answered n) t buffer = at_start t buffer
 
 -- the hops of the first `n` names, the last one first
-unfoldable pub gathered : List ℕ → List ℕ → List ℕ → ℕ → List ℕ
-gathered image places lengths zero = []
-gathered image places lengths (suc n) =
-    (part_of image (place (get_or places n 0) (get_or lengths n 0)) ++ (46 ∷ [])) ++ gathered image places lengths n
+unfoldable pub gathered : List ℕ → List Place → ℕ → List ℕ
+gathered image names zero = []
+gathered image names (suc n) =
+    (part_of image (get_or names n (place 0 0)) ++ (46 ∷ [])) ++ gathered image names n
 
 -- the number of bytes of the hops and of what comes after them, or 2^64 - 1 if it would be more
 abbrev pub room : ℕ → List ℕ → ℕ
 room rest hops = min (rest + length hops) (2 ^ 64 - 1)
 
 -- the hops from address `a` on, where `left` contexts are allowed, are those from `a'` on, where `left'` are, and then those of the names
-pub record Block (image segments : List ℕ) (left a rest : ℕ) (places lengths : List ℕ) (count left' a' rest' : ℕ) : Type 0 where
-  pub hops : before image segments left a ≡ before image segments left' a' ++ gathered image places lengths count
+pub record Block (image segments : List ℕ) (left a rest : ℕ) (names : List Place) (count left' a' rest' : ℕ) : Type 0 where
+  pub hops : before image segments left a ≡ before image segments left' a' ++ gathered image names count
   pub deep : deeper image segments left a ≡ deeper image segments left' a'
-  pub bytes : rest' ≡ room rest (gathered image places lengths count)
+  pub bytes : rest' ≡ room rest (gathered image names count)
   pub few : count ≤ 8
   pub fewer : count + left' ≤ left
 
 -- there is no context after those of the names
-pub record Last (image segments : List ℕ) (left a rest : ℕ) (places lengths : List ℕ) (count rest' : ℕ) : Type 0 where
-  pub hops : before image segments left a ≡ gathered image places lengths count
+pub record Last (image segments : List ℕ) (left a rest : ℕ) (names : List Place) (count rest' : ℕ) : Type 0 where
+  pub hops : before image segments left a ≡ gathered image names count
   pub deep : deeper image segments left a ≡ false
-  pub bytes : rest' ≡ room rest (gathered image places lengths count)
+  pub bytes : rest' ≡ room rest (gathered image names count)
   pub few : count ≤ 8
 
 -- what a walk from `a` on ended with, and the names that it kept
-abbrev pub Walked : List ℕ → List ℕ → ℕ → ℕ → ℕ → List ℕ → List ℕ → Result Walk Refusal → Type 0
-Walked image segments left a rest places lengths (Ok (Walk.Ended count rest')) = Last image segments left a rest places lengths count rest'
-Walked image segments left a rest places lengths (Ok (Walk.Full next left' rest')) = Block image segments left a rest places lengths 8 left' next rest'
-Walked image segments left a rest places lengths (Err r) = (r ≡ Refusal.DeepContexts) × (deeper image segments left a ≡ true)
+abbrev pub Walked : List ℕ → List ℕ → ℕ → ℕ → ℕ → List Place → Result Walk Refusal → Type 0
+Walked image segments left a rest names (Ok (Walk.Ended count rest')) = Last image segments left a rest names count rest'
+Walked image segments left a rest names (Ok (Walk.Full next left' rest')) = Block image segments left a rest names 8 left' next rest'
+Walked image segments left a rest names (Err r) = (r ≡ Refusal.DeepContexts) × (deeper image segments left a ≡ true)

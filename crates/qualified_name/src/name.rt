@@ -11,6 +11,7 @@ use parent::{CONTEXTS, has_name, read_context_name, read_header};
 use refusal::Refusal;
 use segment::Mapping;
 use typedescriptor::Row;
+use util::Place;
 
 // What a walk over contexts ended with. `room` is what the names, their dots and `rest` more bytes take.
 #[derive(Clone, Copy)]
@@ -46,11 +47,10 @@ fn collect(
     descriptor_va: u64,
     left: usize,
     rest: usize,
-    places: &mut [usize],
-    lengths: &mut [usize],
+    names: &mut [Place],
 ) -> Result<Walk, Refusal>
-    requires { (length places.old ≡ 8) × (length lengths.old ≡ 8) }
-    ensures { Walked image.now (with_mapping mapping segments.now) left descriptor_va rest places.new lengths.new result }
+    requires { length names.old ≡ 8 }
+    ensures { Walked image.now (with_mapping mapping segments.now) left descriptor_va rest names.new result }
 {
     let mut count = 0;
     let mut next = descriptor_va;
@@ -66,8 +66,7 @@ fn collect(
         allowed -= 1;
         if has_name(header.flags) {
             if let Some(name) = read_context_name(image, segments, mapping, next) {
-                places[count] = name.start;
-                lengths[count] = name.size;
+                names[count] = name;
                 room = room.saturating_add(name.size + 1);
                 count += 1;
             }
@@ -82,21 +81,15 @@ fn collect(
 }
 
 // Writes the first `count` names, the last of them first, each with its dot.
-fn put_hops(
-    image: &[u8],
-    places: &[usize],
-    lengths: &[usize],
-    count: usize,
-    buffer: &mut [u8],
-    at: usize,
-) -> usize
-    requires count_in_bounds { (count ≤ length places.now) × (count ≤ length lengths.now) }
-    requires count_in_bounds_2 { at + length (gathered image.now places.now lengths.now count) ≤ length buffer.old }
-    ensures { Put buffer.old at (gathered image.now places.now lengths.now count) result buffer.new }
+fn put_hops(image: &[u8], names: &[Place], count: usize, buffer: &mut [u8], at: usize) -> usize
+    requires count_in_bounds { count ≤ length names.now }
+    requires count_in_bounds_2 { at + length (gathered image.now names.now count) ≤ length buffer.old }
+    ensures { Put buffer.old at (gathered image.now names.now count) result buffer.new }
 {
     let mut end = at;
     for k in (0..count).rev() {
-        let dot = util::put(util::part(image, places[k], lengths[k]), buffer, end);
+        let name = names[k];
+        let dot = util::put(util::part(image, name.start, name.size), buffer, end);
         end = util::put(b".", buffer, dot);
     }
     end
@@ -131,8 +124,7 @@ fn write_hops(
         size,
         fileoff,
     };
-    let mut places = [0usize; 8];
-    let mut lengths = [0usize; 8];
+    let mut names = [Place { start: 0, size: 0 }; 8];
     let walk = collect(
         image,
         segments,
@@ -140,15 +132,14 @@ fn write_hops(
         descriptor_va,
         left,
         rest,
-        &mut places,
-        &mut lengths,
+        &mut names,
     )?;
     match walk {
         Walk::Ended { count, room } => {
             if buffer.len() < room {
                 return Err(Refusal::LongName);
             }
-            Ok(put_hops(image, &places, &lengths, count, buffer, 0))
+            Ok(put_hops(image, &names, count, buffer, 0))
         }
         Walk::Full {
             next,
@@ -158,7 +149,7 @@ fn write_hops(
             let at = write_hops(
                 image, segments, vmaddr, size, fileoff, next, allowed, room, buffer,
             )?;
-            Ok(put_hops(image, &places, &lengths, 8, buffer, at))
+            Ok(put_hops(image, &names, 8, buffer, at))
         }
     }
 }

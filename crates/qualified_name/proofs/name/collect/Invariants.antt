@@ -7,7 +7,7 @@ use Rattle.qualified_name.proofs.name.collect.Given as goal
 
 abbrev pub invariant-loop-count : goal.invariant-loop-count
 invariant-loop-count l =
-    (length l.places ≡ 8) × (length l.lengths ≡ 8) × Block l.image (with_mapping l.mapping l.segments) l.left l.descriptor_va l.rest l.places l.lengths l.count l.allowed l.next l.room
+    (length l.names ≡ 8) × Block l.image (with_mapping l.mapping l.segments) l.left l.descriptor_va l.rest l.names l.count l.allowed l.next l.room
 
 abbrev pub decreases-loop-count : goal.decreases-loop-count
 decreases-loop-count l =

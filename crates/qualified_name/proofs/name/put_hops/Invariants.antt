@@ -3,4 +3,4 @@ use Rattle.qualified_name.proofs.WalkLaws.{Putting}
 use Rattle.qualified_name.proofs.name.put_hops.Given as goal
 
 abbrev pub invariant-loop-k : goal.invariant-loop-k
-invariant-loop-k l = Putting l.image l.places l.lengths l.count l.initial.buffer l.at l.k l.end l.buffer
+invariant-loop-k l = Putting l.image l.names l.count l.initial.buffer l.at l.k l.end l.buffer
