@@ -8,7 +8,7 @@ use Rattle.std.proofs.Math.Bool.{Bool, cond, and-eq-true_iff}
 use Rattle.runtime.specs.Reads.{Reads, and_then, run, Range, bytes_range, path, All, every, Clear, ends_by}
 use Rattle.runtime.proofs.ReadsLaws.{cut, local, range_bytes}
 use Rattle.runtime.proofs.PathLaws.{bytes_clear, by_ends}
-use Rattle.typedescriptor.specs.Row.{TypeRow, descriptor}
+use Rattle.typedescriptor.specs.Row.{TypeRow}
 use Rattle.typedescriptor.specs.Slots.{slots, Found, found, rows_from, rows}
 use Rattle.items.specs.Keys.{Sections, Key, Answer, slot_of}
 use Rattle.items.specs.Items.{item, row_of_slot}

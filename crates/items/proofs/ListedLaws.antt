@@ -3,18 +3,16 @@
 -- the contexts around a row (`contexts-listed`, with their names `contexts-named`), the descriptors of a fields section
 -- (`descriptors-listed`) and their records (`records-listed`). What one call reads is its item (`body-listed`, `block_listed`,
 -- `init-listed`, `pointer-listed`, `offsets-listed`, `static-offsets-listed`). A slot without a row has no item (`no_row`).
-use Prim.Native.Nat.{ℕ, zero, suc, ◌+◌, ◌*◌, ◌^◌, ◌≤◌, ◌<◌}
+use Prim.Native.Nat.{ℕ, zero, suc, ◌+◌, ◌*◌, ◌≤◌, ◌<◌}
 use Rattle.std.proofs.Math.Decide.{dec_lt}
 use Rattle.std.proofs.Common.{arith, ◌∙◌, lt-ltb, le-ltb}
 use Rattle.std.proofs.Math.Path.{◌≡◌, refl, sym, ap}
 use mathlib.Core.List.{List, [], ◌∷◌, map}
-use Rattle.std.specs.Prelude.{Bool, cond, length, take, drop, leb, ltb, Option, Some, None, option_map, slice_get}
+use Rattle.std.specs.Prelude.{Bool, cond, length, ltb, Option, Some, None, option_map, slice_get}
 use Rattle.std.proofs.Math.Bool.{true, false}
-use Rattle.runtime.specs.Reads.{Reads, done, nothing, and_then, run, bind}
+use Rattle.runtime.specs.Reads.{Reads, nothing, and_then, run, bind}
 use Rattle.runtime.proofs.ReadsLaws.{run_bind}
-use Rattle.runtime.proofs.PathLaws.{bytes_read_lem}
 use Rattle.classtrailers.specs.Blocks.{placed_block, table_block, BlockRow, block_table, row_at, row_number, block, with_block, blocks_of, blocks}
-use Rattle.classtrailers.specs.declared.trailing.Trailing.{Trailing}
 use Rattle.classtrailers.proofs.BlocksLaws.{stepped_blocks, stepped_blocks_lem, RecordedAs, block_recorded}
 use Rattle.classtrailers.specs.declared.block.Block.{Block}
 use Rattle.classtrailers.specs.declared.block.BlockKind.{BlockKind}
@@ -25,8 +23,7 @@ use Rattle.typedescriptor.specs.Steps.{stepped_rows}
 use Rattle.typedescriptor.proofs.SlotsLaws.{stepped_rows_lem}
 use Rattle.type_body.specs.Body.{Body, body, trailing, trailing_start}
 use Rattle.type_body.specs.Singleton.{needing, singleton_init, singleton_pointer}
-use Rattle.type_body.specs.Items.{slot_block, slot_pointer, pointer_of_block}
-use Rattle.typedescriptor.proofs.PathLaws as Slot
+use Rattle.type_body.specs.Items.{slot_pointer, pointer_of_block}
 use Rattle.type_body.proofs.PathLaws as Hung
 use Rattle.field_offsets.specs.Offsets.{field_offsets, offsets_place, static_place, metadata_at, blocks_start}
 use Rattle.field_offsets.specs.declared.offsets.FieldOffsets.{FieldOffsets}
@@ -302,7 +299,7 @@ module _ (image segments : List ℕ) (s : Sections) (i m : ℕ) where
     pub offsets_listed : run image segments (item s (Key.offsets i m)) ≡ option_map (λ v. Answer.offsets (offset_list image v)) (offsets_place image segments (Some b) m)
     offsets_listed = its_offsets ∙ rw (Vector.offsets_run image segments b m) (go (offsets_place image segments (Some b) m))
       where
-        go : (x : Option Offsets) → option_map Answer.offsets (option_map (offset_list image) x) ≡ option_map (λ v. Answer.offsets (offset_list image v)) x
+        go : (x : Option FieldOffsets) → option_map Answer.offsets (option_map (offset_list image) x) ≡ option_map (λ v. Answer.offsets (offset_list image v)) x
         go None = refl
         go (Some v) = refl
 

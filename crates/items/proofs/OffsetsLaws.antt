@@ -18,7 +18,7 @@ use Rattle.items.specs.Items.{item, body_of_slot, offsets_of_slot}
 use Rattle.items.proofs.ProgramLaws.{path_map}
 
 -- what `field_offsets` returns for a slot's body and a metadata address: the place and the count of its offset list
-unfoldable pub offsets_told : List ℕ → List ℕ → Sections → ℕ → ℕ → Option Offsets
+unfoldable pub offsets_told : List ℕ → List ℕ → Sections → ℕ → ℕ → Option FieldOffsets
 offsets_told image segments s i m = and_then (run image segments (body_of_slot s i)) (λ b. offsets_place image segments (Some b) m)
 
 -- the reads of the item, with the vector as the answer
@@ -26,7 +26,7 @@ vector_read : Body → ℕ → Reads Vector
 vector_read b m = needing (vector b m) (λ v. bytes v.address (4 * v.count) (λ h. done v))
 
 -- the vector's place is that of its address, whatever the image
-placed : List ℕ → Vector → Option Offsets
+placed : List ℕ → Vector → Option FieldOffsets
 placed segments v = option_map (λ o. offsets o v.count) (file_offset (segments_of segments) v.address)
 
 module _ (image segments : List ℕ) (s : Sections) (i m : ℕ) where
@@ -77,7 +77,7 @@ cut_offsets image segments s c i m clear =
     told_placed (take c image) segments s i m
     ∙ rw (cut image segments c (bind (body_of_slot s i) (λ b. vector_read b m)) (rw (its_path image segments s i m) clear), its_path image segments s i m)
     (go (every (ends_by c) (path image segments (item s (Key.offsets i m)))))
-    ∙ ap (λ (x : Option Offsets). cond (every (ends_by c) (path image segments (item s (Key.offsets i m)))) x None) (sym (told_placed image segments s i m))
+    ∙ ap (λ (x : Option FieldOffsets). cond (every (ends_by c) (path image segments (item s (Key.offsets i m)))) x None) (sym (told_placed image segments s i m))
   where
     go : (b : Bool)
         → and_then (cond b (run image segments (bind (body_of_slot s i) (λ b. vector_read b m))) None) (placed segments)

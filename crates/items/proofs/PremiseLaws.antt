@@ -2,11 +2,11 @@
 -- on the path that reads the name (`name-clear`), and conversely (`clear-name`): the premise asks for no more. A row's name is read by the
 -- row (`row-text`), a context's by the program of the crate `parent` (`context-text`), so the premise for them is that of the calls
 -- (`row-clear` and `clear-row`, `clear-context`, `clear-field`).
-use Prim.Native.Nat.{ℕ, ◌+◌, ◌*◌, ◌^◌, ◌≤◌}
+use Prim.Native.Nat.{ℕ, ◌+◌, ◌^◌, ◌≤◌}
 use Rattle.std.proofs.Common.{arith, sym, ap, ◌∙◌, le-ltb}
 use Rattle.std.proofs.Math.Path.{◌≡◌, refl, fun_ext}
 use mathlib.Core.List.{List, [], ◌∷◌, ◌++◌}
-use Rattle.std.specs.Prelude.{Bool, true, false, cond, drop, leb, ltb, eqb, Option, Some, None, option_map}
+use Rattle.std.specs.Prelude.{Bool, true, false, cond, drop, leb, eqb, Option, Some, None, option_map}
 use Rattle.utf8.specs.Text.{until_nul}
 use Rattle.util.specs.LittleEndian.{unsigned_in, signed_in}
 use Rattle.util.specs.Pointer.{relative_pointer}

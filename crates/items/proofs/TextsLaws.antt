@@ -2,7 +2,7 @@
 -- its name (`part-read`, `field-part`, `beside-by`, `beside-read`). So under the premise for a text, and for the name of the row that it
 -- belongs to, the cut image gives the whole image's text, or nothing, or, for a field's name, what the string section has (`cut-beside`). A
 -- text's path has its item's (`beside-path`), and without the item there is no text (`no-beside`).
-use Rattle.std.specs.Prelude.{ℕ, ◌+◌, ◌<◌, List, [], ◌++◌, Bool, ◌&&◌, take, Option, Some, None, option_map}
+use Rattle.std.specs.Prelude.{ℕ, ◌<◌, List, [], ◌++◌, Bool, ◌&&◌, take, Option, Some, None, option_map}
 use Rattle.std.proofs.Math.Decide.{dec_lt}
 use Rattle.std.proofs.Common.{arith, ◌∙◌, append-nil, eq-eqb, ne_eqb}
 use Rattle.std.proofs.Math.Path.{◌≡◌, refl, sym, ap}
