@@ -6,9 +6,8 @@ mod flags;
 mod readers;
 
 pub use flags::{
-    field_kind_number, flag, hodrupec_class_flags, hodrupec_conformance_flags,
-    hodrupec_context_flags, hodrupec_field_flags, hodrupec_field_kind, hodrupec_method_flags,
-    hodrupec_type_flags,
+    field_kind_number, hodrupec_class_flags, hodrupec_conformance_flags, hodrupec_context_flags,
+    hodrupec_field_flags, hodrupec_field_kind, hodrupec_method_flags, hodrupec_type_flags,
 };
 pub use readers::{
     hodrupec_fixed_text, hodrupec_sleb128, hodrupec_u32_be, hodrupec_u64_be, hodrupec_uleb128,

@@ -7,5 +7,6 @@ mod calls;
 
 pub use calls::{
     ANSWERED, THERE, field_name_numbers, hodrupec_field_name, hodrupec_file_offset,
-    hodrupec_next_context, hodrupec_next_row, hodrupec_qualified_name, hodrupec_text, text_numbers,
+    hodrupec_next_context, hodrupec_next_row, hodrupec_qualified_name, hodrupec_text, tell,
+    tell_field_name, tell_text, tell_value, text_numbers, value_numbers,
 };
