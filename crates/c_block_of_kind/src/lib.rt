@@ -4,15 +4,26 @@
 #![tactic(auto)]
 
 ghost use Rattle.std.specs.Prelude.{◌≡◌};
-ghost use Rattle.refusal.specs.Refusal.{answered, mapped};
+ghost use Rattle.refusal.specs.Refusal.{answered, mapped, outcome};
 ghost use Rattle.refusal.specs.Guarded.{guarded};
-ghost use Rattle.steps.specs.Blocks.{block_answer};
 ghost use Rattle.c_rows.specs.Numbers.{Tells};
 ghost use Rattle.c_blocks.specs.Blocks.{start_at, kind_block_numbers, block_numbered};
 
-use c_rows::{ANSWERED, THERE};
-use classtrailers::KindRead;
-use steps::{BlockAnswer, BodyAnswer};
+use c_rows::THERE;
+use classtrailers::Block;
+use refusal::Refusal;
+
+fn kind_block_numbers(block: Option<Block>) -> [u64; 5]
+    ensures { result ≡ kind_block_numbers block }
+{
+    match block {
+        Some(block) => {
+            let numbers = c_blocks::block_numbers(block);
+            [THERE, numbers[0], numbers[1], numbers[2], numbers[3]]
+        }
+        None => [0; 5],
+    }
+}
 
 // The block of the kind with a number, for the descriptor with these flags at an address.
 fn block_numbered(
@@ -21,17 +32,13 @@ fn block_numbered(
     address: u64,
     flags: u32,
     number: u32,
-) -> BlockAnswer
-    ensures { block_answer result ≡ guarded segments.now (answered (block_numbered image.now segments.now (start_at image.now segments.now address flags) number)) }
+) -> Result<Option<Block>, Refusal>
+    ensures { outcome result ≡ guarded segments.now (answered (block_numbered image.now segments.now (start_at image.now segments.now address flags) number)) }
 {
-    match steps::row_body(image, segments, address, flags) {
-        BodyAnswer::Body(body) => match classtrailers::kind_numbered(number) {
-            KindRead::Kind(kind) => {
-                steps::block_of_kind(image, segments, address, flags, body, kind)
-            },
-            KindRead::Nothing => BlockAnswer::Nothing,
-        },
-        BodyAnswer::Refused(refusal) => BlockAnswer::Refused(refusal),
+    let body = steps::row_body(image, segments, address, flags)?;
+    match classtrailers::kind_numbered(number) {
+        Some(kind) => steps::block_of_kind(image, segments, address, flags, body, kind),
+        None => Ok(None),
     }
 }
 
@@ -47,18 +54,6 @@ pub extern "C" fn hodrupec_block_of_kind(
 ) -> u64
     ensures { Tells (mapped kind_block_numbers (guarded segments.now (answered (block_numbered image.now segments.now (start_at image.now segments.now address flags) kind)))) out.old result out.new }
 {
-    match block_numbered(image, segments, address, flags, kind) {
-        BlockAnswer::Block(block) => {
-            let its_kind = block.kind;
-            let number = classtrailers::number_of(its_kind);
-            let n = full_rows::numbers_of(block);
-            *out = [THERE, number as u64, n.first, n.second, n.third];
-            ANSWERED
-        }
-        BlockAnswer::Nothing => {
-            *out = [0; 5];
-            ANSWERED
-        }
-        BlockAnswer::Refused(refusal) => refusal::number(refusal),
-    }
+    let block = block_numbered(image, segments, address, flags, kind);
+    c_rows::tell(block.map(kind_block_numbers), out)
 }

@@ -9,24 +9,56 @@ ghost use Rattle.classtrailers.specs.Blocks.{next_block};
 ghost use Rattle.type_body.specs.Items.{trailers_of};
 ghost use Rattle.refusal.specs.Guarded.{guarded};
 ghost use Rattle.c_rows.specs.Numbers.{Tells};
-ghost use Rattle.c_blocks.specs.Blocks.{start_at, start_numbers, walk_at, block_step_numbers};
+ghost use Rattle.c_blocks.specs.Blocks.{start_at, start_numbers, walk_at, block_numbers, block_step_numbers};
 
-use c_rows::{ANSWERED, THERE};
-use classtrailers::{BlockIter, Trailing};
-use steps::{BodyAnswer, NextBlock};
-use type_body::TrailingRead;
+use c_rows::THERE;
+use classtrailers::{Block, BlockIter, BlockStep, Trailing};
+use type_body::Start;
 
-fn start_numbers(read: TrailingRead) -> [u64; 4]
-    ensures { result ≡ start_numbers (trailers_of read) }
+fn start_numbers(start: Option<Start>) -> [u64; 4]
+    ensures { result ≡ start_numbers start }
 {
-    match read {
-        TrailingRead::Start { trailing, start } => [
-            THERE,
-            c_numbers::flag(trailing.is_class),
-            trailing.extra as u64,
-            start,
-        ],
-        TrailingRead::Nothing => [0; 4],
+    match start {
+        Some(start) => {
+            let trailing = start.trailing;
+            [
+                THERE,
+                u64::from(trailing.is_class),
+                u64::from(trailing.extra),
+                start.start,
+            ]
+        }
+        None => [0; 4],
+    }
+}
+
+// A block's kind, and its three numbers.
+pub fn block_numbers(block: Block) -> [u64; 4]
+    ensures { result ≡ block_numbers block }
+{
+    let kind = classtrailers::number_of(block.kind);
+    let recorded = full_rows::numbers_of(block);
+    [u64::from(kind), recorded.first, recorded.second, recorded.third]
+}
+
+fn block_step_numbers(step: Option<BlockStep>) -> [u64; 7]
+    ensures { result ≡ block_step_numbers step }
+{
+    match step {
+        Some(step) => {
+            let block = block_numbers(step.block);
+            let next = step.next;
+            [
+                THERE,
+                block[0],
+                block[1],
+                block[2],
+                block[3],
+                u64::from(next.row),
+                next.address,
+            ]
+        }
+        None => [0; 7],
     }
 }
 
@@ -41,13 +73,9 @@ pub fn hodrupec_first_block(
 ) -> u64
     ensures { Tells (mapped start_numbers (guarded segments.now (answered (start_at image.now segments.now address flags)))) out.old result out.new }
 {
-    match steps::row_body(image, segments, address, flags) {
-        BodyAnswer::Body(body) => {
-            *out = start_numbers(type_body::trailing(address, flags, body));
-            ANSWERED
-        }
-        BodyAnswer::Refused(refusal) => refusal::number(refusal),
-    }
+    let body = steps::row_body(image, segments, address, flags);
+    let start = body.map(|body| type_body::trailing(address, flags, body));
+    c_rows::tell(start.map(start_numbers), out)
 }
 
 // A step of the walk: 1, the block's kind and its three numbers, and the row and the address from which the walk goes on.
@@ -72,26 +100,8 @@ pub fn hodrupec_next_block(
         row,
         address,
     };
-    match steps::next_block(image, segments, walk) {
-        NextBlock::Block { block, next } => {
-            let its_kind = block.kind;
-            let number = classtrailers::number_of(its_kind);
-            let n = full_rows::numbers_of(block);
-            *out = [
-                THERE,
-                number as u64,
-                n.first,
-                n.second,
-                n.third,
-                next.row as u64,
-                next.address,
-            ];
-            ANSWERED
-        }
-        NextBlock::End => {
-            *out = [0; 7];
-            ANSWERED
-        }
-        NextBlock::Refused(refusal) => refusal::number(refusal),
-    }
+    c_rows::tell(
+        steps::next_block(image, segments, walk).map(block_step_numbers),
+        out,
+    )
 }

@@ -8,7 +8,6 @@ ghost use Rattle.c_rows.specs.Numbers.{Tells};
 ghost use Rattle.full_rows.specs.FullRows.{body_numbers};
 
 use c_rows::ANSWERED;
-use steps::{BodyAnswer, TextAnswer};
 
 // 1, place and length of the text at an address: the name of a superclass, or a type's mangled name. There is none at address 0.
 #[unsafe(no_mangle)]
@@ -20,13 +19,7 @@ pub extern "C" fn hodrupec_text_at(
 ) -> u64
     ensures { Tells (mapped text_numbers (guarded segments.now (answered (text_place image.now segments.now vmaddr)))) out.old result out.new }
 {
-    match steps::text_at(image, segments, vmaddr) {
-        TextAnswer::Text(text) => {
-            *out = c_rows::text_numbers(text);
-            ANSWERED
-        }
-        TextAnswer::Refused(refusal) => refusal::number(refusal),
-    }
+    c_rows::tell_text(steps::text_at(image, segments, vmaddr), out)
 }
 
 // The body of the descriptor with these flags at an address. For a class: 1, the address of the superclass's name (0: none), 1 if the
@@ -44,10 +37,10 @@ pub extern "C" fn hodrupec_body(
     ensures { Tells (mapped body_numbers (guarded segments.now (answered (run image.now segments.now (body address flags))))) out.old result out.new }
 {
     match steps::row_body(image, segments, address, flags) {
-        BodyAnswer::Body(body) => {
+        Ok(body) => {
             full_rows::write_body(body, out);
             ANSWERED
         }
-        BodyAnswer::Refused(refusal) => refusal::number(refusal),
+        Err(refusal) => u64::from(refusal),
     }
 }

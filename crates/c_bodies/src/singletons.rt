@@ -6,9 +6,22 @@ ghost use Rattle.refusal.specs.Guarded.{guarded};
 ghost use Rattle.c_rows.specs.Numbers.{Tells, value_numbers};
 ghost use Rattle.c_bodies.specs.Singletons.{init_numbers};
 
-use c_rows::{ANSWERED, THERE};
-use steps::{InitAnswer, PointerAnswer};
-use type_body::{SingletonMetadataInit, SingletonMetadataPointer};
+use c_rows::THERE;
+use type_body::SingletonMetadataInit;
+
+fn init_numbers(init: Option<SingletonMetadataInit>) -> [u64; 4]
+    ensures { result ≡ init_numbers (init_of init) }
+{
+    match init {
+        Some(init) => [
+            THERE,
+            init.initialization_cache_va,
+            init.incomplete_metadata_va,
+            init.completion_function_va,
+        ],
+        None => [0; 4],
+    }
+}
 
 // 1, and the addresses of the initialization cache, the incomplete metadata and the completion function, each 0 if there is none.
 #[unsafe(no_mangle)]
@@ -20,25 +33,8 @@ pub extern "C" fn hodrupec_singleton_init(
 ) -> u64
     ensures { Tells (mapped init_numbers (guarded segments.now (answered (run image.now segments.now (singleton_init address))))) out.old result out.new }
 {
-    match steps::singleton_init(image, segments, address) {
-        InitAnswer::Init(init) => {
-            *out = match init {
-                SingletonMetadataInit::At {
-                    initialization_cache_va,
-                    incomplete_metadata_va,
-                    completion_function_va,
-                } => [
-                    THERE,
-                    initialization_cache_va,
-                    incomplete_metadata_va,
-                    completion_function_va,
-                ],
-                SingletonMetadataInit::Nothing => [0; 4],
-            };
-            ANSWERED
-        }
-        InitAnswer::Refused(refusal) => refusal::number(refusal),
-    }
+    let init = steps::singleton_init(image, segments, address);
+    c_rows::tell(init.map(init_numbers), out)
 }
 
 // 1 and the metadata's address.
@@ -51,14 +47,5 @@ pub extern "C" fn hodrupec_singleton_pointer(
 ) -> u64
     ensures { Tells (mapped value_numbers (guarded segments.now (answered (run image.now segments.now (singleton_pointer address))))) out.old result out.new }
 {
-    match steps::singleton_pointer(image, segments, address) {
-        PointerAnswer::Pointer(pointer) => {
-            *out = match pointer {
-                SingletonMetadataPointer::At(metadata_va) => [THERE, metadata_va],
-                SingletonMetadataPointer::Nothing => [0; 2],
-            };
-            ANSWERED
-        }
-        PointerAnswer::Refused(refusal) => refusal::number(refusal),
-    }
+    c_rows::tell_value(steps::singleton_pointer(image, segments, address), out)
 }

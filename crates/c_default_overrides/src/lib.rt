@@ -9,8 +9,6 @@ ghost use Rattle.entry_tables.specs.Tables.{guarded_table};
 ghost use Rattle.c_rows.specs.Numbers.{Tells};
 ghost use Rattle.c_tables.specs.Tables.{cursor_at, entry_step_numbers, TellsTable};
 
-use c_rows::ANSWERED;
-use steps::NextEntry;
 use vtable::EntryKind;
 
 // A step of a walk that stands at entry `next`; the words are method and implementation.
@@ -26,14 +24,7 @@ pub extern "C" fn hodrupec_next_default_override(
     ensures { Tells (mapped (entry_step_numbers 2) (guarded segments.now (answered (step_answer (entry_step image.now segments.now default_override (cursor_at base_va count next)))))) out.old result out.new }
 {
     let cursor = c_tables::cursor_at(base_va, count, next);
-    match steps::next_entry(image, segments, cursor, EntryKind::DefaultOverride) {
-        NextEntry::Step(step) => {
-            let n = c_tables::step_numbers(step);
-            *out = [n.told, n.next, n.address, n.first, n.second];
-            ANSWERED
-        }
-        NextEntry::Refused(refusal) => refusal::number(refusal),
-    }
+    c_tables::tell_step(steps::next_entry(image, segments, cursor, EntryKind::DefaultOverride), out)
 }
 
 // Writes three numbers for each default override: its address, the method, the implementation.

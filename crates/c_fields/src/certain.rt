@@ -1,33 +1,26 @@
 // What is certain of an image by its first bytes.
-ghost use Rattle.refusal.specs.Refusal.{answered, mapped};
+ghost use Rattle.std.specs.Prelude.{◌≡◌};
+ghost use Rattle.refusal.specs.Refusal.{answered, mapped, outcome};
 ghost use Rattle.typedescriptor.specs.Slots.{slot_row};
 ghost use Rattle.refusal.specs.Guarded.{guarded};
 ghost use Rattle.certainty.specs.Certain.{certain};
 ghost use Rattle.certainty.specs.JoinedName.{name_certain};
-ghost use Rattle.certainty.specs.Calls.{certainty_of};
 ghost use Rattle.c_rows.specs.Numbers.{Tells};
 ghost use Rattle.c_fields.specs.Certain.{certain_number};
 
-use crate::fields::ANSWERED;
-use certainty::Certainty;
+use refusal::Refusal;
 
-// The number of an answer that no further byte changes.
-const CERTAIN: u64 = 1;
-
-fn tell_certainty(answer: Certainty, out: &mut [u64; 1]) -> u64
-    ensures { Tells (mapped certain_number (certainty_of answer)) out.old result out.new }
+// 1 for what no further byte changes.
+fn certain_number(certain: bool) -> [u64; 1]
+    ensures { result ≡ certain_number certain }
 {
-    match answer {
-        Certainty::Certain => {
-            *out = [CERTAIN];
-            ANSWERED
-        }
-        Certainty::Open => {
-            *out = [0];
-            ANSWERED
-        }
-        Certainty::Refused(refusal) => refusal::number(refusal),
-    }
+    [u64::from(certain)]
+}
+
+fn tell_certain(answer: Result<bool, Refusal>, out: &mut [u64; 1]) -> u64
+    ensures { Tells (mapped certain_number (outcome answer)) out.old result out.new }
+{
+    c_rows::tell(answer.map(certain_number), out)
 }
 
 // For a slot of a types section whose first byte is at `vmaddr`: 1 if its row, or that it has none, is the same in every image that starts
@@ -43,7 +36,7 @@ pub extern "C" fn hodrupec_row_certain(
 ) -> u64
     ensures { Tells (mapped certain_number (guarded segments.now (answered (certain image.now segments.now (slot_row types.now vmaddr slot))))) out.old result out.new }
 {
-    tell_certainty(
+    tell_certain(
         certainty::row_certain(image, segments, types, vmaddr, slot),
         out,
     )
@@ -61,7 +54,7 @@ pub extern "C" fn hodrupec_name_certain(
 ) -> u64
     ensures { Tells (mapped certain_number (guarded segments.now (answered (name_certain image.now segments.now types.now vmaddr slot)))) out.old result out.new }
 {
-    tell_certainty(
+    tell_certain(
         certainty::name_certain(image, segments, types, vmaddr, slot),
         out,
     )

@@ -6,14 +6,11 @@ ghost use Rattle.runtime.specs.Reads.{text_place};
 ghost use Rattle.runtime.specs.FieldName.{field_name};
 ghost use Rattle.runtime.specs.PlaceNumbers.{text_numbers, field_numbers};
 ghost use Rattle.refusal.specs.Guarded.{guarded};
-ghost use Rattle.steps.specs.Bodies.{text_answer};
 ghost use Rattle.c_rows.specs.Numbers.{Tells};
 ghost use Rattle.c_fields.specs.Names.{record_by, descriptor_by};
 
-use crate::fields::ANSWERED;
 use context::FieldDescriptorKind;
 use field::{FieldDescriptor, FieldRecord};
-use steps::{FieldNameAnswer, TextAnswer};
 
 fn record_by(numbers: &[u64; 4]) -> FieldRecord
     ensures { result ≡ record_by numbers.now }
@@ -39,18 +36,6 @@ fn descriptor_by(numbers: &[u64; 6]) -> FieldDescriptor
     }
 }
 
-fn tell_text(answer: TextAnswer, out: &mut [u64; 3]) -> u64
-    ensures { Tells (mapped text_numbers (text_answer answer)) out.old result out.new }
-{
-    match answer {
-        TextAnswer::Text(text) => {
-            *out = c_rows::text_numbers(text);
-            ANSWERED
-        }
-        TextAnswer::Refused(refusal) => refusal::number(refusal),
-    }
-}
-
 // 1, place and length of the mangled name of the type that a field descriptor is for.
 #[unsafe(no_mangle)]
 pub extern "C" fn hodrupec_descriptor_type_name(
@@ -62,7 +47,7 @@ pub extern "C" fn hodrupec_descriptor_type_name(
     ensures { Tells (mapped text_numbers (guarded segments.now (answered (text_place image.now segments.now (descriptor_by descriptor.now).mangled_type_name_va)))) out.old result out.new }
 {
     let name = steps::descriptor_type_name(image, segments, descriptor_by(descriptor));
-    tell_text(name, out)
+    c_rows::tell_text(name, out)
 }
 
 // The same for its superclass.
@@ -76,7 +61,7 @@ pub extern "C" fn hodrupec_descriptor_superclass_name(
     ensures { Tells (mapped text_numbers (guarded segments.now (answered (text_place image.now segments.now (descriptor_by descriptor.now).superclass_va)))) out.old result out.new }
 {
     let name = steps::descriptor_superclass_name(image, segments, descriptor_by(descriptor));
-    tell_text(name, out)
+    c_rows::tell_text(name, out)
 }
 
 // The same for the type of a record's field.
@@ -90,7 +75,7 @@ pub extern "C" fn hodrupec_record_type_name(
     ensures { Tells (mapped text_numbers (guarded segments.now (answered (text_place image.now segments.now (record_by «record».now).mangled_type_name_va)))) out.old result out.new }
 {
     let name = steps::field_type_name(image, segments, record_by(record));
-    tell_text(name, out)
+    c_rows::tell_text(name, out)
 }
 
 // The name of a record's field: 1 if it is in the image, 2 if it is in the string section, whose first byte is at `strings_va`, and its
@@ -106,11 +91,6 @@ pub extern "C" fn hodrupec_record_field_name(
 ) -> u64
     ensures { Tells (mapped field_numbers (guarded segments.now (answered (field_name image.now segments.now strings.now strings_va (record_by «record».now).field_name_va)))) out.old result out.new }
 {
-    match steps::field_name(image, segments, strings, strings_va, record_by(record)) {
-        FieldNameAnswer::Name(name) => {
-            *out = c_rows::field_name_numbers(name);
-            ANSWERED
-        }
-        FieldNameAnswer::Refused(refusal) => refusal::number(refusal),
-    }
+    let name = steps::field_name(image, segments, strings, strings_va, record_by(record));
+    c_rows::tell_field_name(name, out)
 }

@@ -1,6 +1,6 @@
 // The byte offsets of a struct's fields.
 ghost use Rattle.std.specs.Prelude.{◌≡◌};
-ghost use Rattle.refusal.specs.Refusal.{answered, mapped};
+ghost use Rattle.refusal.specs.Refusal.{answered, mapped, outcome};
 ghost use Rattle.runtime.specs.Reads.{run};
 ghost use Rattle.type_body.specs.Body.{body};
 ghost use Rattle.field_offsets.specs.Offsets.{offsets, offsets_place, static_place, offset_in};
@@ -9,24 +9,24 @@ ghost use Rattle.steps.specs.Offsets.{offsets_answer};
 ghost use Rattle.c_rows.specs.Numbers.{Tells, value_numbers};
 ghost use Rattle.c_fields.specs.Offsets.{offsets_numbers};
 
-use crate::fields::{ANSWERED, THERE};
-use field_offsets::{FieldOffset, FieldOffsets};
-use steps::OffsetsAnswer;
+use c_rows::{ANSWERED, THERE};
+use field_offsets::FieldOffsets;
+use refusal::Refusal;
 
-// Writes the answer of a call over a struct's offsets, and returns the status.
-fn tell_offsets(answer: OffsetsAnswer, out: &mut [u64; 3]) -> u64
-    ensures { Tells (mapped offsets_numbers (offsets_answer answer)) out.old result out.new }
+fn offsets_numbers(offsets: Option<FieldOffsets>) -> [u64; 3]
+    ensures { result ≡ offsets_numbers (offsets_of offsets) }
 {
-    match answer {
-        OffsetsAnswer::Offsets(offsets) => {
-            *out = match offsets {
-                FieldOffsets::At { place, count } => [THERE, place as u64, count as u64],
-                FieldOffsets::Nothing => [0; 3],
-            };
-            ANSWERED
-        }
-        OffsetsAnswer::Refused(refusal) => refusal::number(refusal),
+    match offsets {
+        Some(offsets) => [THERE, offsets.place as u64, u64::from(offsets.count)],
+        None => [0; 3],
     }
+}
+
+// Tells where a struct's offsets lie.
+fn tell_offsets(answer: Result<Option<FieldOffsets>, Refusal>, out: &mut [u64; 3]) -> u64
+    ensures { Tells (mapped offsets_numbers (mapped offsets_of (outcome answer))) out.old result out.new }
+{
+    c_rows::tell(answer.map(offsets_numbers), out)
 }
 
 // Where the field offsets lie of the struct whose descriptor is at an address and has these flags, for metadata at another address: 1,
@@ -74,9 +74,8 @@ pub extern "C" fn hodrupec_field_offset(
 ) -> u64
     ensures { Tells (answered (value_numbers (offset_in image.now (offsets place count) number))) out.old result out.new }
 {
-    *out = match field_offsets::field_offset(image, FieldOffsets::At { place, count }, number) {
-        FieldOffset::At(offset) => [THERE, offset as u64],
-        FieldOffset::Nothing => [0; 2],
-    };
+    let offsets = Some(FieldOffsets { place, count });
+    let offset = field_offsets::field_offset(image, offsets, number);
+    *out = c_rows::value_numbers(offset.map(u64::from));
     ANSWERED
 }

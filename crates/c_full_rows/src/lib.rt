@@ -10,10 +10,17 @@ ghost use Rattle.full_rows.specs.FullRows.{full_rows_in, given_of, numbers_of};
 ghost use Rattle.c_rows.specs.Numbers.{Tells};
 ghost use Rattle.c_full_rows.specs.FullRows.{given_numbers};
 
-use full_rows::FullRows;
+use full_rows::Given;
 
-// The status of a call that answers.
-const ANSWERED: u64 = 0;
+fn given_numbers(given: Given) -> [u64; 3]
+    ensures { result ≡ given_numbers given }
+{
+    [
+        given.records as u64,
+        given.next as u64,
+        u64::from(given.all),
+    ]
+}
 
 // The records of the rows from a slot on, as many as the buffer holds. A record has 58 numbers:
 //   0  the row's slot, address, flags, parent (0: none), and the name's place in the image and length;
@@ -34,15 +41,6 @@ pub extern "C" fn hodrupec_full_rows(
     ensures tells { Tells (mapped given_numbers (mapped given_of (guarded segments.now (answered (full_rows_in image.now segments.now types.now vmaddr start (length buffer.old)))))) out.old result out.new }
     ensures buffer_after { buffer.new ≡ overwritten buffer.old (answer_of (mapped numbers_of (guarded segments.now (answered (full_rows_in image.now segments.now types.now vmaddr start (length buffer.old)))))) }
 {
-    match full_rows::full_rows(image, segments, types, vmaddr, start, buffer) {
-        FullRows::Given(given) => {
-            *out = [
-                given.records as u64,
-                given.next as u64,
-                c_numbers::flag(given.all),
-            ];
-            ANSWERED
-        }
-        FullRows::Refused(refusal) => refusal::number(refusal),
-    }
+    let given = full_rows::full_rows(image, segments, types, vmaddr, start, buffer);
+    c_rows::tell(given.map(given_numbers), out)
 }

@@ -2,29 +2,19 @@
 // in an archive, the compiler makes the step and the loop for that kind.
 #![tactic(auto)]
 
-ghost use Rattle.std.specs.Prelude.{◌≡◌};
-ghost use Rattle.refusal.specs.Refusal.{mapped};
+ghost use Rattle.std.specs.Prelude.{◌≡◌, ◌≤◌, take};
+ghost use Rattle.refusal.specs.Refusal.{mapped, outcome};
 ghost use Rattle.entry_tables.specs.Tables.{table_answer};
 ghost use Rattle.c_rows.specs.Numbers.{Tells};
-ghost use Rattle.c_tables.specs.Tables.{cursor_at, step_numbers, list_of, count_numbers};
+ghost use Rattle.c_tables.specs.Tables.{cursor_at, step_numbers, count_numbers};
 
-use c_rows::{ANSWERED, THERE};
-use entry_tables::TableAnswer;
+use c_rows::THERE;
+use entry_tables::{Listed, Stop};
+use refusal::Refusal;
 use vtable::{EntryIter, EntryStep};
 
 // The first number of an entry that cannot be read.
 const UNREADABLE: u64 = 2;
-
-// The numbers of a step. A call writes as many of them as its kind has.
-#[derive(Clone, Copy)]
-pub struct StepNumbers {
-    pub told: u64,
-    pub next: u64,
-    pub address: u64,
-    pub first: u64,
-    pub second: u64,
-    pub third: u64,
-}
 
 // The walk over a table of `count` entries that stands at entry `next`.
 pub fn cursor_at(base_va: u64, count: u32, next: u32) -> EntryIter
@@ -39,47 +29,55 @@ pub fn cursor_at(base_va: u64, count: u32, next: u32) -> EntryIter
 
 // 1, the next entry's number, the entry's address and what its words say; 2, the next entry's number and zeros for an entry that cannot be
 // read; zeros at the end.
-pub fn step_numbers(step: EntryStep) -> StepNumbers
-    ensures { list_of result ≡ step_numbers step }
+fn step_numbers(step: EntryStep) -> [u64; 6]
+    ensures { result ≡ step_numbers step }
 {
     match step {
-        EntryStep::Entry { entry, next } => StepNumbers {
-            told: THERE,
-            next: next.next as u64,
-            address: entry.address,
-            first: entry.first,
-            second: entry.second,
-            third: entry.third,
-        },
-        EntryStep::Unreadable { next } => StepNumbers {
-            told: UNREADABLE,
-            next: next.next as u64,
-            address: 0,
-            first: 0,
-            second: 0,
-            third: 0,
-        },
-        EntryStep::End => StepNumbers {
-            told: 0,
-            next: 0,
-            address: 0,
-            first: 0,
-            second: 0,
-            third: 0,
-        },
+        EntryStep::Entry { entry, next } => [
+            THERE,
+            u64::from(next.next),
+            entry.address,
+            entry.first,
+            entry.second,
+            entry.third,
+        ],
+        EntryStep::Unreadable { next } => [UNREADABLE, u64::from(next.next), 0, 0, 0, 0],
+        EntryStep::End => [0; 6],
     }
 }
 
-// Writes the counts of a whole table's answer, and returns the status: how many entries were written, and why no more, 0 the table's end,
-// 1 the buffer is full, 2 an entry that cannot be read.
-pub fn tell_counts(answer: TableAnswer, out: &mut [u64; 2]) -> u64
+fn first_numbers<const N: usize>(step: EntryStep) -> [u64; N]
+    requires { N ≤ 6 }
+    ensures { result ≡ take N (step_numbers step) }
+{
+    let mut first = [0; N];
+    first.copy_from_slice(&step_numbers(step)[..N]);
+    first
+}
+
+// Tells as many of a step's numbers as its kind of entry has.
+pub fn tell_step<const N: usize>(answer: Result<EntryStep, Refusal>, out: &mut [u64; N]) -> u64
+    requires { N ≤ 6 }
+    ensures { Tells (mapped (λ step. take N (step_numbers step)) (outcome answer)) out.old result out.new }
+{
+    c_rows::tell(answer.map(first_numbers), out)
+}
+
+// How many entries a whole table's answer has, and why no more, 0 the table's end, 1 the buffer is full, 2 an entry that cannot be read.
+fn count_numbers(listed: Listed) -> [u64; 2]
+    ensures { result ≡ count_numbers listed }
+{
+    let stop = match listed.stop {
+        Stop::Ended => 0,
+        Stop::Full => 1,
+        Stop::Unreadable => 2,
+    };
+    [listed.entries as u64, stop]
+}
+
+// Writes the counts of a whole table's answer, and returns the status.
+pub fn tell_counts(answer: Result<Listed, Refusal>, out: &mut [u64; 2]) -> u64
     ensures { Tells (mapped count_numbers (table_answer answer)) out.old result out.new }
 {
-    match answer {
-        TableAnswer::Listed(listed) => {
-            *out = [listed.entries as u64, listed.stop];
-            ANSWERED
-        }
-        TableAnswer::Refused(refusal) => refusal::number(refusal),
-    }
+    c_rows::tell(answer.map(count_numbers), out)
 }
