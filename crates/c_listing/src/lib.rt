@@ -3,29 +3,24 @@
 #![tactic(auto)]
 
 ghost use Rattle.std.specs.Prelude.{◌+◌, ◌≤◌, ◌≡◌, length};
-ghost use Rattle.refusal.specs.Refusal.{answered, mapped, answer_of};
+ghost use Rattle.refusal.specs.Refusal.{answered, mapped, answer_of, outcome};
 ghost use Rattle.segment.specs.Mapping.{TrueMapping};
 ghost use Rattle.util.specs.Buffer.{Put, put_end, put_into, at_start, overwritten};
 ghost use Rattle.typedescriptor.specs.Row.{row_of};
-ghost use Rattle.qualified_name.specs.Name.{name_answer, length_of};
+ghost use Rattle.qualified_name.specs.Name.{name_answer};
 ghost use Rattle.refusal.specs.Guarded.{guarded};
 ghost use Rattle.c_rows.specs.Numbers.{Tells};
 ghost use Rattle.c_listing.specs.Listing.{two_numbers, head_bytes, row_bytes, listing_from, listing_numbers, listing_bytes};
 
-use qualified_name::QualifiedName;
-use refusal::Fault;
+use c_rows::ANSWERED;
+use refusal::Refusal;
 use segment::Mapping;
-use typedescriptor::{Descriptor, Row};
-
-// The status of a call that answers.
-const ANSWERED: u64 = 0;
+use typedescriptor::Row;
 
 // How many bytes of a record come before the name.
 const HEAD: usize = 32;
 
-// The refusal that no larger buffer would avoid, and what then stands for the name's length: 2^64 - 4.
-const DEEP_CONTEXTS: u64 = 4;
-
+// What stands for the length of a name that no larger buffer would hold: 2^64 - 4.
 const TOO_DEEP: u64 = 0xffff_ffff_ffff_fffc;
 
 // What a listing says of its end.
@@ -37,24 +32,10 @@ const BUFFER_FULL: u64 = 0;
 fn pair(a: u64, b: u64) -> [u8; 16]
     ensures { result ≡ two_numbers a b }
 {
-    [
-        (a % 256) as u8,
-        (a / 256 % 256) as u8,
-        (a / 65536 % 256) as u8,
-        (a / 0x100_0000 % 256) as u8,
-        (a / 0x1_0000_0000 % 256) as u8,
-        (a / 0x100_0000_0000 % 256) as u8,
-        (a / 0x1_0000_0000_0000 % 256) as u8,
-        (a / 0x100_0000_0000_0000 % 256) as u8,
-        (b % 256) as u8,
-        (b / 256 % 256) as u8,
-        (b / 65536 % 256) as u8,
-        (b / 0x100_0000 % 256) as u8,
-        (b / 0x1_0000_0000 % 256) as u8,
-        (b / 0x100_0000_0000 % 256) as u8,
-        (b / 0x1_0000_0000_0000 % 256) as u8,
-        (b / 0x100_0000_0000_0000 % 256) as u8,
-    ]
+    let mut bytes = [0; 16];
+    bytes[..8].copy_from_slice(&a.to_le_bytes());
+    bytes[8..].copy_from_slice(&b.to_le_bytes());
+    bytes
 }
 
 // Puts what comes before a name at a place, and returns where the name starts.
@@ -63,16 +44,22 @@ fn put_head(slot: usize, row: Row, name_length: u64, buffer: &mut [u8], at: usiz
     ensures { Put buffer.old at (head_bytes slot row.address row.flags name_length) result buffer.new }
 {
     let first = pair(slot as u64, row.address);
-    let second = pair(row.flags as u64, name_length);
+    let second = pair(u64::from(row.flags), name_length);
     let middle = util::put(&first, buffer, at);
     util::put(&second, buffer, middle)
 }
 
 // Writes the joined name of a row at the start of `name`. The mapping that the row was read with finds its parents too, unless they lie
 // elsewhere.
-fn joined(image: &[u8], segments: &[u64], near: Mapping, row: Row, name: &mut [u8]) -> QualifiedName
+fn joined(
+    image: &[u8],
+    segments: &[u64],
+    near: Mapping,
+    row: Row,
+    name: &mut [u8],
+) -> Result<usize, Refusal>
     requires { TrueMapping segments.now near }
-    ensures result_value { length_of result ≡ mapped length (name_answer image.now segments.now (row_of image.now row) (length name.old)) }
+    ensures result_value { outcome result ≡ mapped length (name_answer image.now segments.now (row_of image.now row) (length name.old)) }
     ensures name_after { name.new ≡ overwritten name.old (answer_of (name_answer image.now segments.now (row_of image.now row) (length name.old))) }
 {
     let mapping = qualified_name::around_parent(segments, near, row.parent);
@@ -100,13 +87,9 @@ fn put_record(
         return at;
     }
     match joined(image, segments, mapping, row, &mut buffer[at + HEAD..]) {
-        QualifiedName::Length(length) => { put_head(slot, row, length as u64, buffer, at) + length }
-        QualifiedName::Refused(refusal) => {
-            if refusal::number(refusal) != DEEP_CONTEXTS {
-                return at;
-            }
-            put_head(slot, row, TOO_DEEP, buffer, at)
-        }
+        Ok(length) => put_head(slot, row, length as u64, buffer, at) + length,
+        Err(Refusal::DeepContexts) => put_head(slot, row, TOO_DEEP, buffer, at),
+        Err(_) => at,
     }
 }
 
@@ -125,27 +108,19 @@ fn put_rows(
 {
     let count = types.len() / 4;
     let mut mapping = segment::NO_MAPPING;
-    let mut slot = start;
     let mut at = 0;
-    while slot < count {
+    for slot in start..count {
         let step = typedescriptor::slot_row_moving(image, segments, mapping, types, vmaddr, slot);
         mapping = step.mapping;
-        let found = step.found;
-        match found {
-            Descriptor::Row(row) => {
-                let end = put_record(image, segments, mapping, slot, row, buffer, at);
-                if end == at {
-                    return [at as u64, slot as u64, BUFFER_FULL];
-                }
-                at = end;
-                slot += 1;
+        if let Some(row) = step.found {
+            let end = put_record(image, segments, mapping, slot, row, buffer, at);
+            if end == at {
+                return [at as u64, slot as u64, BUFFER_FULL];
             }
-            Descriptor::Nothing => {
-                slot += 1;
-            }
+            at = end;
         }
     }
-    [at as u64, slot as u64, ALL_GIVEN]
+    [at as u64, start.max(count) as u64, ALL_GIVEN]
 }
 
 // The records of the rows from a slot on, one after the other, as long as they fit: a row's slot, its address, its flags and the length
@@ -165,8 +140,8 @@ pub extern "C" fn hodrupec_listing(
     ensures tells { Tells (mapped listing_numbers (guarded segments.now (answered (listing_from image.now segments.now types.now vmaddr start (length buffer.old))))) out.old result out.new }
     ensures buffer_after { buffer.new ≡ overwritten buffer.old (answer_of (mapped listing_bytes (guarded segments.now (answered (listing_from image.now segments.now types.now vmaddr start (length buffer.old)))))) }
 {
-    if let Fault::Refused(refusal) = refusal::find_fault(segments) {
-        return refusal::number(refusal);
+    if let Err(refusal) = refusal::find_fault(segments) {
+        return u64::from(refusal);
     }
     *out = put_rows(image, segments, types, vmaddr, start, buffer);
     ANSWERED
