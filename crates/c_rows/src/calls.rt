@@ -1,12 +1,12 @@
-ghost use Rattle.std.specs.Prelude.{◌≡◌, List, ℕ, length, option_map};
+ghost use Rattle.std.specs.Prelude.{◌≡◌, List, ℕ, length};
 ghost use Rattle.refusal.specs.Refusal.{answered, mapped, answer_of, outcome};
 ghost use Rattle.util.specs.Buffer.{overwritten};
 ghost use Rattle.segment.specs.Segments.{file_offset, segments_of};
 ghost use Rattle.util.specs.Cstr.{text_at};
 ghost use Rattle.runtime.specs.FieldName.{field_name, field_name_of};
 ghost use Rattle.runtime.specs.PlaceNumbers.{text_numbers, field_numbers};
-ghost use Rattle.typedescriptor.specs.Slots.{next_row};
-ghost use Rattle.parent.specs.Chain.{chain_step};
+ghost use Rattle.typedescriptor.specs.Slots.{next_row, type_step_of};
+ghost use Rattle.parent.specs.Chain.{chain_step, parent_step_of};
 ghost use Rattle.qualified_name.specs.Name.{name_answer};
 ghost use Rattle.refusal.specs.Guarded.{guarded};
 ghost use Rattle.c_rows.specs.Numbers.{Tells, value_numbers, row_numbers, chain_step_numbers, one_number, named_row};
@@ -90,7 +90,7 @@ pub fn tell_field_name(answer: Result<Option<FieldName>, Refusal>, out: &mut [u6
 
 // The numbers of the next row, as the call below tells them.
 fn row_numbers(step: Option<TypeStep>) -> [u64; 8]
-    ensures { (image : List ℕ) → result ≡ row_numbers (option_map (found_of image) step) }
+    ensures { (image : List ℕ) → result ≡ row_numbers (type_step_of image step) }
 {
     match step {
         Some(step) => {
@@ -112,7 +112,7 @@ fn row_numbers(step: Option<TypeStep>) -> [u64; 8]
 
 // The numbers of the next context, as the call below tells them.
 fn context_numbers(step: Option<ParentStep>) -> [u64; 8]
-    ensures { (image : List ℕ) → result ≡ chain_step_numbers (option_map (step_of image) step) }
+    ensures { (image : List ℕ) → result ≡ chain_step_numbers (parent_step_of image step) }
 {
     match step {
         Some(step) => {
