@@ -1,2 +1,1 @@
-pub mod CertainLaws
 pub mod NamesLaws

@@ -5,7 +5,6 @@ ghost use Rattle.runtime.specs.Reads.{run};
 ghost use Rattle.type_body.specs.Body.{body};
 ghost use Rattle.field_offsets.specs.Offsets.{offsets, offsets_place, static_place, offset_in};
 ghost use Rattle.refusal.specs.Guarded.{guarded};
-ghost use Rattle.steps.specs.Offsets.{offsets_answer};
 ghost use Rattle.c_rows.specs.Numbers.{Tells, value_numbers};
 ghost use Rattle.c_fields.specs.Offsets.{offsets_numbers};
 
@@ -14,7 +13,7 @@ use field_offsets::FieldOffsets;
 use refusal::Refusal;
 
 fn offsets_numbers(offsets: Option<FieldOffsets>) -> [u64; 3]
-    ensures { result ≡ offsets_numbers (offsets_of offsets) }
+    ensures { result ≡ offsets_numbers offsets }
 {
     match offsets {
         Some(offsets) => [THERE, offsets.place as u64, u64::from(offsets.count)],
@@ -24,7 +23,7 @@ fn offsets_numbers(offsets: Option<FieldOffsets>) -> [u64; 3]
 
 // Tells where a struct's offsets lie.
 fn tell_offsets(answer: Result<Option<FieldOffsets>, Refusal>, out: &mut [u64; 3]) -> u64
-    ensures { Tells (mapped offsets_numbers (mapped offsets_of (outcome answer))) out.old result out.new }
+    ensures { Tells (mapped offsets_numbers (outcome answer)) out.old result out.new }
 {
     c_rows::tell(answer.map(offsets_numbers), out)
 }

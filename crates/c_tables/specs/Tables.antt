@@ -5,7 +5,6 @@ use Rattle.vtable.specs.declared.iter.EntryIter.{EntryIter}
 use Rattle.vtable.specs.declared.iter.EntryStep.{EntryStep}
 use Rattle.entry_tables.specs.Tables.{WholeTable, Counts, counts, buffer_with}
 use Rattle.c_rows.specs.Numbers.{Tells}
-use Rattle.c_tables.specs.declared.StepNumbers.{StepNumbers}
 
 abbrev pub cursor_at : ℕ → ℕ → ℕ → EntryIter
 cursor_at base count next = record { base_va = base; count = count; next = next }
@@ -20,9 +19,6 @@ step_numbers EntryStep.End = 0 ∷ (0 ∷ (0 ∷ (0 ∷ (0 ∷ (0 ∷ [])))))
 -- for entries of `n` words
 abbrev pub entry_step_numbers : ℕ → EntryStep → List ℕ
 entry_step_numbers n s = take (3 + n) (step_numbers s)
-
-abbrev pub list_of : StepNumbers → List ℕ
-list_of n = n.told ∷ (n.next ∷ (n.address ∷ (n.first ∷ (n.second ∷ (n.third ∷ [])))))
 
 -- how many entries, and why no more
 abbrev pub count_numbers : Counts → List ℕ

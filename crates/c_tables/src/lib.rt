@@ -4,12 +4,12 @@
 
 ghost use Rattle.std.specs.Prelude.{◌≡◌, ◌≤◌, take};
 ghost use Rattle.refusal.specs.Refusal.{mapped, outcome};
-ghost use Rattle.entry_tables.specs.Tables.{table_answer};
+ghost use Rattle.entry_tables.specs.Tables.{table_answer, listed_counts};
 ghost use Rattle.c_rows.specs.Numbers.{Tells};
 ghost use Rattle.c_tables.specs.Tables.{cursor_at, step_numbers, count_numbers};
 
 use c_rows::THERE;
-use entry_tables::{Listed, Stop};
+use entry_tables::Listed;
 use refusal::Refusal;
 use vtable::{EntryIter, EntryStep};
 
@@ -65,14 +65,9 @@ pub fn tell_step<const N: usize>(answer: Result<EntryStep, Refusal>, out: &mut [
 
 // How many entries a whole table's answer has, and why no more, 0 the table's end, 1 the buffer is full, 2 an entry that cannot be read.
 fn count_numbers(listed: Listed) -> [u64; 2]
-    ensures { result ≡ count_numbers listed }
+    ensures { result ≡ count_numbers (listed_counts listed) }
 {
-    let stop = match listed.stop {
-        Stop::Ended => 0,
-        Stop::Full => 1,
-        Stop::Unreadable => 2,
-    };
-    [listed.entries as u64, stop]
+    [listed.entries as u64, listed.stop as u64]
 }
 
 // Writes the counts of a whole table's answer, and returns the status.

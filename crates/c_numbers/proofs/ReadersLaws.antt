@@ -1,2 +1,0 @@
--- To be removed.
-use Rattle.std.specs.Prelude.{ℕ}
