@@ -44,7 +44,7 @@ fn put_head(slot: usize, row: Row, name_length: u64, buffer: &mut [u8], at: usiz
     ensures { Put buffer.old at (head_bytes slot row.address row.flags name_length) result buffer.new }
 {
     let first = pair(slot as u64, row.address);
-    let second = pair(u64::from(row.flags), name_length);
+    let second = pair(row.flags as u64, name_length);
     let middle = util::put(&first, buffer, at);
     util::put(&second, buffer, middle)
 }
@@ -88,8 +88,10 @@ fn put_record(
     }
     match joined(image, segments, mapping, row, &mut buffer[at + HEAD..]) {
         Ok(length) => put_head(slot, row, length as u64, buffer, at) + length,
-        Err(Refusal::DeepContexts) => put_head(slot, row, TOO_DEEP, buffer, at),
-        Err(_) => at,
+        Err(refusal) => match refusal {
+            Refusal::DeepContexts => put_head(slot, row, TOO_DEEP, buffer, at),
+            _ => at,
+        },
     }
 }
 

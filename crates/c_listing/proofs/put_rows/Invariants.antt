@@ -1,5 +1,4 @@
 -- `c_listing::put_rows` meets its contract. The invariant: the records of the rows before `slot` are written, and the mapping is true.
-use Prim.Native.Nat.{◌-◌}
 use Rattle.typedescriptor.proofs.GivenLaws.{Going}
 use Rattle.c_listing.specs.Listing.{row_bytes}
 use Rattle.c_listing.proofs.put_rows.Given as goal
@@ -7,6 +6,3 @@ use Rattle.c_listing.proofs.put_rows.Given as goal
 abbrev pub invariant-loop-slot : goal.invariant-loop-slot
 invariant-loop-slot l =
     Going (row_bytes l.image l.segments) l.image l.segments l.types l.vmaddr l.start l.initial.buffer l.slot l.at l.mapping l.buffer
-
-abbrev pub decreases-loop-slot : goal.decreases-loop-slot
-decreases-loop-slot l = l.count - l.slot
