@@ -167,7 +167,10 @@ pub fn hodrupec_conformance_flags(word: u32, out: &mut [u64; 10]) -> u64
 pub fn hodrupec_field_kind(raw: u16, out: &mut [u64; 2]) -> u64
     ensures { (result ≡ 0) × (out.new ≡ field_kind_numbers raw) }
 {
-    *out = [THERE, field_kind_number(FieldDescriptorKind::from_bits(raw))];
+    *out = [
+        THERE,
+        field_kind_number(FieldDescriptorKind::from_bits(raw)),
+    ];
     ANSWERED
 }
 

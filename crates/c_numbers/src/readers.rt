@@ -61,6 +61,7 @@ pub fn hodrupec_fixed_text(bytes: &[u8], out: &mut [u64; 2]) -> u64
     ANSWERED
 }
 
+#[tactic(auto, unfolding(refusal::specs::Guarded::guarded))]
 fn vm_address(segments: &[u64], offset: u64) -> Result<Option<u64>, Refusal>
     ensures { outcome result ≡ guarded segments.now (answered (vm_address (segments_of segments.now) offset)) }
 {

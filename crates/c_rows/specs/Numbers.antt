@@ -2,7 +2,7 @@
 -- is nothing, all numbers are 0.
 use Rattle.std.specs.Prelude.{ℕ, ◌≡◌, List, [], ◌∷◌, Option, Some, None}
 use Rattle.refusal.specs.Refusal.{Guarded, answered, refused}
-use Rattle.util.specs.Cstr.{Place, place, part_of}
+use Rattle.util.specs.Cstr.{place, part_of}
 use Rattle.typedescriptor.specs.Row.{TypeRow}
 use Rattle.typedescriptor.specs.Slots.{Found}
 use Rattle.parent.specs.Context as context

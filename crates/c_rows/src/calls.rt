@@ -133,6 +133,7 @@ fn context_numbers(step: Option<ParentStep>) -> [u64; 8]
     }
 }
 
+#[tactic(auto, unfolding(refusal::specs::Guarded::guarded))]
 fn file_offset(segments: &[u64], vmaddr: u64) -> Result<Option<u64>, Refusal>
     ensures { outcome result ≡ guarded segments.now (answered (file_offset (segments_of segments.now) vmaddr)) }
 {
@@ -155,6 +156,7 @@ pub fn hodrupec_text(data: &[u8], off: usize, out: &mut [u64; 3]) -> u64
     ANSWERED
 }
 
+#[tactic(auto, unfolding(refusal::specs::Guarded::guarded))]
 fn field_name(
     image: &[u8],
     segments: &[u64],
@@ -166,9 +168,7 @@ fn field_name(
 {
     refusal::find_fault(segments)?;
     let near = segment::NO_MAPPING;
-    Ok(runtime::lookup_field_name(
-        image, segments, near, strings, vmaddr, target_va,
-    ))
+    Ok(runtime::lookup_field_name(image, segments, near, strings, vmaddr, target_va))
 }
 
 // The numbers of the field name at an address.
@@ -182,10 +182,7 @@ pub fn hodrupec_field_name(
 ) -> u64
     ensures { Tells (mapped field_numbers (guarded segments.now (answered (field_name image.now segments.now strings.now vmaddr target_va)))) out.old result out.new }
 {
-    tell_field_name(
-        field_name(image, segments, strings, vmaddr, target_va),
-        out,
-    )
+    tell_field_name(field_name(image, segments, strings, vmaddr, target_va), out)
 }
 
 // The next row from a slot on: 1, its slot, the slot to go on from, address, flags, parent, and the name's place and length.
@@ -218,7 +215,16 @@ pub fn hodrupec_next_context(
         next_descriptor_va: descriptor_va,
         given,
     };
-    tell(steps::next_context(image, segments, walk).map(context_numbers), out)
+    tell(
+        steps::next_context(image, segments, walk).map(context_numbers),
+        out,
+    )
+}
+
+fn one_number(length: usize) -> [u64; 1]
+    ensures { result ≡ one_number length }
+{
+    [length as u64]
 }
 
 // Writes the joined name of a row with this parent and this name at the buffer's start; `out` is its length.
@@ -241,6 +247,8 @@ pub fn hodrupec_qualified_name(
         name_place,
         name_length,
     };
-    let length = steps::joined_name(image, segments, row, buffer);
-    tell(length.map(|length| [length as u64]), out)
+    tell(
+        steps::joined_name(image, segments, row, buffer).map(one_number),
+        out,
+    )
 }
