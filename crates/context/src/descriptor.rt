@@ -3,6 +3,7 @@ ghost use Rattle.std.specs.Prelude.{◌≡◌};
 ghost use Rattle.context.specs.Bits.{bit};
 ghost use Rattle.context.specs.Context.{kind_of, context_kind, has_invertible_protocols, is_generic, kind_specific_flags, is_type, has_name};
 
+use crate::bits::{bit, bits};
 use crate::types::TypeContextDescriptorFlags;
 
 #[derive(Clone, Copy)]
@@ -19,11 +20,11 @@ pub enum ContextDescriptorKind {
     Other(u8),
 }
 
-impl ContextDescriptorKind {
-    // The kind that has this number.
-    fn of(n: u8) -> ContextDescriptorKind
-        ensures { result ≡ kind_of n }
-    {
+// The kind that has this number.
+impl From<u8> for ContextDescriptorKind {
+    ghost from_gives = { λ n kind. kind ≡ kind_of n };
+
+    fn from(n: u8) -> ContextDescriptorKind {
         match n {
             0 => ContextDescriptorKind::Module,
             1 => ContextDescriptorKind::Extension,
@@ -36,38 +37,30 @@ impl ContextDescriptorKind {
             other => ContextDescriptorKind::Other(other),
         }
     }
+}
 
+impl ContextDescriptorKind {
     pub fn is_type(self) -> bool
         ensures { result ≡ is_type self }
     {
-        match self {
-            ContextDescriptorKind::Module => false,
-            ContextDescriptorKind::Extension => false,
-            ContextDescriptorKind::Anonymous => false,
-            ContextDescriptorKind::Protocol => false,
-            ContextDescriptorKind::OpaqueType => false,
-            ContextDescriptorKind::Class => true,
-            ContextDescriptorKind::Struct => true,
-            ContextDescriptorKind::Enum => true,
-            ContextDescriptorKind::Other(_) => false,
-        }
+        matches!(
+            self,
+            ContextDescriptorKind::Class
+                | ContextDescriptorKind::Struct
+                | ContextDescriptorKind::Enum
+        )
     }
 
     // Whether the descriptor has a name slot.
     pub fn has_name(self) -> bool
         ensures { result ≡ has_name self }
     {
-        match self {
-            ContextDescriptorKind::Module => true,
-            ContextDescriptorKind::Extension => true,
-            ContextDescriptorKind::Anonymous => false,
-            ContextDescriptorKind::Protocol => true,
-            ContextDescriptorKind::OpaqueType => false,
-            ContextDescriptorKind::Class => true,
-            ContextDescriptorKind::Struct => true,
-            ContextDescriptorKind::Enum => true,
-            ContextDescriptorKind::Other(_) => false,
-        }
+        !matches!(
+            self,
+            ContextDescriptorKind::Anonymous
+                | ContextDescriptorKind::OpaqueType
+                | ContextDescriptorKind::Other(_)
+        )
     }
 }
 
@@ -78,31 +71,31 @@ impl ContextDescriptorFlags {
     pub fn kind(self) -> ContextDescriptorKind
         ensures { result ≡ context_kind self.0 }
     {
-        ContextDescriptorKind::of((self.0 % 32) as u8)
+        ContextDescriptorKind::from((self.0 % 32) as u8)
     }
 
     pub fn has_invertible_protocols(self) -> bool
         ensures { result ≡ has_invertible_protocols self.0 }
     {
-        (self.0 / 32) % 2 == 1
+        bit(self.0, 5)
     }
 
     pub fn is_unique(self) -> bool
         ensures { result ≡ bit 6 self.0 }
     {
-        (self.0 / 64) % 2 == 1
+        bit(self.0, 6)
     }
 
     pub fn is_generic(self) -> bool
         ensures { result ≡ is_generic self.0 }
     {
-        (self.0 / 128) % 2 == 1
+        bit(self.0, 7)
     }
 
     pub fn kind_specific(self) -> u16
         ensures { result ≡ kind_specific_flags self.0 }
     {
-        (self.0 / 65536) as u16
+        bits(self.0, 16, 16) as u16
     }
 
     // The kind-specific bits as those of a type.

@@ -1,6 +1,7 @@
 // Kinds and flags of Swift's descriptors, carried over from darwinscope's src/swift/context.rs: functions of the number alone.
 #![tactic(auto)]
 
+mod bits;
 mod conformance;
 mod descriptor;
 mod field;

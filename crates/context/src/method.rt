@@ -3,6 +3,8 @@ ghost use Rattle.std.specs.Prelude.{◌≡◌};
 ghost use Rattle.context.specs.Bits.{bit, bits, low};
 ghost use Rattle.context.specs.Method.{method_of};
 
+use crate::bits::{bit, bits};
+
 #[derive(Clone, Copy)]
 pub enum SwiftMethodKind {
     Method,
@@ -15,11 +17,11 @@ pub enum SwiftMethodKind {
     Other(u8),
 }
 
-impl SwiftMethodKind {
-    // The kind that has this number.
-    fn of(n: u8) -> SwiftMethodKind
-        ensures { result ≡ method_of n }
-    {
+// The kind that has this number.
+impl From<u8> for SwiftMethodKind {
+    ghost from_gives = { λ n kind. kind ≡ method_of n };
+
+    fn from(n: u8) -> SwiftMethodKind {
         match n {
             0 => SwiftMethodKind::Method,
             1 => SwiftMethodKind::Init,
@@ -39,36 +41,36 @@ impl MethodDescriptorFlags {
     pub fn kind(self) -> SwiftMethodKind
         ensures { result ≡ method_of (low 4 self.0) }
     {
-        SwiftMethodKind::of((self.0 % 16) as u8)
+        SwiftMethodKind::from((self.0 % 16) as u8)
     }
 
     pub fn is_instance(self) -> bool
         ensures { result ≡ bit 4 self.0 }
     {
-        (self.0 / 16) % 2 == 1
+        bit(self.0, 4)
     }
 
     pub fn is_dynamic(self) -> bool
         ensures { result ≡ bit 5 self.0 }
     {
-        (self.0 / 32) % 2 == 1
+        bit(self.0, 5)
     }
 
     pub fn is_async(self) -> bool
         ensures { result ≡ bit 6 self.0 }
     {
-        (self.0 / 64) % 2 == 1
+        bit(self.0, 6)
     }
 
     pub fn has_extended_context(self) -> bool
         ensures { result ≡ bit 7 self.0 }
     {
-        (self.0 / 128) % 2 == 1
+        bit(self.0, 7)
     }
 
     pub fn extra_discriminator(self) -> u16
         ensures { result ≡ bits 16 16 self.0 }
     {
-        (self.0 / 65536) as u16
+        bits(self.0, 16, 16) as u16
     }
 }

@@ -3,6 +3,8 @@ ghost use Rattle.std.specs.Prelude.{◌≡◌};
 ghost use Rattle.context.specs.Bits.{bit, bits, low};
 ghost use Rattle.context.specs.TypeContext.{initialization_of, reference_of, has_canonical_metadata_prespecializations, has_singleton_metadata_pointer, class_has_default_override_table, class_has_resilient_superclass, class_has_override_table, class_has_vTable};
 
+use crate::bits::{bit, bits};
+
 #[derive(Clone, Copy)]
 pub enum MetadataInitializationKind {
     None,
@@ -11,11 +13,11 @@ pub enum MetadataInitializationKind {
     Other,
 }
 
-impl MetadataInitializationKind {
-    // The kind that has this number.
-    fn of(n: u8) -> MetadataInitializationKind
-        ensures { result ≡ initialization_of n }
-    {
+// The kind that has this number.
+impl From<u8> for MetadataInitializationKind {
+    ghost from_gives = { λ n kind. kind ≡ initialization_of n };
+
+    fn from(n: u8) -> MetadataInitializationKind {
         match n {
             0 => MetadataInitializationKind::None,
             1 => MetadataInitializationKind::Singleton,
@@ -35,11 +37,11 @@ pub enum TypeReferenceKind {
     Other(u8),
 }
 
-impl TypeReferenceKind {
-    // The kind that has this number.
-    pub fn of(n: u8) -> TypeReferenceKind
-        ensures { result ≡ reference_of n }
-    {
+// The kind that has this number.
+impl From<u8> for TypeReferenceKind {
+    ghost from_gives = { λ n kind. kind ≡ reference_of n };
+
+    fn from(n: u8) -> TypeReferenceKind {
         match n {
             0 => TypeReferenceKind::DirectTypeDescriptor,
             1 => TypeReferenceKind::IndirectTypeDescriptor,
@@ -57,85 +59,85 @@ impl TypeContextDescriptorFlags {
     pub fn metadata_initialization(self) -> MetadataInitializationKind
         ensures { result ≡ initialization_of (low 2 self.0) }
     {
-        MetadataInitializationKind::of((self.0 % 4) as u8)
+        MetadataInitializationKind::from((self.0 % 4) as u8)
     }
 
     pub fn has_import_info(self) -> bool
         ensures { result ≡ bit 2 self.0 }
     {
-        (self.0 / 4) % 2 == 1
+        bit(self.0.into(), 2)
     }
 
     // One bit with two meanings: the two functions below separate them.
     pub fn has_canonical_metadata_prespecializations_or_singleton(self) -> bool
         ensures { result ≡ bit 3 self.0 }
     {
-        (self.0 / 8) % 2 == 1
+        bit(self.0.into(), 3)
     }
 
     pub fn has_canonical_metadata_prespecializations(self) -> bool
         ensures { result ≡ has_canonical_metadata_prespecializations self.0 }
     {
-        ((self.0 / 8) % 2 == 1) & (self.0 % 4 != 1)
+        bit(self.0.into(), 3) && self.0 % 4 != 1
     }
 
     pub fn has_singleton_metadata_pointer(self) -> bool
         ensures { result ≡ has_singleton_metadata_pointer self.0 }
     {
-        ((self.0 / 8) % 2 == 1) & (self.0 % 4 == 1)
+        bit(self.0.into(), 3) && self.0 % 4 == 1
     }
 
     pub fn has_layout_string(self) -> bool
         ensures { result ≡ bit 4 self.0 }
     {
-        (self.0 / 16) % 2 == 1
+        bit(self.0.into(), 4)
     }
 
     pub fn class_has_default_override_table(self) -> bool
         ensures { result ≡ class_has_default_override_table self.0 }
     {
-        (self.0 / 64) % 2 == 1
+        bit(self.0.into(), 6)
     }
 
     pub fn class_is_actor(self) -> bool
         ensures { result ≡ bit 7 self.0 }
     {
-        (self.0 / 128) % 2 == 1
+        bit(self.0.into(), 7)
     }
 
     pub fn class_is_default_actor(self) -> bool
         ensures { result ≡ bit 8 self.0 }
     {
-        (self.0 / 256) % 2 == 1
+        bit(self.0.into(), 8)
     }
 
     pub fn class_resilient_superclass_reference_kind(self) -> TypeReferenceKind
         ensures { result ≡ reference_of (bits 9 3 self.0) }
     {
-        TypeReferenceKind::of(((self.0 / 512) % 8) as u8)
+        TypeReferenceKind::from(bits(self.0.into(), 9, 3) as u8)
     }
 
     pub fn class_immediate_members_negative(self) -> bool
         ensures { result ≡ bit 12 self.0 }
     {
-        (self.0 / 4096) % 2 == 1
+        bit(self.0.into(), 12)
     }
 
     pub fn class_has_resilient_superclass(self) -> bool
         ensures { result ≡ class_has_resilient_superclass self.0 }
     {
-        (self.0 / 8192) % 2 == 1
+        bit(self.0.into(), 13)
     }
 
     pub fn class_has_override_table(self) -> bool
         ensures { result ≡ class_has_override_table self.0 }
     {
-        (self.0 / 16384) % 2 == 1
+        bit(self.0.into(), 14)
     }
 
     pub fn class_has_vtable(self) -> bool
         ensures { result ≡ class_has_vTable self.0 }
     {
-        (self.0 / 32768) % 2 == 1
+        bit(self.0.into(), 15)
     }
 }

@@ -1,11 +1,11 @@
--- `context::method::SwiftMethodKind::of` meets its contract: each arm is a row of the enumeration.
+-- `SwiftMethodKind` from a `u8` meets its contract: each arm is a row of the enumeration.
 use Prim.Native.Nat.{ℕ}
 use mathlib.Core.Path.{◌≡◌}
 use borrow.Author.Rules.{rules}
 use Rattle.context.specs.Method.{method_kinds, method_of}
 use Rattle.context.specs.declared.method.SwiftMethodKind.TheVariants.{Other}
 use Rattle.context.proofs.Rows.{Row, value, in_row}
-use Rattle.context.proofs.method.SwiftMethodKind.of.Goals as goal
+use Rattle.context.proofs.method.SwiftMethodKindFromU8.from.Goals as goal
 
 arm : (i n : ℕ) → Row i method_kinds n → value i method_kinds (Other n) ≡ method_of n
 unfolding method_of

@@ -1,11 +1,11 @@
--- `context::types::MetadataInitializationKind::of` meets its contract: each arm is a row of the enumeration.
+-- `MetadataInitializationKind` from a `u8` meets its contract: each arm is a row of the enumeration.
 use Prim.Native.Nat.{ℕ}
 use mathlib.Core.Path.{◌≡◌}
 use borrow.Author.Rules.{rules}
 use Rattle.context.specs.TypeContext.{initializations, initialization_of}
 use Rattle.context.specs.declared.types.MetadataInitializationKind.TheVariants.{Other}
 use Rattle.context.proofs.Rows.{Row, value, in_row}
-use Rattle.context.proofs.types.MetadataInitializationKind.of.Goals as goal
+use Rattle.context.proofs.types.MetadataInitializationKindFromU8.from.Goals as goal
 
 arm : (i n : ℕ) → Row i initializations n → value i initializations Other ≡ initialization_of n
 unfolding initialization_of

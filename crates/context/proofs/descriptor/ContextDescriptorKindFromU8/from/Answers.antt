@@ -1,11 +1,11 @@
--- `context::descriptor::ContextDescriptorKind::of` meets its contract: each arm is a row of the enumeration.
+-- `ContextDescriptorKind` from a `u8` meets its contract: each arm is a row of the enumeration.
 use Prim.Native.Nat.{ℕ}
 use mathlib.Core.Path.{◌≡◌}
 use borrow.Author.Rules.{rules}
 use Rattle.context.specs.Context.{context_kinds, kind_of}
 use Rattle.context.specs.declared.descriptor.ContextDescriptorKind.TheVariants.{Other}
 use Rattle.context.proofs.Rows.{Row, value, in_row}
-use Rattle.context.proofs.descriptor.ContextDescriptorKind.of.Goals as goal
+use Rattle.context.proofs.descriptor.ContextDescriptorKindFromU8.from.Goals as goal
 
 arm : (i n : ℕ) → Row i context_kinds n → value i context_kinds (Other n) ≡ kind_of n
 unfolding kind_of

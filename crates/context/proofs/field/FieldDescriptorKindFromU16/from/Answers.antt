@@ -1,11 +1,11 @@
--- `context::field::FieldDescriptorKind::from_bits` meets its contract: each arm is a row of the enumeration.
+-- `FieldDescriptorKind` from a `u16` meets its contract: each arm is a row of the enumeration.
 use Prim.Native.Nat.{ℕ}
 use mathlib.Core.Path.{◌≡◌}
 use borrow.Author.Rules.{rules}
 use Rattle.context.specs.Field.{field_kinds, field_kind}
 use Rattle.context.specs.declared.field.FieldDescriptorKind.TheVariants.{Other}
 use Rattle.context.proofs.Rows.{Row, value, in_row}
-use Rattle.context.proofs.field.FieldDescriptorKind.from_bits.Goals as goal
+use Rattle.context.proofs.field.FieldDescriptorKindFromU16.from.Goals as goal
 
 arm : (i n : ℕ) → Row i field_kinds n → value i field_kinds (Other n) ≡ field_kind n
 unfolding field_kind

@@ -1,11 +1,11 @@
--- `context::types::TypeReferenceKind::of` meets its contract: each arm is a row of the enumeration.
+-- `TypeReferenceKind` from a `u8` meets its contract: each arm is a row of the enumeration.
 use Prim.Native.Nat.{ℕ}
 use mathlib.Core.Path.{◌≡◌}
 use borrow.Author.Rules.{rules}
 use Rattle.context.specs.TypeContext.{references, reference_of}
 use Rattle.context.specs.declared.types.TypeReferenceKind.TheVariants.{Other}
 use Rattle.context.proofs.Rows.{Row, value, in_row}
-use Rattle.context.proofs.types.TypeReferenceKind.of.Goals as goal
+use Rattle.context.proofs.types.TypeReferenceKindFromU8.from.Goals as goal
 
 arm : (i n : ℕ) → Row i references n → value i references (Other n) ≡ reference_of n
 unfolding reference_of
