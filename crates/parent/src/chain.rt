@@ -1,7 +1,9 @@
 ghost use Rattle.std.specs.Prelude.{◌≡◌};
+ghost use Rattle.runtime.specs.Runtime.{tried};
 ghost use Rattle.parent.specs.Chain.{chain_step, parent_step_of};
 
 use crate::header::{ParentContext, read_context};
+use runtime::SwiftRuntime;
 
 // How many contexts of a type are given.
 pub const CONTEXTS: usize = 256;
@@ -31,14 +33,14 @@ impl ParentChain {
         }
     }
 
-    pub fn next(self, image: &[u8], segments: &[u64]) -> Option<ParentStep>
-        ensures { parent_step_of image.now result ≡ chain_step image.now segments.now self.next_descriptor_va self.given }
+    pub fn next(self, rt: &SwiftRuntime) -> Option<ParentStep>
+        ensures { parent_step_of rt.now.image.now result ≡ chain_step rt.now.image.now (tried rt.now) self.next_descriptor_va self.given }
     {
         let given = self.given;
         if CONTEXTS <= given {
             return None;
         }
-        let context = read_context(image, segments, self.next_descriptor_va)?;
+        let context = read_context(rt, self.next_descriptor_va)?;
         Some(ParentStep {
             context,
             next: ParentChain {

@@ -1,11 +1,11 @@
 ghost use Rattle.std.specs.Prelude.{◌≡◌};
-ghost use Rattle.segment.specs.Mapping.{with_mapping};
 ghost use Rattle.runtime.specs.Reads.{run};
+ghost use Rattle.runtime.specs.Runtime.{tried};
 ghost use Rattle.parent.specs.Context.{header, header_of, context_read, context_of, name_at, name_read, Inside};
 ghost use Rattle.context.specs.Context.{context_kind, has_name};
 
 use context::ContextDescriptorFlags;
-use segment::Mapping;
+use runtime::SwiftRuntime;
 use util::Place;
 
 // One context of a chain: its address, its flags, its own parent's address (0 if it has none), and its name if it has one.
@@ -25,18 +25,13 @@ pub struct ContextHeader {
 }
 
 // The header at an address. There is none at address 0, nor at or above 2^64 - 4.
-pub fn read_header(
-    image: &[u8],
-    segments: &[u64],
-    mapping: Mapping,
-    descriptor_va: u64,
-) -> Option<ContextHeader>
-    ensures { header_of descriptor_va result ≡ run image.now (with_mapping mapping segments.now) (header descriptor_va) }
+pub fn read_header(rt: &SwiftRuntime, descriptor_va: u64) -> Option<ContextHeader>
+    ensures { header_of descriptor_va result ≡ run rt.now.image.now (tried rt.now) (header descriptor_va) }
 {
     if descriptor_va == 0 {
         return None;
     }
-    let bytes = runtime::read_bytes(image, segments, mapping, descriptor_va, 8);
+    let bytes = rt.read_bytes(descriptor_va, 8);
     if bytes.len() < 8 {
         return None;
     }
@@ -57,36 +52,31 @@ pub fn has_name(flags: u32) -> bool
 }
 
 // The name that the word after the context's header refers to. An offset of 0 means no name.
-pub fn read_context_name(
-    image: &[u8],
-    segments: &[u64],
-    mapping: Mapping,
-    descriptor_va: u64,
-) -> Option<Place>
-    ensures result_value { name_read image.now result ≡ run image.now (with_mapping mapping segments.now) (name_at descriptor_va) }
-    ensures inside { Inside image.now result }
+pub fn read_context_name(rt: &SwiftRuntime, descriptor_va: u64) -> Option<Place>
+    ensures result_value { name_read rt.now.image.now result ≡ run rt.now.image.now (tried rt.now) (name_at descriptor_va) }
+    ensures inside { Inside rt.now.image.now result }
 {
     if descriptor_va > 0xffff_ffff_ffff_fff7 {
         return None;
     }
     let slot_va = descriptor_va + 8;
-    let slot = runtime::read_bytes(image, segments, mapping, slot_va, 4);
+    let slot = rt.read_bytes(slot_va, 4);
     if slot.len() < 4 {
         return None;
     }
     if util::u32_at(slot, 0) == 0 {
         return None;
     }
-    runtime::read_cstr(image, segments, mapping, util::pointer_in(slot, 0, slot_va))
+    rt.read_cstr(util::pointer_in(slot, 0, slot_va))
 }
 
 // The context at an address.
-pub fn read_context(image: &[u8], segments: &[u64], descriptor_va: u64) -> Option<ParentContext>
-    ensures { context_of image.now result ≡ context_read image.now segments.now descriptor_va }
+pub fn read_context(rt: &SwiftRuntime, descriptor_va: u64) -> Option<ParentContext>
+    ensures { context_of rt.now.image.now result ≡ context_read rt.now.image.now (tried rt.now) descriptor_va }
 {
-    let header = read_header(image, segments, segment::NO_MAPPING, descriptor_va)?;
+    let header = read_header(rt, descriptor_va)?;
     let name = if has_name(header.flags) {
-        read_context_name(image, segments, segment::NO_MAPPING, descriptor_va)
+        read_context_name(rt, descriptor_va)
     } else {
         None
     };

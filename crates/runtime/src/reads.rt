@@ -29,13 +29,6 @@ impl<'a, 's> SwiftRuntime<'a, 's> {
         }
     }
 
-    // The same with another mapping.
-    pub fn with(self, mapping: Mapping) -> SwiftRuntime<'a, 's>
-        ensures { result ≡ record { image = self.entry.image; segments = self.entry.segments; mapping = mapping } }
-    {
-        SwiftRuntime { mapping, ..self }
-    }
-
     // Where `len` bytes at an address lie. Only the first address is translated: the rest follows in the image, and only the image's end
     // bounds it.
     pub fn find_bytes(&self, vmaddr: u64, len: usize) -> Option<usize>

@@ -4,7 +4,7 @@ use Rattle.std.specs.Prelude.{ℕ, ◌+◌, ◌^◌, cond, List, nat_le, Option,
 use Rattle.util.specs.LittleEndian.{unsigned_in, signed_in}
 use Rattle.util.specs.Pointer.{relative_pointer, relative_address}
 use Rattle.util.specs.declared.cstr.Place.{Place}
-use Rattle.util.specs.Cstr.{place, part_of}
+use Rattle.util.specs.Cstr.{part_of}
 use Rattle.runtime.specs.Reads.{Reads, done, nothing, bytes, text}
 use Rattle.typedescriptor.specs.declared.descriptor.Row.{Row}
 
@@ -47,8 +47,8 @@ row_of image r =
       address = r.address;
       flags = r.flags;
       parent = r.parent;
-      name = place r.name_place r.name_length;
-      name_bytes = part_of image (place r.name_place r.name_length);
+      name = r.name;
+      name_bytes = part_of image r.name;
     }
 
 abbrev pub descriptor_of : List ℕ → Option Row → Option TypeRow

@@ -1,9 +1,10 @@
 ghost use Rattle.std.specs.Prelude.{◌≡◌};
-ghost use Rattle.segment.specs.Mapping.{with_mapping};
 ghost use Rattle.runtime.specs.Reads.{run};
+ghost use Rattle.runtime.specs.Runtime.{tried};
 ghost use Rattle.typedescriptor.specs.Row.{descriptor, descriptor_of};
 
-use segment::Mapping;
+use runtime::SwiftRuntime;
+use util::Place;
 
 // What a type descriptor says: its address, its flags, the parent context's address (0 if it has none), and where its name lies.
 #[derive(Clone, Copy)]
@@ -11,20 +12,14 @@ pub struct Row {
     pub address: u64,
     pub flags: u32,
     pub parent: u64,
-    pub name_place: usize,
-    pub name_length: usize,
+    pub name: Place,
 }
 
-// The row of the type descriptor at an address. The mapping is tried before the segments; a true mapping changes no answer.
-pub fn decode_type_descriptor(
-    image: &[u8],
-    segments: &[u64],
-    mapping: Mapping,
-    descriptor_va: u64,
-) -> Option<Row>
-    ensures { descriptor_of image.now result ≡ run image.now (with_mapping mapping segments.now) (descriptor descriptor_va) }
+// The row of the type descriptor at an address. A true mapping changes no answer.
+pub fn decode_type_descriptor(rt: &SwiftRuntime, descriptor_va: u64) -> Option<Row>
+    ensures { descriptor_of rt.now.image.now result ≡ run rt.now.image.now (tried rt.now) (descriptor descriptor_va) }
 {
-    let header = runtime::read_bytes(image, segments, mapping, descriptor_va, 20);
+    let header = rt.read_bytes(descriptor_va, 20);
     if header.len() < 20 {
         return None;
     }
@@ -32,12 +27,11 @@ pub fn decode_type_descriptor(
         return None;
     }
     let name_va = util::pointer_in(header, 8, descriptor_va + 8);
-    let name = runtime::read_cstr(image, segments, mapping, name_va)?;
+    let name = rt.read_cstr(name_va)?;
     Some(Row {
         address: descriptor_va,
         flags: util::u32_at(header, 0),
         parent: util::address_in(header, 4, descriptor_va + 4),
-        name_place: name.start,
-        name_length: name.size,
+        name,
     })
 }

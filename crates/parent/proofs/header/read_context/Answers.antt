@@ -17,4 +17,4 @@ returns-else-has_name c =
 
 pub returns-in_err-header : goal.returns-in_err-header
 returns-in_err-header c =
-    ap (context_of c.args.image.now) c.from_residual.ensures ∙ no_context _ _ _ (told (header_of _) c.read_header.ensures c.in_err-header.was)
+    ap (context_of c.args.rt.now.image.now) c.from_residual.ensures ∙ no_context _ _ _ (told (header_of _) c.read_header.ensures c.in_err-header.was)

@@ -18,5 +18,5 @@ returns c =
 
 pub returns-in_err-name : goal.returns-in_err-name
 returns-in_err-name c =
-    ap (descriptor_of c.args.image.now) c.from_residual.ensures
+    ap (descriptor_of c.args.rt.now.image.now) c.from_residual.ensures
     ∙ no_name _ _ _ _ c.read_bytes-header.ensures _ c.pointer_in-name_va.ensures (known c.read_cstr.ensures c.in_err-name.was) (omega arith) (omega arith)

@@ -9,4 +9,4 @@ pub returns : goal.returns
 returns c = c.decode_type_descriptor.ensures ∙ refers_to _ _ _ _ _ _ (known c.slot_descriptor.ensures c.in_ok-address.was)
 
 pub returns-in_err-address : goal.returns-in_err-address
-returns-in_err-address c = ap (descriptor_of c.args.image.now) c.from_residual.ensures ∙ refers_nowhere _ _ _ _ _ (known c.slot_descriptor.ensures c.in_err-address.was)
+returns-in_err-address c = ap (descriptor_of c.args.rt.now.image.now) c.from_residual.ensures ∙ refers_nowhere _ _ _ _ _ (known c.slot_descriptor.ensures c.in_err-address.was)

@@ -14,4 +14,4 @@ returns c = chain_goes_on _ _ _ _ _ (told (context_of _) c.read_context.ensures 
 
 pub returns-in_err-context : goal.returns-in_err-context
 returns-in_err-context c =
-    ap (parent_step_of c.args.image.now) c.from_residual.ensures ∙ chain_ends _ _ _ _ (told (context_of _) c.read_context.ensures c.in_err-context.was) (omega arith)
+    ap (parent_step_of c.args.rt.now.image.now) c.from_residual.ensures ∙ chain_ends _ _ _ _ (told (context_of _) c.read_context.ensures c.in_err-context.was) (omega arith)
