@@ -1,11 +1,11 @@
 // Blocks at an address. A header is read once, as a part of the image.
 ghost use Rattle.std.specs.Prelude.{◌≡◌, false, ◌+◌, ◌*◌, ◌≤◌};
 ghost use Rattle.runtime.specs.Reads.{run};
-ghost use Rattle.segment.specs.Mapping.{with_mapping};
+ghost use Rattle.runtime.specs.Runtime.{tried};
 ghost use Rattle.classtrailers.specs.Blocks.{placed_block, listed, row_at, row_number, below, block_at};
 
 use crate::block::{Block, BlockBody, BlockKind, Ended};
-use segment::Mapping;
+use runtime::SwiftRuntime;
 
 // How many bytes an entry has.
 const OVERRIDE: u64 = 12;
@@ -35,10 +35,10 @@ fn plain_at(kind: BlockKind, at: u64, size: u64) -> Ended
 }
 
 // A generic header: its parameters take a byte each, their number rounded up to a multiple of four, its requirements 12 bytes each.
-fn generic_at(image: &[u8], segments: &[u64], mapping: Mapping, at: u64) -> Option<Ended>
-    ensures { result ≡ run image.now (with_mapping mapping segments.now) (block_at (row_at 0) at) }
+fn generic_at(rt: &SwiftRuntime, at: u64) -> Option<Ended>
+    ensures { result ≡ run rt.now.image.now (tried rt.now) (block_at (row_at 0) at) }
 {
-    let header = runtime::read_bytes(image, segments, mapping, at, 16);
+    let header = rt.read_bytes(at, 16);
     if header.len() < 16 {
         return None;
     }
@@ -54,10 +54,10 @@ fn generic_at(image: &[u8], segments: &[u64], mapping: Mapping, at: u64) -> Opti
     })
 }
 
-fn vtable_at(image: &[u8], segments: &[u64], mapping: Mapping, at: u64) -> Option<Ended>
-    ensures { result ≡ run image.now (with_mapping mapping segments.now) (block_at (row_at 4) at) }
+fn vtable_at(rt: &SwiftRuntime, at: u64) -> Option<Ended>
+    ensures { result ≡ run rt.now.image.now (tried rt.now) (block_at (row_at 4) at) }
 {
-    let header = runtime::read_bytes(image, segments, mapping, at, 8);
+    let header = rt.read_bytes(at, 8);
     if header.len() < 8 {
         return None;
     }
@@ -77,18 +77,11 @@ fn vtable_at(image: &[u8], segments: &[u64], mapping: Mapping, at: u64) -> Optio
 }
 
 // A table whose header is the number of its entries, each of `entry` bytes.
-fn entries_at(
-    image: &[u8],
-    segments: &[u64],
-    mapping: Mapping,
-    kind: BlockKind,
-    at: u64,
-    entry: u64,
-) -> Option<Ended>
+fn entries_at(rt: &SwiftRuntime, kind: BlockKind, at: u64, entry: u64) -> Option<Ended>
     requires { entry ≤ 12 }
-    ensures { result ≡ run image.now (with_mapping mapping segments.now) (block_at (listed kind (λ _. false) entry) at) }
+    ensures { result ≡ run rt.now.image.now (tried rt.now) (block_at (listed kind (λ _. false) entry) at) }
 {
-    let header = runtime::read_bytes(image, segments, mapping, at, 4);
+    let header = rt.read_bytes(at, 4);
     if header.len() < 4 {
         return None;
     }
@@ -108,10 +101,10 @@ fn entries_at(
 }
 
 // Two bytes are read, and the next block starts four bytes on.
-fn invertible_at(image: &[u8], segments: &[u64], mapping: Mapping, at: u64) -> Option<Ended>
-    ensures { result ≡ run image.now (with_mapping mapping segments.now) (block_at (row_at 8) at) }
+fn invertible_at(rt: &SwiftRuntime, at: u64) -> Option<Ended>
+    ensures { result ≡ run rt.now.image.now (tried rt.now) (block_at (row_at 8) at) }
 {
-    let header = runtime::read_bytes(image, segments, mapping, at, 2);
+    let header = rt.read_bytes(at, 2);
     if header.len() < 2 {
         return None;
     }
@@ -130,30 +123,20 @@ fn invertible_at(image: &[u8], segments: &[u64], mapping: Mapping, at: u64) -> O
 }
 
 // The block of a kind at an address. The mapping is tried before the segments; a true mapping changes no answer.
-pub fn block_at(
-    image: &[u8],
-    segments: &[u64],
-    mapping: Mapping,
-    kind: BlockKind,
-    at: u64,
-) -> Option<Ended>
-    ensures { result ≡ run image.now (with_mapping mapping segments.now) (block_at (row_at (row_number kind)) at) }
+pub fn block_at(rt: &SwiftRuntime, kind: BlockKind, at: u64) -> Option<Ended>
+    ensures { result ≡ run rt.now.image.now (tried rt.now) (block_at (row_at (row_number kind)) at) }
 {
     match kind {
-        BlockKind::Generic => generic_at(image, segments, mapping, at),
+        BlockKind::Generic => generic_at(rt, at),
         BlockKind::ResilientSuperclass => Some(plain_at(kind, at, 4)),
         BlockKind::ForeignMetadataInit => Some(plain_at(kind, at, 4)),
         BlockKind::SingletonMetadataInit => Some(plain_at(kind, at, 12)),
-        BlockKind::VTable => vtable_at(image, segments, mapping, at),
-        BlockKind::OverrideTable => entries_at(image, segments, mapping, kind, at, OVERRIDE),
+        BlockKind::VTable => vtable_at(rt, at),
+        BlockKind::OverrideTable => entries_at(rt, kind, at, OVERRIDE),
         BlockKind::ObjcResilientClassStub => Some(plain_at(kind, at, 4)),
-        BlockKind::Prespecializations => {
-            entries_at(image, segments, mapping, kind, at, PRESPECIALIZATION)
-        }
-        BlockKind::InvertibleProtocolSet => invertible_at(image, segments, mapping, at),
+        BlockKind::Prespecializations => { entries_at(rt, kind, at, PRESPECIALIZATION) }
+        BlockKind::InvertibleProtocolSet => invertible_at(rt, at),
         BlockKind::SingletonMetadataPointer => Some(plain_at(kind, at, 4)),
-        BlockKind::DefaultOverrideTable => {
-            entries_at(image, segments, mapping, kind, at, DEFAULT_OVERRIDE)
-        }
+        BlockKind::DefaultOverrideTable => { entries_at(rt, kind, at, DEFAULT_OVERRIDE) }
     }
 }

@@ -1,13 +1,13 @@
 // Block after block, and the block of a kind.
 ghost use Rattle.std.specs.Prelude.{◌≡◌, ◌<◌};
 ghost use Rattle.runtime.specs.Reads.{run};
-ghost use Rattle.segment.specs.Mapping.{with_mapping};
+ghost use Rattle.runtime.specs.Runtime.{tried};
 ghost use Rattle.classtrailers.specs.Blocks.{row_at, row_number, passed, after, step_at, next_block, block};
 
 use crate::block::{Block, BlockKind};
 use crate::decode::block_at;
 use crate::trailing::{Trailing, has_block, kind_there, number_of};
-use segment::Mapping;
+use runtime::SwiftRuntime;
 
 // How many kinds of blocks there are.
 pub const ROWS: u32 = 11;
@@ -47,17 +47,16 @@ fn after(trailing: Trailing, row: u32, end: Option<u64>) -> BlockIter
 
 // A block that is present, of the kind with this number, and the walk from its end on.
 fn step_at(
-    image: &[u8],
-    segments: &[u64],
+    rt: &SwiftRuntime,
     trailing: Trailing,
     row: u32,
     kind: BlockKind,
     address: u64,
 ) -> Option<BlockStep>
     requires { (row < 11) × (row ≡ row_number kind) }
-    ensures { result ≡ step_at image.now segments.now trailing row address }
+    ensures { result ≡ step_at rt.now.image.now (tried rt.now) trailing row address }
 {
-    let found = block_at(image, segments, segment::NO_MAPPING, kind, address)?;
+    let found = block_at(rt, kind, address)?;
     Some(BlockStep {
         block: found.block,
         next: after(trailing, row + 1, found.end),
@@ -77,12 +76,12 @@ impl BlockIter {
     }
 
     // The next block that is present.
-    pub fn next(self, image: &[u8], segments: &[u64]) -> Option<BlockStep>
-        ensures { result ≡ next_block image.now segments.now self }
+    pub fn next(self, rt: &SwiftRuntime) -> Option<BlockStep>
+        ensures { result ≡ next_block rt.now.image.now (tried rt.now) self }
     {
         for row in self.row..ROWS {
             if let Some(kind) = kind_there(self.trailing, row) {
-                return step_at(image, segments, self.trailing, row, kind, self.address);
+                return step_at(rt, self.trailing, row, kind, self.address);
             }
         }
         None
@@ -90,40 +89,31 @@ impl BlockIter {
 }
 
 // Where the next block starts: past the block with this number, if it is present.
-fn pass(
-    image: &[u8],
-    segments: &[u64],
-    mapping: Mapping,
-    trailing: Trailing,
-    row: u32,
-    address: u64,
-) -> Option<u64>
-    ensures { result ≡ run image.now (with_mapping mapping segments.now) (passed trailing (row_at row) address) }
+fn pass(rt: &SwiftRuntime, trailing: Trailing, row: u32, address: u64) -> Option<u64>
+    ensures { result ≡ run rt.now.image.now (tried rt.now) (passed trailing (row_at row) address) }
 {
     let Some(kind) = kind_there(trailing, row) else {
         return Some(address);
     };
-    block_at(image, segments, mapping, kind, address)?.end
+    block_at(rt, kind, address)?.end
 }
 
 // The block of a kind, for a descriptor whose blocks start at an address. Only the headers of the blocks before it are read.
 pub fn block_of_kind(
-    image: &[u8],
-    segments: &[u64],
-    mapping: Mapping,
+    rt: &SwiftRuntime,
     trailing: Trailing,
     start: u64,
     kind: BlockKind,
 ) -> Option<Block>
-    ensures { result ≡ run image.now (with_mapping mapping segments.now) (block trailing start kind) }
+    ensures { result ≡ run rt.now.image.now (tried rt.now) (block trailing start kind) }
 {
     if !has_block(trailing, kind) {
         return None;
     }
     let mut address = start;
     for row in 0..number_of(kind) {
-        address = pass(image, segments, mapping, trailing, row, address)?;
+        address = pass(rt, trailing, row, address)?;
     }
-    let found = block_at(image, segments, mapping, kind, address)?;
+    let found = block_at(rt, kind, address)?;
     Some(found.block)
 }
