@@ -1,8 +1,8 @@
 ghost use Rattle.std.specs.Prelude.{◌≡◌, ◌+◌, ◌*◌, ◌%◌, ◌^◌};
-ghost use Rattle.segment.specs.Mapping.{with_mapping};
+ghost use Rattle.runtime.specs.Runtime.{tried};
 ghost use Rattle.vtable.specs.Entries.{kind_layout, entry_size, entry_bytes};
 
-use segment::Mapping;
+use runtime::SwiftRuntime;
 
 // The kinds of tables.
 #[derive(Clone, Copy)]
@@ -47,24 +47,22 @@ pub fn entry_address(base_va: u64, stride: u32, k: u32) -> u64
 
 // Its `size` bytes, as that part of the image: empty if they cannot be read, or if one of its words does not lie below 2^64.
 pub fn entry_bytes<'a>(
-    image: &'a [u8],
-    segments: &[u64],
-    mapping: Mapping,
+    rt: &SwiftRuntime<'a, '_>,
     base_va: u64,
     size: u32,
     stride: u32,
     k: u32,
 ) -> &'a [u8]
-    ensures { result.now ≡ entry_bytes image.now (with_mapping mapping segments.now) size stride base_va k }
+    ensures { result.now ≡ entry_bytes rt.now.image.now (tried rt.now) size stride base_va k }
 {
     if size < 4 {
-        return &image[..0];
+        return &rt.image[..0];
     }
     let Some(address) = base_va.checked_add(stride as u64 * k as u64) else {
-        return &image[..0];
+        return &rt.image[..0];
     };
     if u64::MAX - address < (size - 4) as u64 {
-        return &image[..0];
+        return &rt.image[..0];
     }
-    runtime::read_bytes(image, segments, mapping, address, size as usize)
+    rt.read_bytes(address, size as usize)
 }

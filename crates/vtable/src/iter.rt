@@ -1,8 +1,10 @@
 // Walks over the entries of a table, by value: each step returns the walk.
+ghost use Rattle.runtime.specs.Runtime.{tried};
 ghost use Rattle.std.specs.Prelude.{◌≡◌, ◌+◌, ◌-◌, ◌^◌, ◌<◌};
 ghost use Rattle.vtable.specs.Entries.{method, kind_layout, entry_size, entry_of, start, moved, entry_step, table_entry, step_answer};
 
 use crate::entry::{EntryKind, TableEntry, entry_address, entry_bytes};
+use runtime::SwiftRuntime;
 
 // The table's address, how many entries it has, and the number of the next one.
 #[derive(Clone, Copy)]
@@ -76,23 +78,15 @@ impl EntryIter {
     }
 
     // The next entry of a table of a kind.
-    pub fn next(self, image: &[u8], segments: &[u64], kind: EntryKind) -> EntryStep
-        ensures { result ≡ step_answer (entry_step image.now segments.now (kind_layout kind) self) }
+    pub fn next(self, rt: &SwiftRuntime, kind: EntryKind) -> EntryStep
+        ensures { result ≡ step_answer (entry_step rt.now.image.now (tried rt.now) (kind_layout kind) self) }
     {
         if self.count <= self.next {
             return EntryStep::End;
         }
         let next = self.moved();
         let size = kind.size();
-        let bytes = entry_bytes(
-            image,
-            segments,
-            segment::NO_MAPPING,
-            self.base_va,
-            size,
-            size,
-            self.next,
-        );
+        let bytes = entry_bytes(rt, self.base_va, size, size, self.next);
         if bytes.is_empty() {
             return EntryStep::Unreadable { next };
         }
@@ -101,9 +95,9 @@ impl EntryIter {
         EntryStep::Entry { entry, next }
     }
 
-    pub fn next_method(self, image: &[u8], segments: &[u64]) -> EntryStep
-        ensures { result ≡ step_answer (entry_step image.now segments.now method self) }
+    pub fn next_method(self, rt: &SwiftRuntime) -> EntryStep
+        ensures { result ≡ step_answer (entry_step rt.now.image.now (tried rt.now) method self) }
     {
-        self.next(image, segments, EntryKind::Method)
+        self.next(rt, EntryKind::Method)
     }
 }
