@@ -1,4 +1,5 @@
 // The descriptors of a fields section.
+ghost use Rattle.runtime.specs.Runtime.{tried};
 ghost use Rattle.std.specs.Prelude.{◌≡◌, ◌+◌, ◌^◌, ◌<◌};
 ghost use Rattle.runtime.specs.Reads.{text_place};
 ghost use Rattle.field.specs.Fields.{field_descriptor_of, field_step, field_step_of};
@@ -6,6 +7,7 @@ ghost use Rattle.field.specs.Records.{records_of};
 
 use crate::record::FieldRecordIter;
 use context::FieldDescriptorKind;
+use runtime::{SwiftRuntime, SwiftSection};
 use util::Place;
 
 // How many bytes a header has.
@@ -56,10 +58,11 @@ impl FieldIter {
         FieldIter { at: 0 }
     }
 
-    // The next descriptor of a section whose first byte is at `vmaddr`.
-    pub fn next(self, fields: &[u8], vmaddr: u64) -> FieldStep
-        ensures { field_step_of result ≡ field_step fields.now vmaddr self.at }
+    // The next descriptor of a section.
+    pub fn next(self, section: SwiftSection) -> FieldStep
+        ensures { field_step_of result ≡ field_step section.entry.body.now section.entry.vmaddr self.at }
     {
+        let fields = section.body;
         let at = self.at;
         let stays = FieldStep {
             found: None,
@@ -77,7 +80,7 @@ impl FieldIter {
         let next = FieldIter {
             at: at + (HEADER_SIZE + records),
         };
-        let address = vmaddr.wrapping_add(at as u64);
+        let address = section.vmaddr.wrapping_add(at as u64);
         // The superclass's offset has no address: nothing, though the walk has moved on.
         if address > 0xffff_ffff_ffff_fffb {
             return FieldStep { found: None, next };
@@ -105,32 +108,14 @@ impl FieldDescriptor {
     }
 }
 
-pub fn mangled_type_name(
-    image: &[u8],
-    segments: &[u64],
-    descriptor: FieldDescriptor,
-) -> Option<Place>
-    ensures { result ≡ text_place image.now segments.now descriptor.mangled_type_name_va }
+pub fn mangled_type_name(rt: &SwiftRuntime, descriptor: FieldDescriptor) -> Option<Place>
+    ensures { result ≡ text_place rt.now.image.now (tried rt.now) descriptor.mangled_type_name_va }
 {
-    runtime::read_cstr(
-        image,
-        segments,
-        segment::NO_MAPPING,
-        descriptor.mangled_type_name_va,
-    )
+    rt.read_cstr(descriptor.mangled_type_name_va)
 }
 
-pub fn superclass_mangled_name(
-    image: &[u8],
-    segments: &[u64],
-    descriptor: FieldDescriptor,
-) -> Option<Place>
-    ensures { result ≡ text_place image.now segments.now descriptor.superclass_va }
+pub fn superclass_mangled_name(rt: &SwiftRuntime, descriptor: FieldDescriptor) -> Option<Place>
+    ensures { result ≡ text_place rt.now.image.now (tried rt.now) descriptor.superclass_va }
 {
-    runtime::read_cstr(
-        image,
-        segments,
-        segment::NO_MAPPING,
-        descriptor.superclass_va,
-    )
+    rt.read_cstr(descriptor.superclass_va)
 }

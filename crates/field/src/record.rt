@@ -1,4 +1,5 @@
 // The records of a field descriptor, read from the image at their addresses.
+ghost use Rattle.runtime.specs.Runtime.{tried};
 ghost use Rattle.std.specs.Prelude.{◌≡◌, ◌+◌, ◌^◌, ◌<◌};
 ghost use Rattle.segment.specs.Mapping.{with_mapping, TrueMapping};
 ghost use Rattle.runtime.specs.Reads.{text_place};
@@ -6,7 +7,7 @@ ghost use Rattle.runtime.specs.FieldName.{field_name, field_name_of};
 ghost use Rattle.vtable.specs.Entries.{packed, entry_of};
 ghost use Rattle.field.specs.Records.{record_words, record_step, of_record, record_step_of};
 
-use runtime::FieldName;
+use runtime::{FieldName, SwiftRuntime, SwiftSection};
 use segment::Mapping;
 use util::Place;
 
@@ -64,8 +65,8 @@ impl FieldRecordIter {
         segment::locate(segments, self.base_va).unwrap_or(segment::NO_MAPPING)
     }
 
-    pub fn next(self, image: &[u8], segments: &[u64], mapping: Mapping) -> FieldRecordStep
-        ensures { record_step_of result ≡ record_step image.now (with_mapping mapping segments.now) self }
+    pub fn next(self, rt: &SwiftRuntime) -> FieldRecordStep
+        ensures { record_step_of result ≡ record_step rt.now.image.now (tried rt.now) self }
     {
         if self.count <= self.cursor {
             return FieldRecordStep::End;
@@ -75,9 +76,7 @@ impl FieldRecordIter {
             ..self
         };
         let bytes = vtable::entry_bytes(
-            image,
-            segments,
-            mapping,
+            rt,
             self.base_va,
             RECORD_SIZE,
             self.entry_size,
@@ -94,33 +93,19 @@ impl FieldRecordIter {
     }
 }
 
-pub fn record_type_name(image: &[u8], segments: &[u64], record: FieldRecord) -> Option<Place>
-    ensures { result ≡ text_place image.now segments.now «record».mangled_type_name_va }
+pub fn record_type_name(rt: &SwiftRuntime, record: FieldRecord) -> Option<Place>
+    ensures { result ≡ text_place rt.now.image.now (tried rt.now) «record».mangled_type_name_va }
 {
-    runtime::read_cstr(
-        image,
-        segments,
-        segment::NO_MAPPING,
-        record.mangled_type_name_va,
-    )
+    rt.read_cstr(record.mangled_type_name_va)
 }
 
-// The image's text at the name's address, else that of the string section, whose first byte is at `strings_va`.
+// The image's text at the name's address, else that of the string section.
 pub fn field_name(
-    image: &[u8],
-    segments: &[u64],
-    strings: &[u8],
-    strings_va: u64,
+    rt: &SwiftRuntime,
+    strings: SwiftSection,
     record: FieldRecord,
 ) -> Option<FieldName>
-    ensures { field_name_of result ≡ field_name image.now segments.now strings.now strings_va «record».field_name_va }
+    ensures { field_name_of result ≡ field_name rt.now.image.now (tried rt.now) strings.entry.body.now strings.entry.vmaddr «record».field_name_va }
 {
-    runtime::lookup_field_name(
-        image,
-        segments,
-        segment::NO_MAPPING,
-        strings,
-        strings_va,
-        record.field_name_va,
-    )
+    rt.lookup_field_name(strings, record.field_name_va)
 }

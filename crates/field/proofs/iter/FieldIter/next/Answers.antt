@@ -20,7 +20,7 @@ pub returns-then-fields-at-2 : goal.returns-then-fields-at-2
 returns-then-fields-at-2 c = overruns _ _ _ (omega arith) _ c.part-header.ensures _ _ c.u32_at.ensures c.u16_at.ensures (omega arith)
 
 pub returns-then-address-gt18446744073709551611 : goal.returns-then-address-gt18446744073709551611
-returns-then-address-gt18446744073709551611 c = passes _ _ _ (omega arith) _ c.part-header.ensures _ _ c.u32_at.ensures c.u16_at.ensures _ _ refl (not_headed ((c.args.vmaddr + c.args.self.at) % 2 ^ 64) _ (omega arith)) (omega arith)
+returns-then-address-gt18446744073709551611 c = passes _ _ _ (omega arith) _ c.part-header.ensures _ _ c.u32_at.ensures c.u16_at.ensures _ _ refl (not_headed ((c.args.section.vmaddr + c.args.self.at) % 2 ^ 64) _ (omega arith)) (omega arith)
 
 pub returns : goal.returns
 returns c = passes _ _ _ (omega arith) _ c.part-header.ensures _ _ c.u32_at.ensures c.u16_at.ensures _ _ refl (ap Some c.field_descriptor.ensures ∙ is_headed _ _ (omega arith)) (omega arith)
