@@ -1,10 +1,10 @@
 ghost use Rattle.std.specs.Prelude.{◌≡◌, ◌+◌, ◌≤◌, ◌<◌, ◌^◌};
-ghost use Rattle.segment.specs.Mapping.{with_mapping};
+ghost use Rattle.runtime.specs.Runtime.{tried};
 ghost use Rattle.runtime.specs.Reads.{run};
 ghost use Rattle.type_body.specs.Body.{sizes_at, sizes_of, class_body, class_of, struct_body, struct_of, enum_body, enum_of, body_part, body, body_of, superclass_name};
 
 use context::{ContextDescriptorFlags, ContextDescriptorKind};
-use segment::Mapping;
+use runtime::SwiftRuntime;
 use util::Place;
 
 // The two words of a class whose meaning a resilient superclass changes: the metadata's sizes, or the address of its bounds (0 if it
@@ -107,50 +107,38 @@ fn enum_in(header: &[u8]) -> EnumBody
 }
 
 // The bytes that a body of this size has after the descriptor's first 20: none unless all of them are in the image and end below 2^64.
-fn body_part<'a>(
-    image: &'a [u8],
-    segments: &[u64],
-    mapping: Mapping,
-    address: u64,
-    size: usize,
-) -> &'a [u8]
+fn body_part<'a>(rt: &SwiftRuntime<'a, '_>, address: u64, size: usize) -> &'a [u8]
     requires { size ≤ 24 }
-    ensures { result.now ≡ body_part image.now (with_mapping mapping segments.now) address size }
+    ensures { result.now ≡ body_part rt.now.image.now (tried rt.now) address size }
 {
     if address > 0xffff_ffff_ffff_ffeb - (size as u64) {
-        return &image[..0];
+        return &rt.image[..0];
     }
-    runtime::read_bytes(image, segments, mapping, address + 20, size)
+    rt.read_bytes(address + 20, size)
 }
 
 // The body of the descriptor with these flags at an address: nothing if it is not a class, struct or enum, if its bytes are not in the
 // image, or if its end reaches 2^64. The mapping is tried before the segments; a true mapping changes no answer.
-pub fn decode_body(
-    image: &[u8],
-    segments: &[u64],
-    mapping: Mapping,
-    address: u64,
-    flags: u32,
-) -> Option<TypeBody>
-    ensures { body_of result ≡ run image.now (with_mapping mapping segments.now) (body address flags) }
+pub fn decode_body(rt: &SwiftRuntime, address: u64, flags: u32) -> Option<TypeBody>
+    ensures { body_of result ≡ run rt.now.image.now (tried rt.now) (body address flags) }
 {
     match ContextDescriptorFlags(flags).kind() {
         ContextDescriptorKind::Class => {
-            let header = body_part(image, segments, mapping, address, 24);
+            let header = body_part(rt, address, 24);
             if header.len() < 24 {
                 return None;
             }
             Some(TypeBody::Class(class_in(header, address, flags)))
         }
         ContextDescriptorKind::Struct => {
-            let header = body_part(image, segments, mapping, address, 8);
+            let header = body_part(rt, address, 8);
             if header.len() < 8 {
                 return None;
             }
             Some(TypeBody::Struct(struct_in(header)))
         }
         ContextDescriptorKind::Enum => {
-            let header = body_part(image, segments, mapping, address, 8);
+            let header = body_part(rt, address, 8);
             if header.len() < 8 {
                 return None;
             }
@@ -166,13 +154,11 @@ pub fn decode_body(
 }
 
 // The name of a class's superclass; `util::text_part` returns the part of the image. There is none for any other body.
-pub fn superclass_name(image: &[u8], segments: &[u64], body: Option<TypeBody>) -> Option<Place>
-    ensures { result ≡ superclass_name image.now segments.now (body_of body) }
+pub fn superclass_name(rt: &SwiftRuntime, body: Option<TypeBody>) -> Option<Place>
+    ensures { result ≡ superclass_name rt.now.image.now (tried rt.now) (body_of body) }
 {
     match body? {
-        TypeBody::Class(class) => {
-            runtime::read_cstr(image, segments, segment::NO_MAPPING, class.superclass_va)
-        }
+        TypeBody::Class(class) => { rt.read_cstr(class.superclass_va) }
         TypeBody::Struct(_) | TypeBody::Enum(_) => None,
     }
 }

@@ -1,6 +1,9 @@
+ghost use Rattle.runtime.specs.Runtime.{tried};
 ghost use Rattle.std.specs.Prelude.{◌≡◌};
 ghost use Rattle.runtime.specs.Reads.{run};
 ghost use Rattle.type_body.specs.Singleton.{slot_target, singleton_init, init_of, singleton_pointer};
+
+use runtime::SwiftRuntime;
 
 // The three addresses of a singleton initialization, each 0 if its offset is 0.
 #[derive(Clone, Copy)]
@@ -23,14 +26,10 @@ fn target_in(bytes: &[u8], off: usize, address: u64) -> Option<u64>
 }
 
 // The 12 bytes of the singleton initialization at an address.
-pub fn singleton_metadata_init(
-    image: &[u8],
-    segments: &[u64],
-    address: u64,
-) -> Option<SingletonMetadataInit>
-    ensures { init_of result ≡ run image.now segments.now (singleton_init address) }
+pub fn singleton_metadata_init(rt: &SwiftRuntime, address: u64) -> Option<SingletonMetadataInit>
+    ensures { init_of result ≡ run rt.now.image.now (tried rt.now) (singleton_init address) }
 {
-    let bytes = runtime::read_bytes(image, segments, segment::NO_MAPPING, address, 12);
+    let bytes = rt.read_bytes(address, 12);
     if bytes.len() < 12 {
         return None;
     }
@@ -42,10 +41,10 @@ pub fn singleton_metadata_init(
 }
 
 // The address that the 4 bytes of the singleton pointer at an address refer to: that of a singleton's metadata, 0 if the offset is 0.
-pub fn singleton_metadata_pointer(image: &[u8], segments: &[u64], address: u64) -> Option<u64>
-    ensures { result ≡ run image.now segments.now (singleton_pointer address) }
+pub fn singleton_metadata_pointer(rt: &SwiftRuntime, address: u64) -> Option<u64>
+    ensures { result ≡ run rt.now.image.now (tried rt.now) (singleton_pointer address) }
 {
-    let bytes = runtime::read_bytes(image, segments, segment::NO_MAPPING, address, 4);
+    let bytes = rt.read_bytes(address, 4);
     if bytes.len() < 4 {
         return None;
     }
