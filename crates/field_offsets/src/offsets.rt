@@ -1,4 +1,5 @@
 // The byte offsets of a struct's fields, by the vector in its metadata.
+ghost use Rattle.runtime.specs.Runtime.{tried};
 ghost use Rattle.std.specs.Prelude.{◌≡◌, Some};
 ghost use Rattle.runtime.specs.Reads.{and_then, run};
 ghost use Rattle.type_body.specs.Body.{of_struct, body_of};
@@ -6,6 +7,7 @@ ghost use Rattle.type_body.specs.Items.{pointer_of_block, trailers};
 ghost use Rattle.field_offsets.specs.Offsets.{offsets_place, offset_in, metadata_after, static_place};
 
 use classtrailers::{Block, BlockBody, BlockKind};
+use runtime::SwiftRuntime;
 use type_body::{Start, TypeBody, decode_body, singleton_metadata_pointer};
 
 // Where the vector lies in the image, and how many numbers of four bytes it has.
@@ -16,13 +18,12 @@ pub struct FieldOffsets {
 }
 
 fn struct_offsets(
-    image: &[u8],
-    segments: &[u64],
+    rt: &SwiftRuntime,
     count: u32,
     word: u32,
     metadata_va: u64,
 ) -> Option<FieldOffsets>
-    ensures { result ≡ offsets_place image.now segments.now (Some (of_struct count word)) metadata_va }
+    ensures { result ≡ offsets_place rt.now.image.now (tried rt.now) (Some (of_struct count word)) metadata_va }
 {
     if count == 0 {
         return None;
@@ -36,24 +37,22 @@ fn struct_offsets(
     let distance = 8 * (word as u64);
     let vector_va = metadata_va.checked_add(distance)?;
     let length = 4 * (count as usize);
-    let place = runtime::find_bytes(image, segments, segment::NO_MAPPING, vector_va, length)?;
+    let place = rt.find_bytes(vector_va, length)?;
     Some(FieldOffsets { place, count })
 }
 
 // The offsets of the fields of a struct whose metadata is at an address. There are none for any other body, and none unless all of them
 // are in the image.
 pub fn field_offsets(
-    image: &[u8],
-    segments: &[u64],
+    rt: &SwiftRuntime,
     body: Option<TypeBody>,
     metadata_va: u64,
 ) -> Option<FieldOffsets>
-    ensures { result ≡ offsets_place image.now segments.now (body_of body) metadata_va }
+    ensures { result ≡ offsets_place rt.now.image.now (tried rt.now) (body_of body) metadata_va }
 {
     match body? {
         TypeBody::Struct(fields) => struct_offsets(
-            image,
-            segments,
+            rt,
             fields.num_fields,
             fields.field_offset_vector_offset,
             metadata_va,
@@ -85,42 +84,35 @@ pub fn field_offset(image: &[u8], offsets: Option<FieldOffsets>, number: u32) ->
     offset_at(image, offsets?, number)
 }
 
-fn pointer_of(image: &[u8], segments: &[u64], block: Block) -> Option<u64>
-    ensures { result ≡ run image.now segments.now (pointer_of_block block) }
+fn pointer_of(rt: &SwiftRuntime, block: Block) -> Option<u64>
+    ensures { result ≡ run rt.now.image.now (tried rt.now) (pointer_of_block block) }
 {
     let BlockBody::At(address) = block.body else {
         return None;
     };
-    singleton_metadata_pointer(image, segments, address)
+    singleton_metadata_pointer(rt, address)
 }
 
 // The metadata's address from the singleton pointer among the blocks after a body.
 fn metadata_after(
-    image: &[u8],
-    segments: &[u64],
+    rt: &SwiftRuntime,
     address: u64,
     flags: u32,
     body: Option<TypeBody>,
 ) -> Option<u64>
-    ensures { result ≡ metadata_after image.now segments.now (trailers address flags (body_of body)) }
+    ensures { result ≡ metadata_after rt.now.image.now (tried rt.now) (trailers address flags (body_of body)) }
 {
     let Start { trailing, start } = type_body::trailing(address, flags, body)?;
     let kind = BlockKind::SingletonMetadataPointer;
-    let no_mapping = segment::NO_MAPPING;
-    let block = classtrailers::block_of_kind(image, segments, no_mapping, trailing, start, kind)?;
-    pointer_of(image, segments, block)
+    let block = classtrailers::block_of_kind(rt, trailing, start, kind)?;
+    pointer_of(rt, block)
 }
 
 // The offsets of the fields of the descriptor with these flags at an address, for the metadata that its singleton pointer refers to.
-pub fn static_field_offsets(
-    image: &[u8],
-    segments: &[u64],
-    address: u64,
-    flags: u32,
-) -> Option<FieldOffsets>
-    ensures { result ≡ static_place image.now segments.now address flags }
+pub fn static_field_offsets(rt: &SwiftRuntime, address: u64, flags: u32) -> Option<FieldOffsets>
+    ensures { result ≡ static_place rt.now.image.now (tried rt.now) address flags }
 {
-    let body = decode_body(image, segments, segment::NO_MAPPING, address, flags);
-    let metadata_va = metadata_after(image, segments, address, flags, body)?;
-    field_offsets(image, segments, body, metadata_va)
+    let body = decode_body(rt, address, flags);
+    let metadata_va = metadata_after(rt, address, flags, body)?;
+    field_offsets(rt, body, metadata_va)
 }

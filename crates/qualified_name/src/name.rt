@@ -1,15 +1,17 @@
 // The joined name of a type: the names of the contexts around it, the outermost first, with dots, and then its own.
+ghost use Rattle.runtime.specs.Runtime.{tried};
 ghost use Rattle.std.specs.Prelude.{◌≡◌, ◌+◌, ◌≤◌, length};
 ghost use Rattle.refusal.specs.Refusal.{outcome, mapped, answer_of};
 ghost use Rattle.qualified_name.specs.Walk.{gathered, Walked, hops_answer, filled, before};
 ghost use Rattle.qualified_name.specs.Name.{name_answer};
 ghost use Rattle.typedescriptor.specs.Row.{row_of};
 ghost use Rattle.util.specs.Buffer.{Put, overwritten};
-ghost use Rattle.segment.specs.Mapping.{TrueMapping, with_mapping};
+ghost use Rattle.segment.specs.Mapping.{TrueMapping};
 
 use parent::{CONTEXTS, has_name, read_context_name, read_header};
 use refusal::Refusal;
-use segment::Mapping;
+use runtime::SwiftRuntime;
+use segment::{Mapping, NO_MAPPING};
 use typedescriptor::Row;
 use util::Place;
 
@@ -41,23 +43,21 @@ pub fn around_parent(segments: &[u64], mapping: Mapping, parent: u64) -> Mapping
 
 // Reads contexts from `descriptor_va` on, of which `left` are allowed, until 8 have a name, and keeps where the names lie and how long they are.
 fn collect(
-    image: &[u8],
-    segments: &[u64],
-    mapping: Mapping,
+    rt: &SwiftRuntime,
     descriptor_va: u64,
     left: usize,
     rest: usize,
     names: &mut [Place],
 ) -> Result<Walk, Refusal>
     requires { length names.old ≡ 8 }
-    ensures { Walked image.now (with_mapping mapping segments.now) left descriptor_va rest names.new result }
+    ensures { Walked rt.now.image.now (tried rt.now) left descriptor_va rest names.new result }
 {
     let mut count = 0;
     let mut next = descriptor_va;
     let mut allowed = left;
     let mut room = rest;
     while count < 8 {
-        let Some(header) = read_header(image, segments, mapping, next) else {
+        let Some(header) = read_header(rt, next) else {
             return Ok(Walk::Ended { count, room });
         };
         if allowed == 0 {
@@ -65,7 +65,7 @@ fn collect(
         }
         allowed -= 1;
         if has_name(header.flags) {
-            if let Some(name) = read_context_name(image, segments, mapping, next) {
+            if let Some(name) = read_context_name(rt, next) {
                 names[count] = name;
                 room = room.saturating_add(name.size + 1);
                 count += 1;
@@ -97,21 +97,15 @@ fn put_hops(image: &[u8], names: &[Place], count: usize, buffer: &mut [u8], at: 
 
 // Writes the hops of the contexts from `descriptor_va` on into the buffer's start, the outermost first, if they and `rest` more bytes fit in.
 // On the way up the room is measured, on the way back the hops are written: every context is read once, and a call is made for every 8 names.
-// The mapping comes as its three numbers: a struct that was just put together would be copied two numbers at a time, which makes the
-// processor wait.
 fn write_hops(
-    image: &[u8],
-    segments: &[u64],
-    vmaddr: u64,
-    size: u64,
-    fileoff: u64,
+    rt: &SwiftRuntime,
     descriptor_va: u64,
     left: usize,
     rest: usize,
     buffer: &mut [u8],
 ) -> Result<usize, Refusal>
-    ensures result_value { outcome result ≡ hops_answer image.now (with_mapping (record { vmaddr = vmaddr; size = size; fileoff = fileoff }) segments.now) left descriptor_va rest (length buffer.old) }
-    ensures buffer_after { buffer.new ≡ filled (outcome result) (before image.now (with_mapping (record { vmaddr = vmaddr; size = size; fileoff = fileoff }) segments.now) left descriptor_va) buffer.old }
+    ensures result_value { outcome result ≡ hops_answer rt.now.image.now (tried rt.now) left descriptor_va rest (length buffer.old) }
+    ensures buffer_after { buffer.new ≡ filled (outcome result) (before rt.now.image.now (tried rt.now) left descriptor_va) buffer.old }
 {
     if descriptor_va == 0 {
         if buffer.len() < rest {
@@ -119,76 +113,44 @@ fn write_hops(
         }
         return Ok(0);
     }
-    let mapping = Mapping {
-        vmaddr,
-        size,
-        fileoff,
-    };
     let mut names = [Place { start: 0, size: 0 }; 8];
-    let walk = collect(
-        image,
-        segments,
-        mapping,
-        descriptor_va,
-        left,
-        rest,
-        &mut names,
-    )?;
+    let walk = collect(rt, descriptor_va, left, rest, &mut names)?;
     match walk {
         Walk::Ended { count, room } => {
             if buffer.len() < room {
                 return Err(Refusal::LongName);
             }
-            Ok(put_hops(image, &names, count, buffer, 0))
+            Ok(put_hops(rt.image, &names, count, buffer, 0))
         }
         Walk::Full {
             next,
             allowed,
             room,
         } => {
-            let at = write_hops(
-                image, segments, vmaddr, size, fileoff, next, allowed, room, buffer,
-            )?;
-            Ok(put_hops(image, &names, 8, buffer, at))
+            let at = write_hops(rt, next, allowed, room, buffer)?;
+            Ok(put_hops(rt.image, &names, 8, buffer, at))
         }
     }
 }
 
 // The joined name with the contexts read as if the mapping stood before the segments.
-pub fn qualified_name_near(
-    image: &[u8],
-    segments: &[u64],
-    mapping: Mapping,
-    row: Row,
-    buffer: &mut [u8],
-) -> Result<usize, Refusal>
-    ensures result_value { outcome result ≡ mapped length (name_answer image.now (with_mapping mapping segments.now) (row_of image.now row) (length buffer.old)) }
-    ensures buffer_after { buffer.new ≡ overwritten buffer.old (answer_of (name_answer image.now (with_mapping mapping segments.now) (row_of image.now row) (length buffer.old))) }
+pub fn qualified_name_near(rt: &SwiftRuntime, row: Row, buffer: &mut [u8]) -> Result<usize, Refusal>
+    ensures result_value { outcome result ≡ mapped length (name_answer rt.now.image.now (tried rt.now) (row_of rt.now.image.now row) (length buffer.old)) }
+    ensures buffer_after { buffer.new ≡ overwritten buffer.old (answer_of (name_answer rt.now.image.now (tried rt.now) (row_of rt.now.image.now row) (length buffer.old))) }
 {
-    let own = util::part(image, row.name_place, row.name_length);
-    let at = write_hops(
-        image,
-        segments,
-        mapping.vmaddr,
-        mapping.size,
-        mapping.fileoff,
-        row.parent,
-        CONTEXTS,
-        own.len(),
-        buffer,
-    )?;
+    let own = util::part(rt.image, row.name.start, row.name.size);
+    let at = write_hops(rt, row.parent, CONTEXTS, own.len(), buffer)?;
     Ok(util::put(own, buffer, at))
 }
 
-pub fn qualified_name(
-    image: &[u8],
-    segments: &[u64],
-    row: Row,
-    buffer: &mut [u8],
-) -> Result<usize, Refusal>
-    ensures result_value { outcome result ≡ mapped length (name_answer image.now segments.now (row_of image.now row) (length buffer.old)) }
-    ensures buffer_after { buffer.new ≡ overwritten buffer.old (answer_of (name_answer image.now segments.now (row_of image.now row) (length buffer.old))) }
+// By the segments alone.
+pub fn qualified_name(rt: &SwiftRuntime, row: Row, buffer: &mut [u8]) -> Result<usize, Refusal>
+    ensures result_value { outcome result ≡ mapped length (name_answer rt.now.image.now rt.now.segments.now (row_of rt.now.image.now row) (length buffer.old)) }
+    ensures buffer_after { buffer.new ≡ overwritten buffer.old (answer_of (name_answer rt.now.image.now rt.now.segments.now (row_of rt.now.image.now row) (length buffer.old))) }
 {
-    let near = around_parent(segments, segment::NO_MAPPING, row.parent);
-    qualified_name_near(image, segments, near, row, buffer)
+    let near = SwiftRuntime {
+        mapping: around_parent(rt.segments, NO_MAPPING, row.parent),
+        ..*rt
+    };
+    qualified_name_near(&near, row, buffer)
 }
