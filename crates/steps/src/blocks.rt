@@ -9,6 +9,7 @@ ghost use Rattle.steps.specs.Blocks.{walk_from, kind_from};
 
 use classtrailers::{Block, BlockIter, BlockKind, BlockStep, Trailing};
 use refusal::Refusal;
+use runtime::SwiftRuntime;
 use type_body::{Start, TypeBody};
 
 // The row of a walk that has ended: how many kinds of blocks there are.
@@ -41,7 +42,8 @@ pub fn next_block(
     ensures { outcome result ≡ guarded segments.now (answered (next_block image.now segments.now walk)) }
 {
     refusal::find_fault(segments)?;
-    Ok(walk.next(image, segments))
+    let rt = SwiftRuntime::new(image, segments);
+    Ok(walk.next(&rt))
 }
 
 // The block of a kind of a descriptor at an address with these flags and this body.
@@ -56,10 +58,10 @@ pub fn block_of_kind(
     ensures { outcome result ≡ guarded segments.now (answered (kind_from image.now segments.now kind (trailers address flags (body_of body)))) }
 {
     refusal::find_fault(segments)?;
+    let rt = SwiftRuntime::new(image, segments);
     let Some(Start { trailing, start }) = type_body::trailing(address, flags, body) else {
         return Ok(None);
     };
-    let no_mapping = segment::NO_MAPPING;
-    let block = classtrailers::block_of_kind(image, segments, no_mapping, trailing, start, kind);
+    let block = classtrailers::block_of_kind(&rt, trailing, start, kind);
     Ok(block)
 }

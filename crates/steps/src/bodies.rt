@@ -6,6 +6,7 @@ ghost use Rattle.runtime.specs.Reads.{run, text_place};
 ghost use Rattle.type_body.specs.Body.{body, body_of, superclass_name};
 
 use refusal::Refusal;
+use runtime::SwiftRuntime;
 use type_body::TypeBody;
 use util::Place;
 
@@ -19,7 +20,8 @@ pub fn row_body(
     ensures { mapped body_of (outcome result) ≡ guarded segments.now (answered (run image.now segments.now (body address flags))) }
 {
     refusal::find_fault(segments)?;
-    Ok(type_body::decode_body(image, segments, segment::NO_MAPPING, address, flags))
+    let rt = SwiftRuntime::new(image, segments);
+    Ok(type_body::decode_body(&rt, address, flags))
 }
 
 // The name of a class's superclass; there is none for any other body.
@@ -31,7 +33,8 @@ pub fn superclass_name(
     ensures { outcome result ≡ guarded segments.now (answered (superclass_name image.now segments.now (body_of body))) }
 {
     refusal::find_fault(segments)?;
-    Ok(type_body::superclass_name(image, segments, body))
+    let rt = SwiftRuntime::new(image, segments);
+    Ok(type_body::superclass_name(&rt, body))
 }
 
 // The text at an address; there is none at address 0.
@@ -39,5 +42,6 @@ pub fn text_at(image: &[u8], segments: &[u64], vmaddr: u64) -> Result<Option<Pla
     ensures { outcome result ≡ guarded segments.now (answered (text_place image.now segments.now vmaddr)) }
 {
     refusal::find_fault(segments)?;
-    Ok(runtime::read_cstr(image, segments, segment::NO_MAPPING, vmaddr))
+    let rt = SwiftRuntime::new(image, segments);
+    Ok(rt.read_cstr(vmaddr))
 }

@@ -9,6 +9,7 @@ ghost use Rattle.qualified_name.specs.Name.{name_answer};
 
 use parent::{ParentChain, ParentStep};
 use refusal::Refusal;
+use runtime::SwiftRuntime;
 use typedescriptor::Row;
 
 // The next context of a type from the walk's position.
@@ -20,7 +21,8 @@ pub fn next_context(
     ensures { mapped (parent_step_of image.now) (outcome result) ≡ guarded segments.now (answered (chain_step image.now segments.now walk.next_descriptor_va walk.given)) }
 {
     refusal::find_fault(segments)?;
-    Ok(walk.next(image, segments))
+    let rt = SwiftRuntime::new(image, segments);
+    Ok(walk.next(&rt))
 }
 
 // Writes the joined name of a row at the buffer's start.
@@ -34,5 +36,6 @@ pub fn joined_name(
     ensures buffer_after { buffer.new ≡ overwritten buffer.old (answer_of (guarded segments.now (name_answer image.now segments.now (row_of image.now row) (length buffer.old)))) }
 {
     refusal::find_fault(segments)?;
-    qualified_name::qualified_name(image, segments, row, buffer)
+    let rt = SwiftRuntime::new(image, segments);
+    qualified_name::qualified_name(&rt, row, buffer)
 }

@@ -5,6 +5,7 @@ ghost use Rattle.refusal.specs.Guarded.{guarded};
 ghost use Rattle.vtable.specs.Entries.{method, kind_layout, entry_step, step_answer};
 
 use refusal::Refusal;
+use runtime::SwiftRuntime;
 use vtable::{EntryIter, EntryKind, EntryStep};
 
 // The next entry of a table of a kind, from the walk's position.
@@ -17,7 +18,8 @@ pub fn next_entry(
     ensures { outcome result ≡ guarded segments.now (answered (step_answer (entry_step image.now segments.now (kind_layout kind) cursor))) }
 {
     refusal::find_fault(segments)?;
-    Ok(cursor.next(image, segments, kind))
+    let rt = SwiftRuntime::new(image, segments);
+    Ok(cursor.next(&rt, kind))
 }
 
 // The next method, by a walk that carries the image.

@@ -9,14 +9,18 @@ ghost use Rattle.field.specs.Records.{record_step, record_step_of};
 
 use field::{FieldDescriptor, FieldIter, FieldRecord, FieldRecordIter, FieldRecordStep, FieldStep};
 use refusal::Refusal;
-use runtime::FieldName;
+use runtime::{FieldName, SwiftRuntime, SwiftSection};
 use util::Place;
 
 // The next descriptor of a fields section from the walk's position. It takes no segments, and refuses nothing.
 pub fn next_field(fields: &[u8], vmaddr: u64, walk: FieldIter) -> FieldStep
     ensures { field_step_of result ≡ field_step fields.now vmaddr walk.at }
 {
-    walk.next(fields, vmaddr)
+    let section = SwiftSection {
+        body: fields,
+        vmaddr,
+    };
+    walk.next(section)
 }
 
 // The next record of a descriptor from the walk's position.
@@ -28,7 +32,8 @@ pub fn next_field_record(
     ensures { mapped record_step_of (outcome result) ≡ guarded segments.now (answered (record_step image.now segments.now walk)) }
 {
     refusal::find_fault(segments)?;
-    Ok(walk.next(image, segments, segment::NO_MAPPING))
+    let rt = SwiftRuntime::new(image, segments);
+    Ok(walk.next(&rt))
 }
 
 // The name of a record's field: the image's text, else that of the string section, whose first byte is at `strings_va`.
@@ -42,7 +47,12 @@ pub fn field_name(
     ensures { mapped field_name_of (outcome result) ≡ guarded segments.now (answered (field_name image.now segments.now strings.now strings_va «record».field_name_va)) }
 {
     refusal::find_fault(segments)?;
-    Ok(field::field_name(image, segments, strings, strings_va, record))
+    let rt = SwiftRuntime::new(image, segments);
+    let strings = SwiftSection {
+        body: strings,
+        vmaddr: strings_va,
+    };
+    Ok(field::field_name(&rt, strings, record))
 }
 
 // The mangled names: that of a field's type, of the type that a descriptor is for, and of its superclass.
@@ -54,7 +64,8 @@ pub fn field_type_name(
     ensures { outcome result ≡ guarded segments.now (answered (text_place image.now segments.now «record».mangled_type_name_va)) }
 {
     refusal::find_fault(segments)?;
-    Ok(field::record_type_name(image, segments, record))
+    let rt = SwiftRuntime::new(image, segments);
+    Ok(field::record_type_name(&rt, record))
 }
 
 pub fn descriptor_type_name(
@@ -65,7 +76,8 @@ pub fn descriptor_type_name(
     ensures { outcome result ≡ guarded segments.now (answered (text_place image.now segments.now descriptor.mangled_type_name_va)) }
 {
     refusal::find_fault(segments)?;
-    Ok(field::mangled_type_name(image, segments, descriptor))
+    let rt = SwiftRuntime::new(image, segments);
+    Ok(field::mangled_type_name(&rt, descriptor))
 }
 
 pub fn descriptor_superclass_name(
@@ -76,5 +88,6 @@ pub fn descriptor_superclass_name(
     ensures { outcome result ≡ guarded segments.now (answered (text_place image.now segments.now descriptor.superclass_va)) }
 {
     refusal::find_fault(segments)?;
-    Ok(field::superclass_mangled_name(image, segments, descriptor))
+    let rt = SwiftRuntime::new(image, segments);
+    Ok(field::superclass_mangled_name(&rt, descriptor))
 }

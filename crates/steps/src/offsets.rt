@@ -7,6 +7,7 @@ ghost use Rattle.field_offsets.specs.Offsets.{offsets_place, static_place};
 
 use field_offsets::FieldOffsets;
 use refusal::Refusal;
+use runtime::SwiftRuntime;
 use type_body::TypeBody;
 
 // Where the offsets of a body's fields lie, for metadata at an address.
@@ -19,7 +20,8 @@ pub fn field_offsets(
     ensures { outcome result ≡ guarded segments.now (answered (offsets_place image.now segments.now (body_of body) metadata_va)) }
 {
     refusal::find_fault(segments)?;
-    Ok(field_offsets::field_offsets(image, segments, body, metadata_va))
+    let rt = SwiftRuntime::new(image, segments);
+    Ok(field_offsets::field_offsets(&rt, body, metadata_va))
 }
 
 // The same for the descriptor with these flags at an address, for the metadata that its singleton pointer refers to.
@@ -32,5 +34,6 @@ pub fn static_field_offsets(
     ensures { outcome result ≡ guarded segments.now (answered (static_place image.now segments.now address flags)) }
 {
     refusal::find_fault(segments)?;
-    Ok(field_offsets::static_field_offsets(image, segments, address, flags))
+    let rt = SwiftRuntime::new(image, segments);
+    Ok(field_offsets::static_field_offsets(&rt, address, flags))
 }

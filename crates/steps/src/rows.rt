@@ -6,6 +6,7 @@ ghost use Rattle.refusal.specs.Guarded.{guarded};
 ghost use Rattle.typedescriptor.specs.Slots.{next_row, type_step_of};
 
 use refusal::Refusal;
+use runtime::{SwiftRuntime, SwiftSection};
 use typedescriptor::{TypeIter, TypeStep};
 
 // The next row of the types section from the walk's position.
@@ -19,5 +20,10 @@ pub fn next_row(
     ensures { mapped (type_step_of image.now) (outcome result) ≡ guarded segments.now (answered (next_row image.now segments.now types.now vmaddr walk.slot)) }
 {
     refusal::find_fault(segments)?;
-    Ok(walk.next(image, segments, types, vmaddr))
+    let rt = SwiftRuntime::new(image, segments);
+    let types = SwiftSection {
+        body: types,
+        vmaddr,
+    };
+    Ok(walk.next(&rt, types))
 }

@@ -6,6 +6,7 @@ ghost use Rattle.runtime.specs.Reads.{run};
 ghost use Rattle.type_body.specs.Singleton.{singleton_init, singleton_pointer, init_of};
 
 use refusal::Refusal;
+use runtime::SwiftRuntime;
 use type_body::SingletonMetadataInit;
 
 // The singleton initialization at an address.
@@ -17,7 +18,8 @@ pub fn singleton_init(
     ensures { mapped init_of (outcome result) ≡ guarded segments.now (answered (run image.now segments.now (singleton_init address))) }
 {
     refusal::find_fault(segments)?;
-    Ok(type_body::singleton_metadata_init(image, segments, address))
+    let rt = SwiftRuntime::new(image, segments);
+    Ok(type_body::singleton_metadata_init(&rt, address))
 }
 
 // The singleton pointer at an address.
@@ -29,5 +31,6 @@ pub fn singleton_pointer(
     ensures { outcome result ≡ guarded segments.now (answered (run image.now segments.now (singleton_pointer address))) }
 {
     refusal::find_fault(segments)?;
-    Ok(type_body::singleton_metadata_pointer(image, segments, address))
+    let rt = SwiftRuntime::new(image, segments);
+    Ok(type_body::singleton_metadata_pointer(&rt, address))
 }
