@@ -104,19 +104,6 @@ tail_done s i left h w = let none_left : left ≡ 0 = omega arith in rw none_lef
 pub no_tail : (s : List ℕ) (i left : ℕ) → 0 < left → i + left ≤ length s → (0x80 ≤ get_or s i 0 → get_or s i 0 ≤ 0xbf → ⊥) → goes_on (until_nul (drop i s)) (others left) ≡ false
 no_tail s i left h l out = subst (λ n. goes_on (until_nul (drop i s)) (others n) ≡ false) (sym (one_more left h)) (no_range s i _ _ (omega arith) out)
 
--- the same up to the last byte, at `last`, from the one after i on
-module _ (s : List ℕ) (i last : ℕ) where
-  pub last_step : i < last → last < length s → 0x80 ≤ get_or s (i + 1) 0 → get_or s (i + 1) 0 ≤ 0xbf → ScanAt s (i + 1) (others (last - i)) → ScanAt s (i + 1 + 1) (others (last - (i + 1)))
-  last_step h l low high w =
-      let less : last - i - 1 ≡ last - (i + 1) = omega arith in
-      rw less at (tail_step s (i + 1) (last - i) (omega arith) (omega arith) low high w)
-
-  pub last_done : last ≤ i → ScanAt s (i + 1) (others (last - i)) → ScanAt s (i + 1) []
-  last_done h = tail_done s (i + 1) (last - i) (omega arith)
-
-  pub no_last : i < last → last < length s → (0x80 ≤ get_or s (i + 1) 0 → get_or s (i + 1) 0 ≤ 0xbf → ⊥) → goes_on (until_nul (drop (i + 1) s)) (others (last - i)) ≡ false
-  no_last h l = no_tail s (i + 1) (last - i) (omega arith) (omega arith)
-
 fewer : (t : List ℕ) (rs : List ByteRange) → length t < length rs → goes_on t rs ≡ false
 unfolding goes_on
 fewer t [] h = absurd (omega arith)

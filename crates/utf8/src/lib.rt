@@ -101,11 +101,9 @@ fn plain(s: &[u8], at: usize) -> bool
     ensures { result ≡ true → Plain s.now at 8 }
 {
     let mut all = true;
-    let mut k = 0;
-    while k < 8 {
+    for k in 0..8 {
         let b = s[at + k];
         all = all & (b > 0) & (b < 0x80);
-        k += 1;
     }
     all
 }
@@ -114,14 +112,12 @@ fn plain(s: &[u8], at: usize) -> bool
 fn plain_prefix(s: &[u8]) -> usize
     ensures { (result ≤ length s.now) × Plain s.now 0 result }
 {
-    let mut i = 0;
-    while 8 <= s.len() - i {
-        if !plain(s, i) {
-            return i;
+    for n in 0..s.len() / 8 {
+        if !plain(s, 8 * n) {
+            return 8 * n;
         }
-        i += 8;
     }
-    i
+    s.len() / 8 * 8
 }
 
 // How many bytes from `at` on are sequences of one row of the table: a block of 12 bytes, which is a number of sequences of two, of three and of
@@ -132,17 +128,16 @@ fn row_block(s: &[u8], at: usize, first: u8, last: u8, low: u8, more: usize) -> 
 {
     let mut all = true;
     let mut k = 0;
+    // No `for`: the step is a sequence's length.
     while k < 12 {
         let lead = s[at + k];
         let second = s[at + k + 1];
         all = all & (first <= lead) & (lead <= last) & (low <= second) & (second <= 0xbf);
         k += 2;
-        let mut left = more;
-        while left > 0 {
+        for _ in 0..more {
             let c = s[at + k];
             all = all & (0x80 <= c) & (c <= 0xbf);
             k += 1;
-            left -= 1;
         }
     }
     if all { k } else { 0 }
@@ -154,6 +149,7 @@ fn row_blocks(s: &[u8], at: usize, first: u8, last: u8, low: u8, more: usize) ->
     ensures { (at ≤ result) × (result ≤ length s.now) × ScanAt s.now result [] }
 {
     let mut i = at;
+    // No `for`: the next place is what a block tells.
     while 16 <= s.len() - i {
         let n = row_block(s, i, first, last, low, more);
         if n == 0 {
@@ -190,10 +186,7 @@ fn stretch(at: usize, end: usize) -> usize
     requires { at < end }
     ensures { (at < result) × (result ≤ end) }
 {
-    if end - at < 16 {
-        return end;
-    }
-    at + 16
+    at + (end - at).min(16)
 }
 
 // The scan from `at` on, where the first byte is that is not ASCII. Most texts have none, and stay out of it.
@@ -202,9 +195,10 @@ fn scan_from(s: &[u8], at: usize) -> Option<usize>
     ensures { result ≡ text_length s.now }
 {
     let mut i = at;
+    // No `return` in place of `formed`: the exit from the walk over the continuation bytes is a form that the project keeps (docs/DECISIONS.md, "Forms").
     let mut formed = true;
     'scan: while i < s.len() {
-        // Sequence by sequence for a stretch; then blocks are tried again.
+        // Sequence by sequence for a stretch; then blocks are tried again. No `for`: a sequence has up to four bytes.
         let stop = stretch(i, s.len());
         while i < stop {
             let b = s[i];
@@ -227,16 +221,15 @@ fn scan_from(s: &[u8], at: usize) -> Option<usize>
                             formed = false;
                             break 'scan;
                         }
-                        let last = i + more;
-                        while i < last {
-                            i += 1;
+                        i += 1;
+                        for _ in 0..more {
                             let c = s[i];
                             if c < 0x80 || 0xbf < c {
                                 formed = false;
                                 break 'scan;
                             }
+                            i += 1;
                         }
-                        i += 1;
                     }
                     Lead::Invalid => {
                         formed = false;
@@ -247,19 +240,14 @@ fn scan_from(s: &[u8], at: usize) -> Option<usize>
         }
         i = blocks(s, i);
     }
-    if formed {
-        Some(i)
-    } else {
-        None
-    }
+    if formed { Some(i) } else { None }
 }
 
 // The length of the text at the slice's start, which a NUL or the slice's end ends. `None` if a sequence before the first NUL is ill-formed.
 pub fn scan_text(s: &[u8]) -> Option<usize>
     ensures { result ≡ text_length s.now }
 {
-    let mut i = plain_prefix(s);
-    while i < s.len() {
+    for i in plain_prefix(s)..s.len() {
         let b = s[i];
         if b == 0 {
             return Some(i);
@@ -267,7 +255,6 @@ pub fn scan_text(s: &[u8]) -> Option<usize>
         if b >= 0x80 {
             return scan_from(s, i);
         }
-        i += 1;
     }
-    Some(i)
+    Some(s.len())
 }

@@ -4,10 +4,10 @@ use borrow.Author.Tests.{ltb-false}
 use mathlib.Core.Path.{refl, sym, ap, ◌∙◌}
 use Rattle.utf8.specs.Table.{◌to◌}
 use Rattle.utf8.specs.Text.{text_length, leads}
-use Rattle.utf8.proofs.Walk.{tail_low, lead_step, ascii_step, range_step, last_step, last_done, no_lead, no_range, no_last, too_few, at_nul, at_end_lem, outcome, ends, ill_formed}
+use Rattle.utf8.proofs.Walk.{tail_low, lead_step, ascii_step, range_step, tail_step, tail_done, no_lead, no_range, no_tail, too_few, at_nul, at_end_lem, outcome, ends, ill_formed}
 use Rattle.std.proofs.lemmas.Bool.{true≢false}
 use Rattle.utf8.proofs.scan_from.Goals as goal
-use Rattle.utf8.proofs.scan_from.Goals.{else-scan-test, then-scan-test+then-loop-i-test+then-b-lt128+then-b-eq0, then-scan-test+then-loop-i-test+else-b-lt128+in-Tail+then-s-i, then-scan-test+then-loop-i-test+else-b-lt128+in-Tail+else-s-i+then-second-low, then-second-low-via-then-second-low, then-second-low-via-else-second-low+then-high-second, then-scan-test+then-loop-i-test+else-b-lt128+in-Tail+else-s-i+else-second-low+else-high-second+then-loop-i-2-test+then-c-lt128, then-c-lt128-via-then-c-lt128, then-c-lt128-via-else-c-lt128+then-c-gt191, then-scan-test+then-loop-i-test+else-b-lt128+in-Invalid}
+use Rattle.utf8.proofs.scan_from.Goals.{else-scan-test, then-scan-test+then-loop-i-test+then-b-lt128+then-b-eq0, then-scan-test+then-loop-i-test+else-b-lt128+in-Tail+then-s-i, then-scan-test+then-loop-i-test+else-b-lt128+in-Tail+else-s-i+then-second-low, then-second-low-via-then-second-low, then-second-low-via-else-second-low+then-high-second, then-scan-test+then-loop-i-test+else-b-lt128+in-Tail+else-s-i+else-second-low+else-high-second+then-loop-test+then-c-lt128, then-c-lt128-via-then-c-lt128, then-c-lt128-via-else-c-lt128+then-c-gt191, then-scan-test+then-loop-i-test+else-b-lt128+in-Invalid}
 
 pub scan-init : goal.scan-init
 scan-init c = let pre = c.requires in (pre.0, refl, pre.1)
@@ -26,8 +26,8 @@ loop-i-preserved-in-Alone c =
     let asked = sym (ap leads c.in-Alone.is) ∙ c.lead_limits.ensures in
     (omega arith, at.invariant.1, lead_step _ _ (omega arith) _ (λ e. omega arith) asked at.invariant.2, omega arith)
 
-pub loop-i-2-init : goal.loop-i-2-init
-loop-i-2-init c =
+pub loop-init : goal.loop-init
+loop-init c =
     let at = c.loop-i in
     let low = c.in-Tail.low in
     let high = c.in-Tail.high in
@@ -36,19 +36,20 @@ loop-i-2-init c =
     let lead = lead_step _ _ (omega arith) _ (λ e. omega arith) asked at.invariant.2 in
     let left : more < length c.args.s.now - (at.i + 1) = c.if-s-i.false in
     let walk = range_step _ _ (omega arith) (low to high) _ (tail_low _ _ more _ asked) c.if-second-low.false (ltb-false _ _ c.if-high-second.false-raw) lead in
-    let all : at.i + 1 + more - (at.i + 1) ≡ more = omega arith in
-    (omega arith, omega arith, omega arith, at.invariant.1, rw all walk)
+    let all : more - 0 ≡ more = omega arith in
+    (omega arith, omega arith, at.invariant.1, rw all walk)
 
-pub loop-i-2-preserved : goal.loop-i-2-preserved
-loop-i-2-preserved c =
-    let at = c.loop-i-2 in
-    let walk = last_step _ _ _ c.loop-i-2-test.true at.invariant.2 c.if-c-lt128.false (ltb-false _ _ c.if-c-gt191.false-raw) at.invariant.4 in
-    (omega arith, omega arith, at.invariant.2, at.invariant.3, walk)
+pub loop-preserved : goal.loop-preserved
+loop-preserved c =
+    let at = c.loop in
+    let less : c.in-Tail.more - at.counter - 1 ≡ c.in-Tail.more - (at.counter + 1) = omega arith in
+    let walk = tail_step _ _ _ (omega arith) at.invariant.1 c.if-c-lt128.false (ltb-false _ _ c.if-c-gt191.false-raw) at.invariant.3 in
+    (omega arith, omega arith, at.invariant.2, rw less at walk)
 
 pub loop-i-preserved : goal.loop-i-preserved
 loop-i-preserved c =
-    let at = c.loop-i-2 in
-    (omega arith, at.invariant.3, last_done _ _ _ c.loop-i-2-test.false at.invariant.4, omega arith)
+    let at = c.loop in
+    (omega arith, at.invariant.2, tail_done _ _ _ (omega arith) at.invariant.3, omega arith)
 
 pub blocks-i-requires : goal.blocks-i-requires
 blocks-i-requires c = let at = c.loop-i in (at.invariant.0, at.invariant.2)
@@ -72,7 +73,7 @@ returns-then-formed c =
       | then-scan-test+then-loop-i-test+then-b-lt128+then-b-eq0 w ↦ ends s w.i-is (w.formed-is ∙ w.loop-i.invariant.1) w.loop-i.invariant.2 (at_nul s _ (omega arith) w.if-b-eq0.true)
       | then-scan-test+then-loop-i-test+else-b-lt128+in-Tail+then-s-i w ↦ absurd (true≢false (sym c.if-formed.true ∙ w.formed-is))
       | then-scan-test+then-loop-i-test+else-b-lt128+in-Tail+else-s-i+then-second-low w ↦ absurd (true≢false (sym c.if-formed.true ∙ w.formed-is))
-      | then-scan-test+then-loop-i-test+else-b-lt128+in-Tail+else-s-i+else-second-low+else-high-second+then-loop-i-2-test+then-c-lt128 w ↦ absurd (true≢false (sym c.if-formed.true ∙ w.formed-is))
+      | then-scan-test+then-loop-i-test+else-b-lt128+in-Tail+else-s-i+else-second-low+else-high-second+then-loop-test+then-c-lt128 w ↦ absurd (true≢false (sym c.if-formed.true ∙ w.formed-is))
       | then-scan-test+then-loop-i-test+else-b-lt128+in-Invalid w ↦ absurd (true≢false (sym c.if-formed.true ∙ w.formed-is))
     ] in
     rw c.if-formed.true at all
@@ -95,9 +96,9 @@ returns-else-formed c =
           ill_formed s i w.formed-is lead
           (no_range s (w.loop-i.i + 1) (w.in-Tail.low to w.in-Tail.high) _ (omega arith)
           (λ low high. elim w.then-second-low.branch [ then-second-low-via-then-second-low v ↦ omega arith | then-second-low-via-else-second-low+then-high-second v ↦ omega arith ]))
-      | then-scan-test+then-loop-i-test+else-b-lt128+in-Tail+else-s-i+else-second-low+else-high-second+then-loop-i-2-test+then-c-lt128 w ↦
-          ill_formed s i w.formed-is w.loop-i-2.invariant.4
-          (no_last s _ _ w.loop-i-2-test.true w.loop-i-2.invariant.2
+      | then-scan-test+then-loop-i-test+else-b-lt128+in-Tail+else-s-i+else-second-low+else-high-second+then-loop-test+then-c-lt128 w ↦
+          ill_formed s i w.formed-is w.loop.invariant.3
+          (no_tail s _ _ (omega arith) w.loop.invariant.1
           (λ low high. elim w.then-c-lt128.branch [ then-c-lt128-via-then-c-lt128 v ↦ omega arith | then-c-lt128-via-else-c-lt128+then-c-gt191 v ↦ omega arith ]))
       | then-scan-test+then-loop-i-test+else-b-lt128+in-Invalid w ↦
           ill_formed s i w.formed-is w.loop-i.invariant.2
