@@ -202,21 +202,21 @@ module _ (image segments : List ℕ) (t : Trailing) (start : ℕ) where
           here_says : (x : Option Ended) → x ≡ run image segments (block_at (row_at (row_number j)) a) → x ≡ run image segments (block_at (row_at i) a)
           here_says x f = rw (is_there_lem t i j y).1 f
 
-          pub there_put : (k : Block) (e : ℕ) (b' : List ℕ) → Some (record { block = k; end = Some e }) ≡ run image segments (block_at (row_at (row_number j)) a) → b' ≡ pasted b (at + 4 * i) (block_four (Some k))
-              → Putting (i + 1) e b'
-          there_put k e b' s eb =
+          pub there_put : (f : Ended) (e : ℕ) (b' : List ℕ) → Some f ≡ run image segments (block_at (row_at (row_number j)) a) → f.end ≡ Some e
+              → b' ≡ pasted b (at + 4 * i) (block_four (Some f.block)) → Putting (i + 1) e b'
+          there_put f e b' s q eb =
               let w = row_read image segments t start i a h g.here there _ (here_says _ s) in
-              next_put e (Some k) b' w.0 w.2 eb
+              next_put e (Some f.block) b' w.0 (sym q ∙ w.2) eb
 
-          pub last_put : (k : Block) (b' b'' : List ℕ) (n m : ℕ) → Some (record { block = k; end = None }) ≡ run image segments (block_at (row_at (row_number j)) a) → b' ≡ pasted b (at + 4 * i) (block_four (Some k))
-              → n ≡ 40 - 4 * i → m ≡ at + 4 * i + 4 → b'' ≡ pasted b' m (zeros n) → Whole b''
+          pub last_put : (f : Ended) (b' b'' : List ℕ) (n m : ℕ) → Some f ≡ run image segments (block_at (row_at (row_number j)) a) → f.end ≡ None
+              → b' ≡ pasted b (at + 4 * i) (block_four (Some f.block)) → n ≡ 40 - 4 * i → m ≡ at + 4 * i + 4 → b'' ≡ pasted b' m (zeros n) → Whole b''
           unfolding from
-          last_put k b' b'' n m s eb en em eb'' =
+          last_put f b' b'' n m s o eb en em eb'' =
               let w = row_read image segments t start i a h g.here there _ (here_says _ s) in
-              let rest : zeros n ≡ from (10 - i) (i + 1) = ap zeros (rest_count i n h en) ∙ sym (from_stopped (10 - i) (i + 1) w.2) in
-              let q : block_four (Some k) ++ zeros n ≡ from (11 - i) i = one_more i (Some k) (zeros n) h w.0 rest in
+              let rest : zeros n ≡ from (10 - i) (i + 1) = ap zeros (rest_count i n h en) ∙ sym (from_stopped (10 - i) (i + 1) (sym o ∙ w.2)) in
+              let q : block_four (Some f.block) ++ zeros n ≡ from (11 - i) i = one_more i (Some f.block) (zeros n) h w.0 rest in
               rest_put b'' _ q
-              (pasted_then b (block_four (Some k)) (zeros n) b' b'' (at + 4 * i) 4 eb (block_long (Some k)) (eb'' ∙ ap (λ (j : ℕ). pasted b' j (zeros n)) em) (omega (arith, g.long)))
+              (pasted_then b (block_four (Some f.block)) (zeros n) b' b'' (at + 4 * i) 4 eb (block_long (Some f.block)) (eb'' ∙ ap (λ (j : ℕ). pasted b' j (zeros n)) em) (omega (arith, g.long)))
 
           pub fails_put : (b' : List ℕ) (n : ℕ) → None ≡ run image segments (block_at (row_at (row_number j)) a) → n ≡ 44 - 4 * i → b' ≡ pasted b (at + 4 * i) (zeros n) → Whole b'
           fails_put b' n s en eb =

@@ -80,8 +80,8 @@ module _ (image segments : List ℕ) where
       ∙ ap (λ (x : Option Body). record_row slot r ++ body_and_blocks image segments r.address r.flags x) ey)
 
 -- the case of a body, and of a class's two words
-pub body_known : (x y : TypeBody) → x ≡ y → body_numbers (body_of y) ≡ body_numbers (body_of x)
-body_known x y e = ap (λ (b : TypeBody). body_numbers (body_of b)) (sym e)
+pub body_known : (x y : Option TypeBody) → x ≡ y → body_numbers (body_of y) ≡ body_numbers (body_of x)
+body_known x y e = ap (λ (b : Option TypeBody). body_numbers (body_of b)) (sym e)
 
 pub class_known : (class : ClassBody) (s : ClassSizes) → class.sizes ≡ s
     → body_numbers (Some (of_class class.superclass_va (sizes_of s) class.num_immediate_members class.num_fields class.field_offset_vector_offset))
@@ -113,6 +113,12 @@ module _ (image segments types : List ℕ) (start : ℕ) where
   records_told i₀ i n e b₀ b d =
       let count : n ≡ length (full_rows_in image segments types start i₀ (length b₀)).written / 58 = omega (arith, d.wrote) in
       (cc (count, d.next, d.whole), d.holds)
+
+  -- the same with another name for the slot to go on from
+  pub records_ended : (i₀ i j n : ℕ) (e : Bool) (b₀ b : List ℕ) → Done (full_row image segments) image segments types start i₀ b₀ (58 * n) i e b → j ≡ i
+      → (record { records = n; next = j; all = e } ≡ given_of (full_rows_in image segments types start i₀ (length b₀)))
+      × (b ≡ at_start (numbers_of (full_rows_in image segments types start i₀ (length b₀))) b₀)
+  records_ended i₀ i j n e b₀ b d q = rw q (records_told i₀ i n e b₀ b d)
 
   -- ---- what the records say
 

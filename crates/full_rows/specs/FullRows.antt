@@ -1,7 +1,6 @@
 -- The rows of a types section with body and all trailing blocks, as records of a fixed number of numbers in the caller's list:
 -- docs/SPECIFICATION.md, "Full rows".
 use Rattle.std.specs.Prelude.{ℕ, ◌/◌, List, [], ◌∷◌, ◌++◌, map, cond, length, eqb, Option, Some, None}
-use Rattle.refusal.specs.Refusal.{Guarded, answered, refused, refusal_number}
 use Rattle.runtime.specs.Reads.{run}
 use Rattle.classtrailers.specs.Blocks as blocks
 use Rattle.classtrailers.specs.declared.block.Block.{Block}
@@ -15,7 +14,6 @@ use Rattle.type_body.specs.declared.trailers.Start.{Start}
 use Rattle.steps.specs.Blocks.{kind_from}
 use Rattle.full_rows.specs.declared.rows.Given.{Given}
 use Rattle.full_rows.specs.declared.rows.Recorded.{Recorded}
-use Rattle.full_rows.specs.declared.calls.FullRows.{FullRows}
 
 -- ---- a record
 
@@ -79,10 +77,6 @@ given_of l = record { records = length l.written / 58; next = l.next; all = l.al
 
 abbrev pub numbers_of : RowsGiven → List ℕ
 numbers_of l = l.written
-
-abbrev pub full_rows_answer : FullRows → Guarded Given
-full_rows_answer (FullRows.Given g) = answered g
-full_rows_answer (FullRows.Refused x) = refused (refusal_number x)
 
 abbrev pub recorded_of : Recorded → List ℕ
 recorded_of r = r.first ∷ (r.second ∷ (r.third ∷ []))

@@ -1,17 +1,11 @@
 ghost use Rattle.std.specs.Prelude.{◌≡◌, length};
-ghost use Rattle.refusal.specs.Refusal.{answered, mapped, answer_of};
+ghost use Rattle.refusal.specs.Refusal.{outcome, answered, mapped, answer_of};
 ghost use Rattle.util.specs.Buffer.{overwritten};
 ghost use Rattle.refusal.specs.Guarded.{guarded};
-ghost use Rattle.full_rows.specs.FullRows.{full_rows_in, given_of, numbers_of, full_rows_answer};
+ghost use Rattle.full_rows.specs.FullRows.{full_rows_in, given_of, numbers_of};
 
 use crate::rows::{Given, put_rows};
-use refusal::{Fault, Refusal};
-
-#[derive(Clone, Copy)]
-pub enum FullRows {
-    Given(Given),
-    Refused(Refusal),
-}
+use refusal::Refusal;
 
 // Writes the records of the rows from a slot on at the list's start, as many as it holds. A record has 58 numbers: the row's slot, address,
 // flags, parent, and the name's place and length; the body's eight; and four for each kind of block in the order in which they follow, 1
@@ -23,12 +17,10 @@ pub fn full_rows(
     vmaddr: u64,
     start: usize,
     buffer: &mut [u64],
-) -> FullRows
-    ensures result_value { full_rows_answer result ≡ mapped given_of (guarded segments.now (answered (full_rows_in image.now segments.now types.now vmaddr start (length buffer.old)))) }
+) -> Result<Given, Refusal>
+    ensures result_value { outcome result ≡ mapped given_of (guarded segments.now (answered (full_rows_in image.now segments.now types.now vmaddr start (length buffer.old)))) }
     ensures buffer_after { buffer.new ≡ overwritten buffer.old (answer_of (mapped numbers_of (guarded segments.now (answered (full_rows_in image.now segments.now types.now vmaddr start (length buffer.old)))))) }
 {
-    if let Fault::Refused(refusal) = refusal::find_fault(segments) {
-        return FullRows::Refused(refusal);
-    }
-    FullRows::Given(put_rows(image, segments, types, vmaddr, start, buffer))
+    refusal::find_fault(segments)?;
+    Ok(put_rows(image, segments, types, vmaddr, start, buffer))
 }

@@ -4,13 +4,12 @@ ghost use Rattle.util.specs.Buffer.{pasted, at_start};
 ghost use Rattle.type_body.specs.Body.{body_of, class_of};
 ghost use Rattle.full_rows.specs.FullRows.{body_numbers, table_recorded, recorded_numbers, recorded_of, block_four, block_fours, full_row, full_rows_in, numbers_of, given_of};
 ghost use Rattle.segment.specs.Mapping.{with_mapping};
-ghost use Rattle.classtrailers.specs.Calls.{trailing_of};
 ghost use Rattle.typedescriptor.specs.Row.{row_of};
 
-use classtrailers::{Block, BlockAt, BlockBody, BlockKind, KindRead, Trailing};
+use classtrailers::{Block, BlockBody, BlockKind, Trailing};
 use segment::Mapping;
-use type_body::{ClassBody, ClassSizes, TrailingRead, TypeBody};
-use typedescriptor::{Descriptor, Row};
+use type_body::{ClassBody, ClassSizes, Start, TypeBody};
+use typedescriptor::Row;
 
 // How many numbers a record has.
 pub const RECORD: usize = 58;
@@ -23,23 +22,13 @@ pub struct Given {
     pub all: bool,
 }
 
-// Numbers at a place of the list.
-fn put_two(a: u64, b: u64, buffer: &mut [u64], at: usize)
-    requires { at + 2 ≤ length buffer.old }
-    ensures { buffer.new ≡ pasted buffer.old at (a ∷ (b ∷ [])) }
+// Puts numbers at a place of the list.
+fn put(numbers: &[u64], buffer: &mut [u64], at: usize)
+    requires { at + length numbers.now ≤ length buffer.old }
+    ensures { buffer.new ≡ pasted buffer.old at numbers.now }
 {
-    buffer[at] = a;
-    buffer[at + 1] = b;
-}
-
-fn put_four(a: u64, b: u64, c: u64, d: u64, buffer: &mut [u64], at: usize)
-    requires { at + 4 ≤ length buffer.old }
-    ensures { buffer.new ≡ pasted buffer.old at (a ∷ (b ∷ (c ∷ (d ∷ [])))) }
-{
-    buffer[at] = a;
-    buffer[at + 1] = b;
-    buffer[at + 2] = c;
-    buffer[at + 3] = d;
+    let end = at + numbers.len();
+    buffer[at..end].copy_from_slice(numbers);
 }
 
 // Puts `count` zeros.
@@ -47,11 +36,8 @@ fn put_zeros(count: usize, buffer: &mut [u64], at: usize)
     requires { at + count ≤ length buffer.old }
     ensures { buffer.new ≡ pasted buffer.old at (replicate count 0) }
 {
-    let mut n: usize = 0;
-    while n < count {
-        buffer[at + n] = 0;
-        n += 1;
-    }
+    let end = at + count;
+    buffer[at..end].fill(0);
 }
 
 // The first number of a body: its kind.
@@ -61,113 +47,73 @@ const STRUCT: u64 = 2;
 
 const ENUM: u64 = 3;
 
-// A row's own numbers at a place of the list.
-fn put_row(slot: usize, row: Row, buffer: &mut [u64], at: usize)
-    requires { at + 6 ≤ length buffer.old }
-    ensures { buffer.new ≡ pasted buffer.old at (slot ∷ (row.address ∷ (row.flags ∷ (row.parent ∷ (row.name_place ∷ (row.name_length ∷ [])))))) }
+// A row's own numbers.
+fn row_numbers(slot: usize, row: Row) -> [u64; 6]
+    ensures { result ≡ slot ∷ (row.address ∷ (row.flags ∷ (row.parent ∷ (row.name_place ∷ (row.name_length ∷ []))))) }
 {
-    put_four(
+    [
         slot as u64,
         row.address,
         row.flags as u64,
         row.parent,
-        buffer,
-        at,
-    );
-    put_two(
         row.name_place as u64,
         row.name_length as u64,
-        buffer,
-        at + 4,
-    );
+    ]
 }
 
-fn put_class(class: ClassBody, buffer: &mut [u64], at: usize)
-    requires { at + 8 ≤ length buffer.old }
-    ensures { buffer.new ≡ pasted buffer.old at (body_numbers (Some (class_of class))) }
+fn class_numbers(class: ClassBody) -> [u64; 8]
+    ensures { result ≡ body_numbers (Some (class_of class)) }
 {
-    let sizes = class.sizes;
-    match sizes {
+    let (resilient, first, second) = match class.sizes {
         ClassSizes::Fixed {
             negative_words,
             positive_words,
-        } => {
-            put_four(
-                CLASS,
-                class.superclass_va,
-                0,
-                negative_words as u64,
-                buffer,
-                at,
-            );
-            put_four(
-                positive_words as u64,
-                class.num_immediate_members as u64,
-                class.num_fields as u64,
-                class.field_offset_vector_offset as u64,
-                buffer,
-                at + 4,
-            );
-        }
+        } => (0, negative_words as u64, positive_words as u64),
         ClassSizes::Resilient {
             bounds_va,
             extra_class_flags,
-        } => {
-            put_four(CLASS, class.superclass_va, 1, bounds_va, buffer, at);
-            put_four(
-                extra_class_flags as u64,
-                class.num_immediate_members as u64,
-                class.num_fields as u64,
-                class.field_offset_vector_offset as u64,
-                buffer,
-                at + 4,
-            );
-        }
-    }
-}
-
-fn put_body(body: TypeBody, buffer: &mut [u64], at: usize)
-    requires { at + 8 ≤ length buffer.old }
-    ensures { buffer.new ≡ pasted buffer.old at (body_numbers (body_of body)) }
-{
-    match body {
-        TypeBody::Class(class) => {
-            put_class(class, buffer, at);
-        }
-        TypeBody::Struct(fields) => {
-            put_four(
-                STRUCT,
-                fields.num_fields as u64,
-                fields.field_offset_vector_offset as u64,
-                0,
-                buffer,
-                at,
-            );
-            put_four(0, 0, 0, 0, buffer, at + 4);
-        }
-        TypeBody::Enum(cases) => {
-            put_four(
-                ENUM,
-                cases.num_payload_cases as u64,
-                cases.payload_size_offset as u64,
-                cases.num_empty_cases as u64,
-                buffer,
-                at,
-            );
-            put_four(0, 0, 0, 0, buffer, at + 4);
-        }
-        TypeBody::Nothing => {
-            put_four(0, 0, 0, 0, buffer, at);
-            put_four(0, 0, 0, 0, buffer, at + 4);
-        }
-    }
+        } => (1, bounds_va, extra_class_flags as u64),
+    };
+    [
+        CLASS,
+        class.superclass_va,
+        resilient,
+        first,
+        second,
+        class.num_immediate_members as u64,
+        class.num_fields as u64,
+        class.field_offset_vector_offset as u64,
+    ]
 }
 
 // The numbers of a body by themselves.
-pub fn write_body(body: TypeBody, out: &mut [u64; 8])
+pub fn write_body(body: Option<TypeBody>, out: &mut [u64; 8])
     ensures { out.new ≡ body_numbers (body_of body) }
 {
-    put_body(body, out, 0);
+    *out = match body {
+        Some(TypeBody::Class(class)) => class_numbers(class),
+        Some(TypeBody::Struct(fields)) => [
+            STRUCT,
+            fields.num_fields as u64,
+            fields.field_offset_vector_offset as u64,
+            0,
+            0,
+            0,
+            0,
+            0,
+        ],
+        Some(TypeBody::Enum(cases)) => [
+            ENUM,
+            cases.num_payload_cases as u64,
+            cases.payload_size_offset as u64,
+            cases.num_empty_cases as u64,
+            0,
+            0,
+            0,
+            0,
+        ],
+        None => [0; 8],
+    };
 }
 
 // How many kinds of blocks there are.
@@ -235,7 +181,7 @@ fn put_block(block: Block, buffer: &mut [u64], at: usize)
     ensures { buffer.new ≡ pasted buffer.old at (block_four (Some block)) }
 {
     let n = numbers_of(block);
-    put_four(THERE, n.first, n.second, n.third, buffer, at);
+    put(&[THERE, n.first, n.second, n.third], buffer, at);
 }
 
 // The blocks of a descriptor, which start at an address: after one that cannot be read, or whose end overflows, there is none.
@@ -249,37 +195,25 @@ fn put_blocks(
     at: usize,
 )
     requires { at + 44 ≤ length buffer.old }
-    ensures { buffer.new ≡ pasted buffer.old at (block_fours image.now (with_mapping mapping segments.now) (Some (record { trailing = trailing_of trailing; start = start }))) }
+    ensures { buffer.new ≡ pasted buffer.old at (block_fours image.now (with_mapping mapping segments.now) (Some (record { trailing = trailing; start = start }))) }
 {
     let mut address = start;
-    let mut row: u32 = 0;
-    while row < KINDS {
+    for row in 0..KINDS {
         let here = at + 4 * (row as usize);
-        match classtrailers::kind_there(trailing, row) {
-            KindRead::Kind(kind) => {
-                let found = classtrailers::block_at(image, segments, mapping, kind, address);
-                match found {
-                    BlockAt::Block { block, end } => {
-                        put_block(block, buffer, here);
-                        address = end;
-                        row += 1;
-                    }
-                    BlockAt::Last(block) => {
-                        put_block(block, buffer, here);
-                        put_zeros(40 - 4 * (row as usize), buffer, here + 4);
-                        return;
-                    }
-                    BlockAt::Nothing => {
-                        put_zeros(44 - 4 * (row as usize), buffer, here);
-                        return;
-                    }
-                }
-            }
-            KindRead::Nothing => {
-                put_four(0, 0, 0, 0, buffer, here);
-                row += 1;
-            }
-        }
+        let Some(kind) = classtrailers::kind_there(trailing, row) else {
+            put_zeros(4, buffer, here);
+            continue;
+        };
+        let Some(found) = classtrailers::block_at(image, segments, mapping, kind, address) else {
+            put_zeros(44 - 4 * (row as usize), buffer, here);
+            return;
+        };
+        put_block(found.block, buffer, here);
+        let Some(end) = found.end else {
+            put_zeros(40 - 4 * (row as usize), buffer, here + 4);
+            return;
+        };
+        address = end;
     }
 }
 
@@ -298,14 +232,16 @@ fn put_record(
 {
     let address = row.address;
     let flags = row.flags;
-    put_row(slot, row, buffer, at);
+    put(&row_numbers(slot, row), buffer, at);
     let body = type_body::decode_body(image, segments, mapping, address, flags);
-    put_body(body, buffer, at + 6);
+    let mut numbers = [0; 8];
+    write_body(body, &mut numbers);
+    put(&numbers, buffer, at + 6);
     match type_body::trailing(address, flags, body) {
-        TrailingRead::Start { trailing, start } => {
+        Some(Start { trailing, start }) => {
             put_blocks(image, segments, mapping, trailing, start, buffer, at + 14);
         }
-        TrailingRead::Nothing => {
+        None => {
             put_zeros(44, buffer, at + 14);
         }
     }
@@ -326,33 +262,26 @@ pub fn put_rows(
     let count = types.len() / 4;
     let room = buffer.len() / RECORD;
     let mut mapping = segment::NO_MAPPING;
-    let mut slot = start;
     let mut n: usize = 0;
-    while slot < count {
+    for slot in start..count {
         let step = typedescriptor::slot_row_moving(image, segments, mapping, types, vmaddr, slot);
         mapping = step.mapping;
-        let found = step.found;
-        match found {
-            Descriptor::Row(row) => {
-                if room <= n {
-                    return Given {
-                        records: n,
-                        next: slot,
-                        all: false,
-                    };
-                }
-                put_record(image, segments, mapping, slot, row, buffer, RECORD * n);
-                n += 1;
-                slot += 1;
-            }
-            Descriptor::Nothing => {
-                slot += 1;
-            }
+        let Some(row) = step.found else {
+            continue;
+        };
+        if room <= n {
+            return Given {
+                records: n,
+                next: slot,
+                all: false,
+            };
         }
+        put_record(image, segments, mapping, slot, row, buffer, RECORD * n);
+        n += 1;
     }
     Given {
         records: n,
-        next: slot,
+        next: start.max(count),
         all: true,
     }
 }

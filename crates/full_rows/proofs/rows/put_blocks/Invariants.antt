@@ -1,12 +1,7 @@
 -- `full_rows::rows::put_blocks` meets its contract. The invariant: the blocks of the kinds before `row` are written, and row `row` lies at `address`.
-use Prim.Native.Nat.{◌-◌}
 use Rattle.segment.specs.Mapping.{with_mapping}
-use Rattle.classtrailers.specs.Calls.{trailing_of}
 use Rattle.full_rows.proofs.BlocksLaws.{Putting}
 use Rattle.full_rows.proofs.rows.put_blocks.Given as goal
 
 abbrev pub invariant-loop-row : goal.invariant-loop-row
-invariant-loop-row l = Putting l.image (with_mapping l.mapping l.segments) (trailing_of l.trailing) l.start l.initial.buffer l.at l.row l.address l.buffer
-
-abbrev pub decreases-loop-row : goal.decreases-loop-row
-decreases-loop-row l = 11 - l.row
+invariant-loop-row l = Putting l.image (with_mapping l.mapping l.segments) l.trailing l.start l.fn.buffer l.at l.row l.address l.buffer

@@ -1,12 +1,9 @@
 -- `full_rows::rows::put_rows` meets its contract. The invariant: the rows before `slot` are written, `n` of them, and the mapping is true.
-use Prim.Native.Nat.{◌-◌, ◌*◌}
+use Prim.Native.Nat.{◌*◌}
 use Rattle.typedescriptor.proofs.GivenLaws.{Going}
 use Rattle.full_rows.specs.FullRows.{full_row}
 use Rattle.full_rows.proofs.rows.put_rows.Given as goal
 
 abbrev pub invariant-loop-slot : goal.invariant-loop-slot
 invariant-loop-slot l =
-    Going (full_row l.image l.segments) l.image l.segments l.types l.vmaddr l.start l.initial.buffer l.slot (58 * l.n) l.mapping l.buffer
-
-abbrev pub decreases-loop-slot : goal.decreases-loop-slot
-decreases-loop-slot l = l.count - l.slot
+    Going (full_row l.image l.segments) l.image l.segments l.types l.vmaddr l.start l.fn.buffer l.slot (58 * l.n) l.mapping l.buffer
