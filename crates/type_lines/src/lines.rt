@@ -9,6 +9,7 @@ ghost use Rattle.type_lines.specs.Lines.{name_bytes, line_bytes, space, kind_wor
 
 use crate::digits::{digit_of, hex_digits};
 use refusal::Refusal;
+use runtime::{SwiftRuntime, SwiftSection};
 use typedescriptor::{Row, TypeIter};
 
 // The bytes of a name's buffer, and of a line's: no line is longer.
@@ -105,22 +106,22 @@ pub fn refused_line(refusal: Refusal, line: &mut [u8; LINE_BYTES]) -> usize
 }
 
 // The joined name, or its refusal. The name's buffer is the bytes from `at` on.
-fn put_name(image: &[u8], segments: &[u64], row: Row, line: &mut [u8], at: usize) -> usize
+fn put_name(rt: &SwiftRuntime, row: Row, line: &mut [u8], at: usize) -> usize
     requires { at + name_bytes ≤ length line.old }
-    ensures { Put line.old at (name_text image.now segments.now (row_of image.now row)) result line.new }
+    ensures { Put line.old at (name_text rt.now.image.now rt.now.segments.now (row_of rt.now.image.now row)) result line.new }
 {
-    match qualified_name::qualified_name(image, segments, row, &mut line[at..at + NAME_BYTES]) {
+    match qualified_name::qualified_name(rt, row, &mut line[at..at + NAME_BYTES]) {
         Ok(length) => at + length,
         Err(refusal) => put_refused(refusal, line, at),
     }
 }
 
-fn put_row(image: &[u8], segments: &[u64], row: Row, line: &mut [u8]) -> usize
+fn put_row(rt: &SwiftRuntime, row: Row, line: &mut [u8]) -> usize
     requires { line_bytes ≤ length line.old }
-    ensures { Put line.old 0 (row_line image.now segments.now (row_of image.now row)) result line.new }
+    ensures { Put line.old 0 (row_line rt.now.image.now rt.now.segments.now (row_of rt.now.image.now row)) result line.new }
 {
     let a = put_head(row, line);
-    let b = put_name(image, segments, row, line, a);
+    let b = put_name(rt, row, line, a);
     util::put(b"\n", line, b)
 }
 
@@ -136,24 +137,22 @@ fn put_end(given: usize, line: &mut [u8]) -> usize
 // Writes the next line at the buffer's start.
 fn next_into(
     lister: LineIter,
-    image: &[u8],
-    segments: &[u64],
-    types: &[u8],
-    vmaddr: u64,
+    rt: &SwiftRuntime,
+    types: SwiftSection,
     line: &mut [u8],
 ) -> Option<Line>
     requires { line_bytes ≤ length line.old }
-    ensures result_after { answered (line_answer line.new result) ≡ answered (line_step image.now segments.now types.now vmaddr lister) }
-    ensures line_after { line.new ≡ overwritten line.old (line_text (answered (line_step image.now segments.now types.now vmaddr lister))) }
+    ensures result_after { answered (line_answer line.new result) ≡ answered (line_step rt.now.image.now rt.now.segments.now types.entry.body.now types.entry.vmaddr lister) }
+    ensures line_after { line.new ≡ overwritten line.old (line_text (answered (line_step rt.now.image.now rt.now.segments.now types.entry.body.now types.entry.vmaddr lister))) }
 {
     let given = lister.given;
     if lister.ended {
         return None;
     }
     let walk = TypeIter { slot: lister.slot };
-    match walk.next(image, segments, types, vmaddr) {
+    match walk.next(rt, types) {
         Some(step) => Some(Line {
-            length: put_row(image, segments, step.row, line),
+            length: put_row(rt, step.row, line),
             next: LineIter {
                 slot: step.next.slot,
                 given: given.wrapping_add(1),
@@ -198,5 +197,10 @@ pub fn next_line(
 {
     refusal::find_fault(segments)?;
     let buffer: &mut [u8] = line;
-    Ok(next_into(walk, image, segments, types, vmaddr, buffer))
+    let rt = SwiftRuntime::new(image, segments);
+    let types = SwiftSection {
+        body: types,
+        vmaddr,
+    };
+    Ok(next_into(walk, &rt, types, buffer))
 }

@@ -8,7 +8,7 @@ use Rattle.type_lines.proofs.lines.next_into.Goals as goal
 pub returns-then-lister : goal.returns-then-lister
 returns-then-lister c =
     let a = c.args in
-    let all = step_done a.image.now a.segments.now a.types.now a.vmaddr a.lister a.line.now c.if-lister.true in
+    let all = step_done a.rt.now.image.now a.rt.now.segments.now a.types.body.now a.types.vmaddr a.lister a.line.now c.if-lister.true in
     record { result_after = all.0; line_after = all.1 }
 
 pub returns-in-Some : goal.returns-in-Some

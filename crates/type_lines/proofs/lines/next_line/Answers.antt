@@ -20,6 +20,7 @@ pub returns : goal.returns
 returns c =
     let a = c.args in
     let step = answered (line_step a.image.now a.segments.now a.types.now a.vmaddr a.walk) in
-    let called = c.next_into.ensures in
-    let all = line_accepted a.segments.now step a.line.now _ _ (called.result_after, called.line_after) (told fault_of c.find_fault.ensures c.in_ok-find_fault.was) in
+    let line = rw c.new-rt.ensures at c.next_into.ensures.result_after in
+    let after = rw c.new-rt.ensures at c.next_into.ensures.line_after in
+    let all = line_accepted a.segments.now step a.line.now _ _ (line, after) (told fault_of c.find_fault.ensures c.in_ok-find_fault.was) in
     record { result_after = all.0; line_after = all.1 }
