@@ -42,6 +42,7 @@ fn put_digit(n: u64, buffer: &mut [u8], at: usize) -> usize
 }
 
 // The decimal digits of a number, at most `left` of them.
+// `write!` or the crate `itoa` would print them as std's `decimal`, which is not the definition that the listing is specified by: no plainer.
 fn put_decimal(n: u64, left: usize, buffer: &mut [u8], at: usize) -> usize
     requires { at + length (decimal left n) ≤ length buffer.old }
     ensures { Put buffer.old at (decimal left n) result buffer.new }
@@ -89,20 +90,12 @@ fn put_refused(refusal: Refusal, line: &mut [u8], at: usize) -> usize
     put_decimal(refusal::number(refusal), 20, line, number)
 }
 
-fn put_refused_line(refusal: Refusal, line: &mut [u8]) -> usize
-    requires { line_bytes ≤ length line.old }
-    ensures { Put line.old 0 (refused_line (refusal_number refusal)) result line.new }
-{
-    let end = put_refused(refusal, line, 0);
-    util::put(b"\n", line, end)
-}
-
 // The line of a refused bundle, at the start of `line`.
 pub fn refused_line(refusal: Refusal, line: &mut [u8; LINE_BYTES]) -> usize
     ensures { Put line.old 0 (refused_line (refusal_number refusal)) result line.new }
 {
-    let buffer: &mut [u8] = line;
-    put_refused_line(refusal, buffer)
+    let end = put_refused(refusal, line, 0);
+    util::put(b"\n", line, end)
 }
 
 // The joined name, or its refusal. The name's buffer is the bytes from `at` on.
