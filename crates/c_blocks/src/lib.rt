@@ -38,7 +38,12 @@ pub fn block_numbers(block: Block) -> [u64; 4]
 {
     let kind = classtrailers::number_of(block.kind);
     let recorded = full_rows::numbers_of(block);
-    [u64::from(kind), recorded.first, recorded.second, recorded.third]
+    [
+        u64::from(kind),
+        recorded.first,
+        recorded.second,
+        recorded.third,
+    ]
 }
 
 fn block_step_numbers(step: Option<BlockStep>) -> [u64; 7]

@@ -24,7 +24,10 @@ pub extern "C" fn hodrupec_next_default_override(
     ensures { Tells (mapped (entry_step_numbers 2) (guarded segments.now (answered (step_answer (entry_step image.now segments.now default_override (cursor_at base_va count next)))))) out.old result out.new }
 {
     let cursor = c_tables::cursor_at(base_va, count, next);
-    c_tables::tell_step(steps::next_entry(image, segments, cursor, EntryKind::DefaultOverride), out)
+    c_tables::tell_step(
+        steps::next_entry(image, segments, cursor, EntryKind::DefaultOverride),
+        out,
+    )
 }
 
 // Writes three numbers for each default override: its address, the method, the implementation.

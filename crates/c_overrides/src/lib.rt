@@ -24,7 +24,10 @@ pub extern "C" fn hodrupec_next_override(
     ensures { Tells (mapped (entry_step_numbers 3) (guarded segments.now (answered (step_answer (entry_step image.now segments.now override (cursor_at base_va count next)))))) out.old result out.new }
 {
     let cursor = c_tables::cursor_at(base_va, count, next);
-    c_tables::tell_step(steps::next_entry(image, segments, cursor, EntryKind::Override), out)
+    c_tables::tell_step(
+        steps::next_entry(image, segments, cursor, EntryKind::Override),
+        out,
+    )
 }
 
 // Writes four numbers for each override: its address, the class, the method, the implementation.

@@ -1,4 +1,4 @@
-use Rattle.std.proofs.Common.{ap, refl, ◌≡◌, ◌∙◌, arith}
+use Rattle.std.proofs.Common.{refl, ◌≡◌, ◌∙◌, arith}
 use Rattle.segment.proofs.MappingLaws.{empty_mapped}
 use Rattle.typedescriptor.specs.Row.{row_of}
 use Rattle.typedescriptor.proofs.GivenLaws.{start_going, ended, passes, full, goes_on_lem}
