@@ -118,7 +118,17 @@ def pairs(old, new, same):
             changed.append((key, x, y))
         gone += [(key, x) for x in a[len(b):]]
         fresh += [(key, y) for y in b[len(a):]]
+    for (crate, name), x in list(gone):
+        for (other, again), y in list(fresh):
+            if name == again and same(x, y):
+                moved.append((crate, other, name))
+                gone.remove(((crate, name), x))
+                fresh.remove(((other, again), y))
+                break
     return changed, gone, fresh, spelled
+
+
+moved = []
 
 
 def collect(root, which):
@@ -228,7 +238,7 @@ def main():
             both((key.split()[0], " ".join(key.split()[2:])), a, b)
     if spelled:
         print(f"{len(spelled)} clauses differ only in the name of std's Option: {by_crate(spelled)}.")
-    say_gone("Functions that are gone", [(k.split()[0], k.split()[2]) for k in j["functions not found again"]], now)
+    say_gone("Functions that are gone", [(k.split()[0], "::".join(k.split(" (")[0].split()[2:])) for k in j["functions not found again"]], now)
     print("\n### Definitions\n")
     spelled = []
     for crate, name, a, b in j["definitions"]["changed"]:
@@ -249,7 +259,12 @@ def main():
     if rest and not whole:
         print(f"{len(rest)} lemmas that no page names changed with the types they speak of: {by_crate([c[0] for c in rest])}.\n")
     print(f"{len(spelled)} statements differ only in the name of std's Option.")
+    if moved:
+        print("\nMoved: " + ", ".join(f"`{n}` from `{a}` to `{b}`" for a, b, n in moved) + ".")
     say_gone("Theorems and lemmas that are gone", [k for k, _ in gone], now)
+    for k, _ in gone:
+        if k[1] in names:
+            print(f"look: a page names the lemma that is gone: {k[0]} {k[1]}", file=sys.stderr)
     if fresh:
         print(f"\nNew: {by_crate([k for k, _ in fresh])}.")
     for k in ("crates gone", "ensures all gone", "fewer ensures", "more requires", "no longer pub", "a new Wait or Threads"):
