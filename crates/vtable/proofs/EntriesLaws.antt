@@ -6,6 +6,7 @@ use Rattle.std.specs.Prelude.{◌≡◌, ℕ, ◌+◌, ◌-◌, ◌*◌, ◌%◌
 use Rattle.std.proofs.Math.Nat.{mod-eq_of_lt}
 use Rattle.std.proofs.Common.{mul-le-mul_left, mul-lt-mul_of_pos_right, lt_of_le_of_lt, le_of_lt, sym, ap, ◌∙◌, length-take, length-drop}
 use Rattle.std.proofs.Math.Decide.{dec_le}
+use Rattle.std.proofs.lemmas.List.{length-replicate}
 use native.Mathlib.Omega.{arith}
 use borrow.Author.Tests.{le-leb, lt-leb, lt-ltb, le-ltb}
 use Rattle.util.specs.LittleEndian.{signed_in}
@@ -17,9 +18,10 @@ use Rattle.runtime.specs.Bytes.{bytes_from, bytes_read}
 use Rattle.runtime.proofs.CallsLaws.{bytes_within, run_bytes, run_no_bytes, run_mapped}
 use Rattle.vtable.specs.declared.entry.EntryKind.{EntryKind}
 use Rattle.vtable.specs.declared.entry.TableEntry.{TableEntry}
+use Rattle.vtable.specs.declared.shape.Shape.{Shape}
 use Rattle.vtable.specs.declared.iter.EntryIter.{EntryIter}
 use Rattle.vtable.specs.declared.iter.EntryStep.{EntryStep}
-use Rattle.vtable.specs.Entries.{Word, pointer, Layout, words_of, kind_layout, entry_size, word_at, words_from, Entry, entry_of, entry_address, entry_at, moved, entry_step, entry_bytes, table_entry, step_answer}
+use Rattle.vtable.specs.Entries.{Word, pointer, Layout, packed, words_of, shape_words, kind_layout, entry_size, word_at, words_from, Entry, entry_of, entry_address, entry_at, moved, entry_step, entry_bytes, table_entry, step_answer}
 
 -- two numbers of 32 bits have a product of 64
 pub product : {a b : ℕ} → a < 2 ^ 32 → b < 2 ^ 32 → a * b < 2 ^ 64
@@ -167,9 +169,16 @@ words_in_lem EntryKind.Override a h = refl
 words_in_lem EntryKind.DefaultOverride a h = refl
 words_in_lem EntryKind.Prespecialization a h = refl
 
--- what the words of an entry of a kind say
-pub told_words : (kind k : EntryKind) (a : ℕ) (h xs : List ℕ) → kind ≡ k → Says (words_of k) a 0 h xs → table_entry (record { address = a; words = xs }) ≡ table_entry (entry_of (kind_layout kind) a h)
-told_words kind k a h xs e s = ap table_entry (entry_of_lem (kind_layout k) a h xs s ∙ ap (λ (j : EntryKind). entry_of (kind_layout j) a h) (sym e))
+-- a kind and its shape
+module _ (kind : EntryKind) (s : Shape) (e : shape_words s ≡ words_of kind) where
+  pub shape_sized : (size : ℕ) → size ≡ 4 * length (shape_words s) → size ≡ entry_size (kind_layout kind)
+  shape_sized size es = es ∙ ap (λ (ws : List Word). 4 * length ws) e
+
+  pub shape_below : (a : ℕ) → a + (entry_size (kind_layout kind) - 4) < 2 ^ 64 → a + 4 * s.more < 2 ^ 64
+  shape_below a h = omega (arith, h, ap length e, length-replicate s.more pointer)
+
+  pub shape_entry : (a : ℕ) (h : List ℕ) (x : TableEntry) → x ≡ table_entry (entry_of (packed (shape_words s)) a h) → x ≡ table_entry (entry_of (kind_layout kind) a h)
+  shape_entry a h x ex = ex ∙ ap (λ (ws : List Word). table_entry (entry_of (packed ws) a h)) e
 
 module _ (image segments : List ℕ) (kind : EntryKind) (c : EntryIter) where
   abbrev answer : EntryStep

@@ -1,7 +1,8 @@
 ghost use Rattle.std.specs.Prelude.{◌≡◌, ◌+◌, ◌*◌, ◌%◌, ◌^◌};
 ghost use Rattle.runtime.specs.Runtime.{tried};
-ghost use Rattle.vtable.specs.Entries.{kind_layout, entry_size, entry_bytes};
+ghost use Rattle.vtable.specs.Entries.{shape_words, words_of, kind_layout, entry_size, entry_bytes};
 
+use crate::shape::Shape;
 use runtime::SwiftRuntime;
 
 // The kinds of tables.
@@ -14,16 +15,24 @@ pub enum EntryKind {
 }
 
 impl EntryKind {
+    // What the words of an entry are.
+    pub fn shape(self) -> Shape
+        ensures { shape_words result ≡ words_of self }
+    {
+        let (numbered, more) = match self {
+            EntryKind::Method => (true, 1),
+            EntryKind::Override => (false, 2),
+            EntryKind::DefaultOverride => (false, 1),
+            EntryKind::Prespecialization => (false, 0),
+        };
+        Shape { numbered, more }
+    }
+
     // How many bytes an entry has.
     pub fn size(self) -> u32
         ensures { result ≡ entry_size (kind_layout self) }
     {
-        match self {
-            EntryKind::Method => 8,
-            EntryKind::Override => 12,
-            EntryKind::DefaultOverride => 8,
-            EntryKind::Prespecialization => 4,
-        }
+        self.shape().size()
     }
 }
 

@@ -1,7 +1,7 @@
 // Walks over the entries of a table, by value: each step returns the walk.
+ghost use Rattle.std.specs.Prelude.{◌≡◌, ◌<◌};
 ghost use Rattle.runtime.specs.Runtime.{tried};
-ghost use Rattle.std.specs.Prelude.{◌≡◌, ◌+◌, ◌-◌, ◌^◌, ◌<◌};
-ghost use Rattle.vtable.specs.Entries.{method, kind_layout, entry_size, entry_of, start, moved, entry_step, table_entry, step_answer};
+ghost use Rattle.vtable.specs.Entries.{kind_layout, start, moved, entry_step, step_answer};
 
 use crate::entry::{EntryKind, TableEntry, entry_address, entry_bytes};
 use runtime::SwiftRuntime;
@@ -20,39 +20,6 @@ pub enum EntryStep {
     Entry { entry: TableEntry, next: EntryIter },
     Unreadable { next: EntryIter },
     End,
-}
-
-// What an entry's bytes say. Its words lie below 2^64.
-fn table_entry(kind: EntryKind, bytes: &[u8], address: u64) -> TableEntry
-    requires { address + (entry_size (kind_layout kind) - 4) < 2 ^ 64 }
-    ensures { result ≡ table_entry (entry_of (kind_layout kind) address bytes.now) }
-{
-    match kind {
-        EntryKind::Method => TableEntry {
-            address,
-            first: util::u32_at(bytes, 0) as u64,
-            second: util::address_in(bytes, 4, address + 4),
-            third: 0,
-        },
-        EntryKind::Override => TableEntry {
-            address,
-            first: util::address_in(bytes, 0, address),
-            second: util::address_in(bytes, 4, address + 4),
-            third: util::address_in(bytes, 8, address + 8),
-        },
-        EntryKind::DefaultOverride => TableEntry {
-            address,
-            first: util::address_in(bytes, 0, address),
-            second: util::address_in(bytes, 4, address + 4),
-            third: 0,
-        },
-        EntryKind::Prespecialization => TableEntry {
-            address,
-            first: util::address_in(bytes, 0, address),
-            second: 0,
-            third: 0,
-        },
-    }
 }
 
 impl EntryIter {
@@ -85,19 +52,16 @@ impl EntryIter {
             return EntryStep::End;
         }
         let next = self.moved();
-        let size = kind.size();
+        let shape = kind.shape();
+        let size = shape.size();
         let bytes = entry_bytes(rt, self.base_va, size, size, self.next);
         if bytes.is_empty() {
             return EntryStep::Unreadable { next };
         }
         let address = entry_address(self.base_va, size, self.next);
-        let entry = table_entry(kind, bytes, address);
-        EntryStep::Entry { entry, next }
-    }
-
-    pub fn next_method(self, rt: &SwiftRuntime) -> EntryStep
-        ensures { result ≡ step_answer (entry_step rt.now.image.now (tried rt.now) method self) }
-    {
-        self.next(rt, EntryKind::Method)
+        EntryStep::Entry {
+            entry: shape.entry(bytes, address),
+            next,
+        }
     }
 }

@@ -4,8 +4,10 @@
 
 mod entry;
 mod iter;
+mod shape;
 mod walk;
 
 pub use entry::{EntryKind, TableEntry, entry_address, entry_bytes};
 pub use iter::{EntryIter, EntryStep};
+pub use shape::Shape;
 pub use walk::{MethodWalk, method_step, method_walk, walk_step};

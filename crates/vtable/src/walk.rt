@@ -3,6 +3,7 @@
 ghost use Rattle.std.specs.Prelude.{◌≡◌};
 ghost use Rattle.vtable.specs.Entries.{method, entry_step, step_answer, method_walk_from};
 
+use crate::entry::EntryKind;
 use crate::iter::{EntryIter, EntryStep};
 use runtime::SwiftRuntime;
 
@@ -32,7 +33,7 @@ pub fn walk_step<'a, 'b>(w: MethodWalk<'a, 'b>) -> EntryStep
     ensures { result ≡ step_answer (entry_step w.entry.image.now w.entry.segments.now method w.entry.cursor) }
 {
     w.cursor
-        .next_method(&SwiftRuntime::new(w.image, w.segments))
+        .next(&SwiftRuntime::new(w.image, w.segments), EntryKind::Method)
 }
 
 // The same on slices and numbers, with the value in between: a caller of this needs no proof by hand.

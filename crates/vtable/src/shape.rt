@@ -1,0 +1,52 @@
+// What the words of an entry are, and what they say.
+ghost use Rattle.std.specs.Prelude.{◌≤◌};
+
+use crate::entry::TableEntry;
+
+// The first word is a number or a pointer, and at most two pointers follow it.
+#[derive(Clone, Copy)]
+pub struct Shape {
+    pub numbered: bool,
+    pub more: u32,
+    pub ghost small: { more ≤ 2 },
+}
+
+impl Shape {
+    ghost use Rattle.std.specs.Prelude.{◌≡◌, ◌+◌, ◌*◌, ◌^◌, ◌<◌, length};
+    ghost use Rattle.vtable.specs.Entries.{packed, shape_words, entry_of, table_entry};
+
+    // How many bytes an entry has.
+    pub fn size(self) -> u32
+        ensures { result ≡ 4 * length (shape_words self) }
+    {
+        4 + 4 * self.more
+    }
+
+    // What an entry's bytes say. Its words lie below 2^64.
+    pub fn entry(self, bytes: &[u8], address: u64) -> TableEntry
+        requires { address + 4 * self.more < 2 ^ 64 }
+        ensures { result ≡ table_entry (entry_of (packed (shape_words self)) address bytes.now) }
+    {
+        let first = if self.numbered {
+            util::u32_at(bytes, 0) as u64
+        } else {
+            util::address_in(bytes, 0, address)
+        };
+        let second = if self.more < 1 {
+            0
+        } else {
+            util::address_in(bytes, 4, address + 4)
+        };
+        let third = if self.more < 2 {
+            0
+        } else {
+            util::address_in(bytes, 8, address + 8)
+        };
+        TableEntry {
+            address,
+            first,
+            second,
+            third,
+        }
+    }
+}
