@@ -1,16 +1,14 @@
 -- What the code finds of a table is `tableFrom`: where an entry lies (`no_place`, `a-place`), its numbers in the list (`set-put`,
 -- `set_more`), the entries of a run (`Ran`), and run after run (`Going`, for any numbers of an entry: `tableBy`). The table is the entries
 -- that stepping gives, as numbers (`table-listed`); its counts do not depend on those numbers (`same-counts`).
-use Rattle.std.specs.Prelude.{◌≡◌, ℕ, zero, suc, ◌+◌, ◌-◌, ◌*◌, ◌/◌, ◌%◌, ◌^◌, ◌<◌, ◌≤◌, min, Bool, true, false, List, [], ◌∷◌, ◌++◌, length, take, drop, ◌≢◌, slice_set, Option, Some, None, Result, Ok, Err, ⊤}
+use Rattle.std.specs.Prelude.{◌≡◌, ℕ, zero, suc, ◌+◌, ◌-◌, ◌*◌, ◌/◌, ◌%◌, ◌^◌, ◌<◌, ◌≤◌, min, Bool, List, [], ◌∷◌, ◌++◌, length, replicate, take, drop, ◌≢◌, slice_set, Option, Some, None, Result, Ok, Err, ⊤}
 use Rattle.std.proofs.Common.{mul-le-mul_left, mul-zero, mul-suc, mul-add, mod-eq_of_lt, le_antisymm, le_trans, div-le_self, zero-add, add-one, subst, ◌∙◌, append_assoc, append-nil, length-append, take-append-drop, take_at, drop_at, drop-drop, length-take-le, le-leb, lt-ltb, le-ltb}
 use Rattle.std.proofs.Math.Nat.{mul-div-le, div-eq_of_lt, div-eq-sub-div}
 use Rattle.std.proofs.Math.Decide.{dec_le, dec_lt}
 use native.Mathlib.Omega.{arith}
 use Rattle.std.proofs.Math.Path.{refl, sym, ap}
-use Rattle.std.proofs.lemmas.List.{set_split}
+use Rattle.std.proofs.lemmas.List.{set_split, length-replicate}
 use Rattle.std.proofs.lemmas.Bool.{lt-leb}
-use Rattle.util.specs.LittleEndian.{signed_in}
-use Rattle.util.specs.Pointer.{relative_address}
 use Rattle.util.specs.Buffer.{pasted, at_start, overwritten, Put}
 use Rattle.util.proofs.BufferLaws.{put_none, put_then, put_length}
 use Rattle.segment.specs.Segments.{segments_of, file_offset}
@@ -22,16 +20,17 @@ use Rattle.refusal.specs.Guarded.{fault, fault_of, guarded}
 use Rattle.refusal.proofs.GuardedLaws.{refused_list, accepted_list}
 use Rattle.runtime.specs.Reads.{bytes_place, run}
 use Rattle.runtime.proofs.CallsLaws.{bytes_at_lem, bytes_past, bytes_nowhere, bytes_within}
-use Rattle.vtable.specs.Entries.{Word, Layout, Entry, entry_size, entry_of, entry_address, entry_at, Step, entry_step, word_at, words_from}
+use Rattle.vtable.specs.Entries.{Word, pointer, Layout, packed, first, shape_words, table_entry, Entry, entry_size, entry_of, entry_address, entry_at, Step, entry_step, words_from}
 use Rattle.vtable.proofs.EntriesLaws.{step_end, step_gives}
 use Rattle.vtable.specs.Listed.{listed_entries}
 use Rattle.vtable.proofs.ListLaws.{iter_at}
 use Rattle.vtable.specs.declared.iter.EntryIter.{EntryIter}
-use Rattle.entry_tables.specs.declared.list.Words.{Words}
+use Rattle.vtable.specs.declared.entry.TableEntry.{TableEntry}
+use Rattle.vtable.specs.declared.shape.Shape.{Shape}
 use Rattle.entry_tables.specs.declared.list.Listed.{Listed}
 use Rattle.entry_tables.specs.declared.list.Stop.{Stop}
 use Rattle.entry_tables.specs.declared.window.Window.{Window}
-use Rattle.entry_tables.specs.Tables.{entry_numbers, WholeTable, Counts, empty_table, stop_number, stop_at, entry_then, table_by, table_from, table_in, width, counts, table_numbers, buffer_with, GivesTable, first, shape, entry_place, Opens, words_in, run_numbers, PutRun, Lists}
+use Rattle.entry_tables.specs.Tables.{entry_numbers, WholeTable, Counts, empty_table, stop_number, stop_at, entry_then, table_by, table_from, width, counts, table_numbers, buffer_with, GivesTable, shape_layout, entry_place, Opens, words_in, run_numbers, PutRun, Lists}
 
 -- ---- where an entry lies
 
@@ -109,8 +108,8 @@ module _ (image segments : List ℕ) (size a : ℕ) (w : a + (size - 4) < 2 ^ 64
 pub opens_same : (image segments : List ℕ) (size a : ℕ) (x y : Option Window) → x ≡ y → Opens image segments size a y → Opens image segments size a x
 opens_same image segments size a x y e h = subst (Opens image segments size a) (sym e) h
 
-pub opens_as : (image segments : List ℕ) (size a b : ℕ) (x : Option Window) → a ≡ b → Opens image segments size a x → Opens image segments size b x
-opens_as image segments size a b x e h = subst (λ (n : ℕ). Opens image segments size n x) e h
+pub opens_as : (image segments : List ℕ) {size n a b : ℕ} → size ≡ n → a ≡ b → (x : Option Window) → Opens image segments size a x → Opens image segments n b x
+opens_as image segments {size} {n} {a} {b} es e x h = subst (λ (s : ℕ). Opens image segments s b x) es (subst (λ (k : ℕ). Opens image segments size k x) e h)
 
 module _ (image segments : List ℕ) (size a o last : ℕ) (w : Opens image segments size a (Some (record { place = o; last = last }))) where
   pub opens_here : Some o ≡ entry_place image segments size a
@@ -143,32 +142,12 @@ module _ (image segments : List ℕ) (l : Layout) (base k : ℕ) where
 
 -- ---- its shape
 
-module _ (numbered : Bool) where
-  shape_size : (more stride : ℕ) → more ≤ 2 → entry_size (shape numbered more stride) ≡ 4 + 4 * more
-  shape_size zero stride h = refl
-  shape_size (suc zero) stride h = refl
-  shape_size (suc (suc n)) stride h = omega arith
+module _ (s : Shape) (stride : ℕ) where
+  shape_size : entry_size (shape_layout s stride) ≡ 4 + 4 * s.more
+  shape_size = omega (arith, length-replicate s.more pointer)
 
-  shape_width : (more stride : ℕ) → more ≤ 2 → width (shape numbered more stride) ≡ 2 + more
-  shape_width zero stride h = refl
-  shape_width (suc zero) stride h = refl
-  shape_width (suc (suc n)) stride h = omega arith
-
-  shape_words : (more stride : ℕ) → (shape numbered more 0).words ≡ (shape numbered more stride).words
-  shape_words zero stride = refl
-  shape_words (suc zero) stride = refl
-  shape_words (suc (suc n)) stride = refl
-
-  shape_stride : (more stride : ℕ) → (shape numbered more stride).stride ≡ stride
-  shape_stride zero stride = refl
-  shape_stride (suc zero) stride = refl
-  shape_stride (suc (suc n)) stride = refl
-
--- more than two pointers count as two
-shape_least : (numbered : Bool) (more stride : ℕ) → shape numbered (min more 2) stride ≡ shape numbered more stride
-shape_least numbered zero stride = refl
-shape_least numbered (suc zero) stride = refl
-shape_least numbered (suc (suc n)) stride = let two : min (suc (suc n)) 2 ≡ 2 = omega arith in ap (λ (j : ℕ). shape numbered j stride) two
+  shape_width : width (shape_layout s stride) ≡ 2 + s.more
+  shape_width = omega (arith, length-replicate s.more pointer)
 
 words_long : (ws : List Word) (a o : ℕ) (h : List ℕ) → length (words_from ws a o h) ≡ length ws
 words_long [] a o h = refl
@@ -180,22 +159,13 @@ below_word a x more last e h =
     let f : a ≡ x = e ∙ mod-eq_of_lt (omega arith) in
     omega arith
 
-pub numbered_word : (b : Bool) (a x : ℕ) (h : List ℕ) → b ≡ true → x ≡ word_at (first true) a 0 h → x ≡ word_at (first b) a 0 h
-numbered_word b a x h t e = rw t e
-
-pub pointer_word : (b : Bool) (a x : ℕ) (h : List ℕ) → b ≡ false → x ≡ relative_address a (signed_in 4 h 0) → x ≡ word_at (first b) a 0 h
-pointer_word b a x h t e = rw t (e ∙ ap (λ (n : ℕ). relative_address n (signed_in 4 h 0)) (omega arith))
-
--- a pointer's own address, which lies below 2^64
-later_word : (a o s x : ℕ) (h : List ℕ) → a + o < 2 ^ 64 → s ≡ (a + o) % 2 ^ 64 → x ≡ relative_address s (signed_in 4 h o) → x ≡ relative_address (a + o) (signed_in 4 h o)
-later_word a o s x h l es e = e ∙ ap (λ (n : ℕ). relative_address n (signed_in 4 h o)) (es ∙ mod-eq_of_lt l)
-
-pub words_are : (numbered : Bool) (more a s t : ℕ) (h : List ℕ) (w : Words) → more ≤ 2 → a + 4 * more < 2 ^ 64 → s ≡ (a + 4) % 2 ^ 64 → t ≡ (a + 8) % 2 ^ 64
-    → w.first ≡ word_at (first numbered) a 0 h → w.second ≡ relative_address s (signed_in 4 h 4) → w.third ≡ relative_address t (signed_in 4 h 8)
-    → words_in more w ≡ words_from (shape numbered more 0).words a 0 h
-words_are numbered zero a s t h w m l es et e1 e2 e3 = ap (λ (x : ℕ). x ∷ []) e1
-words_are numbered (suc zero) a s t h w m l es et e1 e2 e3 = cc (e1, later_word a 4 s _ h (omega arith) es e2)
-words_are numbered (suc (suc n)) a s t h w m l es et e1 e2 e3 = cc (e1, later_word a 4 s _ h (omega arith) es e2, later_word a 8 t _ h (omega arith) et e3)
+-- an entry's words are those that its value holds
+words_are : (numbered : Bool) (more a : ℕ) (h : List ℕ) → more ≤ 2
+    → words_in more (table_entry (record { address = a; words = words_from (first numbered ∷ replicate more pointer) a 0 h })) ≡ words_from (first numbered ∷ replicate more pointer) a 0 h
+words_are numbered zero a h m = refl
+words_are numbered (suc zero) a h m = refl
+words_are numbered (suc (suc zero)) a h m = refl
+words_are numbered (suc (suc (suc n))) a h m = absurd (omega arith)
 
 -- ---- its numbers in the list
 
@@ -208,34 +178,36 @@ set_more b p b' at n x u e h =
     let next : at + (n + 1) ≡ at + n + 1 = omega arith in
     rw next (put_then b p (x ∷ []) b' _ at (at + n) (at + n + 1) u (set_put b' (at + n) x (omega arith)) (omega arith))
 
-module _ (b : List ℕ) (at a : ℕ) (w : Words) where
-  one : at + 2 ≤ length b → Put b at (a ∷ (w.first ∷ [])) (at + 2) (slice_set (slice_set b at a) (at + 1) w.first)
-  one h = set_more b (a ∷ []) _ at 1 w.first (set_put b at a (omega arith)) refl (omega arith)
+module _ (b : List ℕ) (at : ℕ) (w : TableEntry) where
+  one : at + 2 ≤ length b → Put b at (w.address ∷ (w.first ∷ [])) (at + 2) (slice_set (slice_set b at w.address) (at + 1) w.first)
+  one h = set_more b (w.address ∷ []) _ at 1 w.first (set_put b at w.address (omega arith)) refl (omega arith)
 
-  two : at + 3 ≤ length b → Put b at (a ∷ (w.first ∷ (w.second ∷ []))) (at + 3) (slice_set (slice_set (slice_set b at a) (at + 1) w.first) (at + 2) w.second)
-  two h = set_more b (a ∷ (w.first ∷ [])) _ at 2 w.second (one (omega arith)) refl (omega arith)
+  two : at + 3 ≤ length b → Put b at (w.address ∷ (w.first ∷ (w.second ∷ []))) (at + 3) (slice_set (slice_set (slice_set b at w.address) (at + 1) w.first) (at + 2) w.second)
+  two h = set_more b (w.address ∷ (w.first ∷ [])) _ at 2 w.second (one (omega arith)) refl (omega arith)
 
   three : at + 4 ≤ length b
-      → Put b at (a ∷ (w.first ∷ (w.second ∷ (w.third ∷ [])))) (at + 4) (slice_set (slice_set (slice_set (slice_set b at a) (at + 1) w.first) (at + 2) w.second) (at + 3) w.third)
-  three h = set_more b (a ∷ (w.first ∷ (w.second ∷ []))) _ at 3 w.third (two (omega arith)) refl (omega arith)
+      → Put b at (w.address ∷ (w.first ∷ (w.second ∷ (w.third ∷ [])))) (at + 4) (slice_set (slice_set (slice_set (slice_set b at w.address) (at + 1) w.first) (at + 2) w.second) (at + 3) w.third)
+  three h = set_more b (w.address ∷ (w.first ∷ (w.second ∷ []))) _ at 3 w.third (two (omega arith)) refl (omega arith)
 
   module _ (more : ℕ) (h : at + (2 + more) ≤ length b) where
-    pub put_one : more ≡ 0 → slice_set (slice_set b at a) (at + 1) w.first ≡ pasted b at (a ∷ words_in more w)
+    pub put_one : more ≡ 0 → slice_set (slice_set b at w.address) (at + 1) w.first ≡ pasted b at (w.address ∷ words_in more w)
     put_one e = rw e (one (omega arith)).holds
 
-    pub put_two : more ≡ 1 → slice_set (slice_set (slice_set b at a) (at + 1) w.first) (at + 2) w.second ≡ pasted b at (a ∷ words_in more w)
+    pub put_two : more ≡ 1 → slice_set (slice_set (slice_set b at w.address) (at + 1) w.first) (at + 2) w.second ≡ pasted b at (w.address ∷ words_in more w)
     put_two e = rw e (two (omega arith)).holds
 
-    pub put_three : more ≡ 2 → slice_set (slice_set (slice_set (slice_set b at a) (at + 1) w.first) (at + 2) w.second) (at + 3) w.third ≡ pasted b at (a ∷ words_in more w)
+    pub put_three : more ≡ 2 → slice_set (slice_set (slice_set (slice_set b at w.address) (at + 1) w.first) (at + 2) w.second) (at + 3) w.third ≡ pasted b at (w.address ∷ words_in more w)
     put_three e = rw e (three (omega arith)).holds
 
 -- an entry's numbers are those of its words
-pub put_words : (b b' bytes s : List ℕ) (at a more n o : ℕ) (numbered : Bool) (w : Words) → b' ≡ pasted b at (a ∷ words_in more w)
-    → words_in more w ≡ words_from (shape numbered more 0).words a 0 bytes → bytes ≡ take (o + n - o) (drop o s)
-    → b' ≡ pasted b at (entry_numbers (entry_of (shape numbered more 0) a (take n (drop o s))))
-put_words b b' bytes s at a more n o numbered w eb ew ep =
-    let len : o + n - o ≡ n = omega arith in
-    eb ∙ ap (λ (x : List ℕ). pasted b at (a ∷ x)) (ew ∙ ap (words_from (shape numbered more 0).words a 0) (ep ∙ ap (λ (j : ℕ). take j (drop o s)) len))
+pub put_words : (b b' bytes s : List ℕ) (at a n o : ℕ) (x : Shape) (e : TableEntry) → x.more ≤ 2 → n ≡ 4 + 4 * x.more → b' ≡ pasted b at (e.address ∷ words_in x.more e)
+    → e ≡ table_entry (entry_of (packed (shape_words x)) a bytes) → bytes ≡ take (o + n - o) (drop o s)
+    → b' ≡ pasted b at (entry_numbers (entry_of (shape_layout x 0) a (take (4 + 4 * x.more) (drop o s))))
+put_words b b' bytes s at a n o x e small en eb ee ep =
+    let len : o + n - o ≡ 4 + 4 * x.more = omega arith in
+    let same : bytes ≡ take (4 + 4 * x.more) (drop o s) = ep ∙ ap (λ (j : ℕ). take j (drop o s)) len in
+    eb ∙ ap (λ (y : TableEntry). pasted b at (y.address ∷ words_in x.more y)) ee ∙ ap (λ (ws : List ℕ). pasted b at (a ∷ ws)) (words_are x.numbered x.more a bytes small)
+    ∙ ap (λ (h : List ℕ). pasted b at (entry_numbers (entry_of (shape_layout x 0) a h))) same
 
 -- ---- the entries of a run
 
@@ -244,49 +216,49 @@ run_length image l o a zero = sym (mul-zero (width l))
 run_length image l o a (suc n) =
     length-append (run_numbers image l o a n) _ ∙ omega (arith, run_length image l o a n, mul-suc (width l) n, words_long l.words (a + l.stride * n) 0 (take (entry_size l) (drop (o + l.stride * n) image)))
 
-module _ (image : List ℕ) (numbered : Bool) (more stride o last a most : ℕ) (b₀ : List ℕ) (at : ℕ) where
+module _ (image : List ℕ) (s : Shape) (stride o last a most : ℕ) (b₀ : List ℕ) (at : ℕ) where
   abbrev run_shape : Layout
-  run_shape = shape numbered more stride
+  run_shape = shape_layout s stride
 
   -- `n` entries are put
   pub record Ran (n : ℕ) (b : List ℕ) : Type 0 where
     pub few : n ≤ most
     pub within : (i : ℕ) → i < n → stride * i ≤ last
     pub long : length b ≡ length b₀
-    pub put : Put b₀ at (run_numbers image run_shape o a n) (at + (2 + more) * n) b
+    pub put : Put b₀ at (run_numbers image run_shape o a n) (at + (2 + s.more) * n) b
 
   pub ran_none : Ran 0 b₀
   ran_none =
-      let z : at + (2 + more) * 0 ≡ at = omega (arith, mul-zero (2 + more)) in
+      let z : at + (2 + s.more) * 0 ≡ at = omega (arith, mul-zero (2 + s.more)) in
       record { few = omega arith; within = λ i h. absurd (omega arith); long = refl; put = rw z (put_none b₀ at) }
 
-  module _ (small : more ≤ 2) (room : at + (2 + more) * most ≤ length b₀) (n : ℕ) (b : List ℕ) (g : Ran n b) where
-    so_long : length (run_numbers image run_shape o a n) ≡ (2 + more) * n
+  module _ (room : at + (2 + s.more) * most ≤ length b₀) (n : ℕ) (b : List ℕ) (g : Ran n b) where
+    so_long : length (run_numbers image run_shape o a n) ≡ (2 + s.more) * n
     so_long = omega (arith, g.put.ends)
 
     inside : at + length (run_numbers image run_shape o a n) ≤ length b₀
-    inside = omega (arith, so_long, mul-le-mul_left (2 + more) g.few)
+    inside = omega (arith, so_long, mul-le-mul_left (2 + s.more) g.few)
 
     -- one more fits
-    pub run_fits : n < most → at + (2 + more) * n + (2 + more) ≤ length b
+    pub run_fits : n < most → at + (2 + s.more) * n + (2 + s.more) ≤ length b
     run_fits h =
-        let next : (2 + more) * suc n ≤ (2 + more) * most = mul-le-mul_left (2 + more) h in
-        omega (arith, next, mul-suc (2 + more) n, g.long)
+        let next : (2 + s.more) * suc n ≤ (2 + s.more) * most = mul-le-mul_left (2 + s.more) h in
+        omega (arith, next, mul-suc (2 + s.more) n, g.long)
 
     pub ran_on : (past : ℕ) (b' : List ℕ) → n < most → past ≡ stride * n → past ≤ last
-        → b' ≡ pasted b (at + (2 + more) * n) (entry_numbers (entry_of (shape numbered more 0) (a + past) (take (4 + 4 * more) (drop (o + past) image)))) → Ran (n + 1) b'
+        → b' ≡ pasted b (at + (2 + s.more) * n) (entry_numbers (entry_of (shape_layout s 0) (a + past) (take (4 + 4 * s.more) (drop (o + past) image)))) → Ran (n + 1) b'
     ran_on past b' h e near eb =
         let x : List ℕ = entry_numbers (entry_of run_shape (a + run_shape.stride * n) (take (entry_size run_shape) (drop (o + run_shape.stride * n) image))) in
-        let far : run_shape.stride * n ≡ past = ap (λ (j : ℕ). j * n) (shape_stride numbered more stride) ∙ sym e in
-        let same : b' ≡ pasted b (at + (2 + more) * n) x = eb ∙ rw (far, shape_size numbered more stride small, shape_words numbered more stride) in
-        let wide : length x ≡ 2 + more = ap suc (words_long run_shape.words _ 0 _) ∙ shape_width numbered more stride small in
-        let next : at + (2 + more) * suc n ≡ at + (2 + more) * n + length x = omega (arith, wide, mul-suc (2 + more) n) in
-        let put : Put b₀ at (run_numbers image run_shape o a n ++ x) (at + (2 + more) * suc n) b' =
-        put_then b₀ (run_numbers image run_shape o a n) x b b' at (at + (2 + more) * n) _ g.put (record { ends = next; holds = same }) inside in
+        let far : run_shape.stride * n ≡ past = sym e in
+        let same : b' ≡ pasted b (at + (2 + s.more) * n) x = eb ∙ rw (far, shape_size s stride) in
+        let wide : length x ≡ 2 + s.more = ap suc (words_long run_shape.words _ 0 _) ∙ shape_width s stride in
+        let next : at + (2 + s.more) * suc n ≡ at + (2 + s.more) * n + length x = omega (arith, wide, mul-suc (2 + s.more) n) in
+        let put : Put b₀ at (run_numbers image run_shape o a n ++ x) (at + (2 + s.more) * suc n) b' =
+        put_then b₀ (run_numbers image run_shape o a n) x b b' at (at + (2 + s.more) * n) _ g.put (record { ends = next; holds = same }) inside in
         record {
           few = omega arith;
           within = λ i l. elim (dec_lt i n) [ yes k ↦ g.within i k | no k ↦ let same-i : i ≡ n = omega arith in omega (arith, ap (λ (j : ℕ). stride * j) same-i) ];
-          long = put_length b x b' (at + (2 + more) * n) _ (record { ends = next; holds = same }) (omega (arith, wide, run_fits h)) ∙ g.long;
+          long = put_length b x b' (at + (2 + s.more) * n) _ (record { ends = next; holds = same }) (omega (arith, wide, run_fits h)) ∙ g.long;
           put = rw (add-one n) put;
         }
 
@@ -294,7 +266,13 @@ module _ (image : List ℕ) (numbered : Bool) (more stride o last a most : ℕ) 
     far_on past e = omega (arith, e, ap (λ (j : ℕ). stride * j) (add-one n), mul-suc stride n)
 
     pub ran_puts : (0 < most → 0 < n) → PutRun image run_shape o last a most b₀ at n b
-    ran_puts any = record { few = g.few; any = any; within = λ i h. rw (shape_stride numbered more stride) (g.within i h); holds = g.put.holds }
+    ran_puts any = record { few = g.few; any = any; within = g.within; holds = g.put.holds }
+
+    -- as many as there may be
+    pub ran_all : most ≤ n → PutRun image run_shape o last a most b₀ at most b
+    ran_all l =
+        let e : n ≡ most = omega (arith, g.few) in
+        subst (λ (k : ℕ). PutRun image run_shape o last a most b₀ at k b) e (ran_puts (λ h. omega arith))
 
 -- ---- run after run
 
@@ -543,54 +521,54 @@ room_few b w n h = omega (arith, h, div-le_self (length b) w)
 
 -- ---- the same in terms of the shape's numbers, as the code has them
 
-module _ (image segments : List ℕ) (numbered : Bool) (more stride base count : ℕ) (b₀ : List ℕ) (k₀ : ℕ) (small : more ≤ 2) where
+module _ (image segments : List ℕ) (s : Shape) (stride base count : ℕ) (b₀ : List ℕ) (k₀ : ℕ) where
   abbrev l : Layout
-  l = shape numbered more stride
+  l = shape_layout s stride
 
   abbrev at : ℕ → ℕ
   at k = base + stride * k
 
-  wide : width l ≡ 2 + more
-  wide = shape_width numbered more stride small
+  wide : width l ≡ 2 + s.more
+  wide = shape_width s stride
 
-  below : (n : ℕ) → n < length b₀ / (2 + more) → n < length b₀ / width l
+  below : (n : ℕ) → n < length b₀ / (2 + s.more) → n < length b₀ / width l
   below n h = rw wide h
 
-  by_size : (k : ℕ) (x : Option ℕ) → x ≡ entry_place image segments (4 + 4 * more) (at k) → x ≡ entry_place image segments (entry_size l) (entry_address l base k)
-  by_size k x e = rw (shape_size numbered more stride small, shape_stride numbered more stride) e
+  by_size : (k : ℕ) (x : Option ℕ) → x ≡ entry_place image segments (4 + 4 * s.more) (at k) → x ≡ entry_place image segments (entry_size l) (entry_address l base k)
+  by_size k x e = rw (shape_size s stride) e
 
   module _ (k n : ℕ) (b : List ℕ) (g : Listing image segments l base count b₀ k₀ k n b) where
     abbrev Done : Stop → Type 0
     Done s = Lists (table_from image segments l (length b₀ / width l) (iter_at base count k₀)) b₀ (record { entries = n; stop = s }) b
 
-    pub table_full : (s : Stop) → length b₀ / (2 + more) ≤ n → stop_number s ≡ stop_at k count → Done s
-    table_full s h f = stops_full entry_numbers image segments l base count (width l) b₀ k₀ k n b g (le_antisymm g.few (rw wide h)) (stop_number s) f
+    pub table_full : (x : Stop) → length b₀ / (2 + s.more) ≤ n → stop_number x ≡ stop_at k count → Done x
+    table_full x h f = stops_full entry_numbers image segments l base count (width l) b₀ k₀ k n b g (le_antisymm g.few (rw wide h)) (stop_number x) f
 
-    module _ (h : k < count) (m : n < length b₀ / (2 + more)) where
-      pub table_none : None ≡ entry_place image segments (4 + 4 * more) (at k) → Done Stop.Unreadable
+    module _ (h : k < count) (m : n < length b₀ / (2 + s.more)) where
+      pub table_none : None ≡ entry_place image segments (4 + 4 * s.more) (at k) → Done Stop.Unreadable
       table_none e = stops_none entry_numbers image segments l base count (width l) b₀ k₀ k n b g h (below n m) (no_place image segments l base k (by_size k None e))
 
-      pub table_some : (o a : ℕ) (b' : List ℕ) → Some o ≡ entry_place image segments (4 + 4 * more) (at k) → a ≡ at k % 2 ^ 64
-          → b' ≡ pasted b ((2 + more) * n) (entry_numbers (entry_of (shape numbered more 0) a (take (4 + 4 * more) (drop o image))))
+      pub table_some : (o a : ℕ) (b' : List ℕ) → Some o ≡ entry_place image segments (4 + 4 * s.more) (at k) → a ≡ at k % 2 ^ 64
+          → b' ≡ pasted b ((2 + s.more) * n) (entry_numbers (entry_of (shape_layout s 0) a (take (4 + 4 * s.more) (drop o image))))
           → Listing image segments l base count b₀ k₀ (k + 1) (n + 1) b'
       table_some o a b' e ea eb =
-          let w = (place_in image segments (4 + 4 * more) (at k) o e).0 in
+          let w = (place_in image segments (4 + 4 * s.more) (at k) o e).0 in
           let same : a ≡ at k = ea ∙ mod-eq_of_lt (omega arith) in
           let is : Some (entry_of l (entry_address l base k) (take (entry_size l) (drop o image))) ≡ run image segments (entry_at l base k) = a_place image segments l base k o (by_size k (Some o) e) in
           let x : Entry = entry_of l (entry_address l base k) (take (entry_size l) (drop o image)) in
           let put : b' ≡ pasted b (width l * n) (entry_numbers x) =
-          eb ∙ rw (wide, shape_size numbered more stride small, shape_stride numbered more stride, same, shape_words numbered more stride) in
+          eb ∙ rw (wide, shape_size s stride, same) in
           goes_on_lem entry_numbers image segments l base count (width l) b₀ k₀ k n b g h (below n m) x b' is (ap suc (words_long l.words (entry_address l base k) 0 _)) put
 
-    pub table_run : (o last a most r : ℕ) (b' : List ℕ) → Opens image segments (4 + 4 * more) (at k) (Some (record { place = o; last = last })) → a ≡ at k % 2 ^ 64 → most ≤ count - k
-        → most ≤ length b₀ / (2 + more) - n → k < count → PutRun image l o last a most b ((2 + more) * n) r b' → Listing image segments l base count b₀ k₀ (k + r) (n + r) b'
+    pub table_run : (o last a most r : ℕ) (b' : List ℕ) → Opens image segments (4 + 4 * s.more) (at k) (Some (record { place = o; last = last })) → a ≡ at k % 2 ^ 64 → most ≤ count - k
+        → most ≤ length b₀ / (2 + s.more) - n → k < count → PutRun image l o last a most b ((2 + s.more) * n) r b' → Listing image segments l base count b₀ k₀ (k + r) (n + r) b'
     table_run o last a most r b' w ea mc mr h p =
-        let here = (place_in image segments (4 + 4 * more) (at k) o (opens_here image segments (4 + 4 * more) (at k) o last w)).0 in
-        let same : a ≡ entry_address l base k = ea ∙ mod-eq_of_lt (omega arith) ∙ ap (λ (j : ℕ). base + j * k) (sym (shape_stride numbered more stride)) in
+        let here = (place_in image segments (4 + 4 * s.more) (at k) o (opens_here image segments (4 + 4 * s.more) (at k) o last w)).0 in
+        let same : a ≡ entry_address l base k = ea ∙ mod-eq_of_lt (omega arith) in
         let put : b' ≡ pasted b (width l * n) (run_numbers image l o (entry_address l base k) r) = p.holds ∙ rw (wide, same) in
         let far : (i : ℕ) → i < r → Some (o + l.stride * i) ≡ entry_place image segments (entry_size l) (entry_address l base k + l.stride * i) =
-        λ i j. rw (shape_size numbered more stride small, shape_stride numbered more stride) (w (stride * i) (rw (shape_stride numbered more stride) at (p.within i j))) in
-        let few : length b₀ / (2 + more) ≡ length b₀ / width l = rw wide in
+        λ i j. rw (shape_size s stride) (w (stride * i) (p.within i j)) in
+        let few : length b₀ / (2 + s.more) ≡ length b₀ / width l = rw wide in
         rw put (goes_along image segments l base count b₀ k₀ k n b g o r (omega (arith, p.few, g.few, few)) (omega (arith, p.few)) far)
 
   -- a single entry
@@ -598,29 +576,23 @@ module _ (image segments : List ℕ) (numbered : Bool) (more stride base count :
   only = table_from image segments l (length b₀ / width l) (iter_at base count k₀)
 
   module _ (h : k₀ + 1 ≡ count) where
-    pub one_full : length b₀ < 2 + more → Lists only b₀ (record { entries = 0; stop = Stop.Full }) b₀
+    pub one_full : length b₀ < 2 + s.more → Lists only b₀ (record { entries = 0; stop = Stop.Full }) b₀
     one_full m =
         table_full k₀ 0 b₀ (start_going entry_numbers image segments l base count (width l) b₀ k₀) Stop.Full (omega (arith, div-eq_of_lt m)) (stop_full k₀ count (omega arith))
 
-    module _ (m : 2 + more ≤ length b₀) where
-      one_fits : 0 < length b₀ / (2 + more)
-      one_fits = omega (arith, div-eq-sub-div {m = 2 + more} {n = length b₀} (omega arith) m)
+    module _ (m : 2 + s.more ≤ length b₀) where
+      one_fits : 0 < length b₀ / (2 + s.more)
+      one_fits = omega (arith, div-eq-sub-div {m = 2 + s.more} {n = length b₀} (omega arith) m)
 
-      pub one_none : None ≡ entry_place image segments (4 + 4 * more) (at k₀) → Lists only b₀ (record { entries = 0; stop = Stop.Unreadable }) b₀
+      pub one_none : None ≡ entry_place image segments (4 + 4 * s.more) (at k₀) → Lists only b₀ (record { entries = 0; stop = Stop.Unreadable }) b₀
       one_none e = table_none k₀ 0 b₀ (start_going entry_numbers image segments l base count (width l) b₀ k₀) (omega arith) one_fits e
 
-      pub one_some : (o last a : ℕ) (b' : List ℕ) → Opens image segments (4 + 4 * more) (at k₀) (Some (record { place = o; last = last })) → a ≡ at k₀ % 2 ^ 64
-          → b' ≡ pasted b₀ 0 (entry_numbers (entry_of (shape numbered more 0) a (take (4 + 4 * more) (drop o image)))) → Lists only b₀ (record { entries = 1; stop = Stop.Ended }) b'
+      pub one_some : (o last a : ℕ) (b' : List ℕ) → Opens image segments (4 + 4 * s.more) (at k₀) (Some (record { place = o; last = last })) → a ≡ at k₀ % 2 ^ 64
+          → b' ≡ pasted b₀ 0 (entry_numbers (entry_of (shape_layout s 0) a (take (4 + 4 * s.more) (drop o image)))) → Lists only b₀ (record { entries = 1; stop = Stop.Ended }) b'
       one_some o last a b' w ea eb =
           stops_end entry_numbers image segments l base count (width l) b₀ k₀ (k₀ + 1) 1 b'
-          (table_some k₀ 0 b₀ (start_going entry_numbers image segments l base count (width l) b₀ k₀) (omega arith) one_fits o a b' (opens_here image segments (4 + 4 * more) (at k₀) o last w) ea (rw (mul-zero (2 + more)) eb))
+          (table_some k₀ 0 b₀ (start_going entry_numbers image segments l base count (width l) b₀ k₀) (omega arith) one_fits o a b' (opens_here image segments (4 + 4 * s.more) (at k₀) o last w) ea (rw (mul-zero (2 + s.more)) eb))
           (omega arith)
-
--- a shape with more pointers than two is that with two
-pub lists_least : (image segments : List ℕ) (numbered : Bool) (more r stride : ℕ) (c : EntryIter) (b b' : List ℕ) (x : Listed) → r ≡ min more 2
-    → Lists (table_in image segments (shape numbered r stride) c (length b)) b x b' → Lists (table_in image segments (shape numbered more stride) c (length b)) b x b'
-lists_least image segments numbered more r stride c b b' x e h =
-    subst (λ (l : Layout). Lists (table_in image segments l c (length b)) b x b') (ap (λ (n : ℕ). shape numbered n stride) e ∙ shape_least numbered more stride) h
 
 -- ---- the calls
 

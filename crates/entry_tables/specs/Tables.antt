@@ -1,13 +1,14 @@
 -- Whole tables of entries into the caller's list of numbers: docs/SPECIFICATION.md, "Whole tables".
-use Rattle.std.specs.Prelude.{◌≡◌, ℕ, zero, suc, ◌+◌, ◌-◌, ◌*◌, ◌/◌, ◌^◌, ◌<◌, ◌≤◌, Bool, true, false, cond, List, [], ◌∷◌, ◌++◌, length, take, drop, nat_le, nat_lt, Option, Some, None, Result}
+use Rattle.std.specs.Prelude.{◌≡◌, ℕ, zero, suc, ◌+◌, ◌-◌, ◌*◌, ◌/◌, ◌^◌, ◌<◌, ◌≤◌, cond, List, [], ◌∷◌, ◌++◌, length, take, drop, nat_le, nat_lt, Option, Some, None, Result}
 use Rattle.util.specs.Buffer.{pasted, at_start, overwritten}
 use Rattle.refusal.specs.Refusal.{Guarded, answered, outcome, mapped, answer_of}
 use Rattle.refusal.specs.declared.Refusal.{Refusal}
 use Rattle.refusal.specs.Guarded.{guarded}
 use Rattle.runtime.specs.Reads.{bytes_place}
-use Rattle.vtable.specs.Entries.{Word, number, pointer, Layout, Entry, entry_size, entry_of, entry_step}
+use Rattle.vtable.specs.Entries.{Layout, shape_words, Entry, entry_size, entry_of, entry_step}
+use Rattle.vtable.specs.declared.entry.TableEntry.{TableEntry}
+use Rattle.vtable.specs.declared.shape.Shape.{Shape}
 use Rattle.vtable.specs.declared.iter.EntryIter.{EntryIter}
-use Rattle.entry_tables.specs.declared.list.Words.{Words}
 use Rattle.entry_tables.specs.declared.window.Window.{Window}
 use Rattle.entry_tables.specs.declared.list.Listed.{Listed}
 use Rattle.entry_tables.specs.declared.list.Stop.{Stop}
@@ -95,23 +96,16 @@ pub record GivesTable (g : Guarded WholeTable) (buffer : List ℕ) (r : Result L
   pub answers : table_answer r ≡ mapped counts g
   pub holds : buffer' ≡ buffer_with g buffer
 
--- ---- inside: the shapes of entries that the code knows, by two numbers
+-- ---- inside: the entries that the code knows, by their shape
 
-abbrev pub first : Bool → Word
-first true = number
-first false = pointer
+abbrev pub shape_layout : Shape → ℕ → Layout
+shape_layout s stride = record { words = shape_words s; stride = stride }
 
--- one word, and up to two pointers more
-abbrev pub shape : Bool → ℕ → ℕ → Layout
-shape numbered zero stride = record { words = first numbered ∷ []; stride = stride }
-shape numbered (suc zero) stride = record { words = first numbered ∷ pointer ∷ []; stride = stride }
-shape numbered (suc (suc n)) stride = record { words = first numbered ∷ pointer ∷ pointer ∷ []; stride = stride }
-
--- the words that an entry of a shape has
-abbrev pub words_in : ℕ → Words → List ℕ
-words_in zero w = w.first ∷ []
-words_in (suc zero) w = w.first ∷ (w.second ∷ [])
-words_in (suc (suc n)) w = w.first ∷ (w.second ∷ (w.third ∷ []))
+-- the words of an entry that has some pointers after its first word
+abbrev pub words_in : ℕ → TableEntry → List ℕ
+words_in zero e = e.first ∷ []
+words_in (suc zero) e = e.first ∷ (e.second ∷ [])
+words_in (suc (suc n)) e = e.first ∷ (e.second ∷ (e.third ∷ []))
 
 -- where an entry of a size lies in the image: nowhere if one of its words does not lie below 2^64
 unfoldable pub entry_place : List ℕ → List ℕ → ℕ → ℕ → Option ℕ

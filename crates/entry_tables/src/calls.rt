@@ -1,28 +1,41 @@
 // The calls, by the kind of the table.
-ghost use Rattle.vtable.specs.Entries.{method, override, default_override, prespecialization};
+ghost use Rattle.vtable.specs.Entries.{kind_layout, method, override, default_override, prespecialization};
 ghost use Rattle.field.specs.Records.{record_layout, entries_of};
-ghost use Rattle.entry_tables.specs.Tables.{shape, guarded_table, GivesTable};
+ghost use Rattle.entry_tables.specs.Tables.{shape_layout, guarded_table, GivesTable};
 
 use crate::list::{Listed, list_entries};
 use field::FieldRecordIter;
 use refusal::Refusal;
-use vtable::EntryIter;
+use vtable::{EntryIter, EntryKind, Shape};
 
-// A table by the shape of an entry: whether its first word is a number, how many pointers follow, and how many bytes it is from one entry
-// to the next.
+// A table by the shape of its entries, and how many bytes it is from one entry to the next.
 fn table(
     image: &[u8],
     segments: &[u64],
     cursor: EntryIter,
-    numbered: bool,
-    more: u32,
+    shape: Shape,
     stride: u32,
     buffer: &mut [u64],
 ) -> Result<Listed, Refusal>
-    ensures { GivesTable (guarded_table image.now segments.now (shape numbered more stride) cursor buffer.old) buffer.old result buffer.new }
+    ensures { GivesTable (guarded_table image.now segments.now (shape_layout shape stride) cursor buffer.old) buffer.old result buffer.new }
 {
     refusal::find_fault(segments)?;
-    Ok(list_entries(image, segments, cursor, numbered, more, stride, buffer))
+    Ok(list_entries(image, segments, cursor, shape, stride, buffer))
+}
+
+// A table whose entries lie one after the other. The four calls below differ from it in their kind alone: docs/CALLS.md has each by its name, and so
+// have the calls for C.
+fn packed_table(
+    image: &[u8],
+    segments: &[u64],
+    cursor: EntryIter,
+    kind: EntryKind,
+    buffer: &mut [u64],
+) -> Result<Listed, Refusal>
+    ensures { GivesTable (guarded_table image.now segments.now (kind_layout kind) cursor buffer.old) buffer.old result buffer.new }
+{
+    let shape = kind.shape();
+    table(image, segments, cursor, shape, shape.size(), buffer)
 }
 
 // Three numbers for each method: its address, its flags, its implementation's address.
@@ -34,7 +47,7 @@ pub fn methods(
 ) -> Result<Listed, Refusal>
     ensures { GivesTable (guarded_table image.now segments.now method cursor buffer.old) buffer.old result buffer.new }
 {
-    table(image, segments, cursor, true, 1, 8, buffer)
+    packed_table(image, segments, cursor, EntryKind::Method, buffer)
 }
 
 // Four numbers for each override: its address, and those of the class, the method and the implementation.
@@ -46,7 +59,7 @@ pub fn overrides(
 ) -> Result<Listed, Refusal>
     ensures { GivesTable (guarded_table image.now segments.now override cursor buffer.old) buffer.old result buffer.new }
 {
-    table(image, segments, cursor, false, 2, 12, buffer)
+    packed_table(image, segments, cursor, EntryKind::Override, buffer)
 }
 
 // Three numbers for each default override: its address, and those of the method and the implementation.
@@ -58,7 +71,7 @@ pub fn default_overrides(
 ) -> Result<Listed, Refusal>
     ensures { GivesTable (guarded_table image.now segments.now default_override cursor buffer.old) buffer.old result buffer.new }
 {
-    table(image, segments, cursor, false, 1, 8, buffer)
+    packed_table(image, segments, cursor, EntryKind::DefaultOverride, buffer)
 }
 
 // Two numbers for each prespecialization: its address, and that of the metadata.
@@ -70,8 +83,20 @@ pub fn prespecializations(
 ) -> Result<Listed, Refusal>
     ensures { GivesTable (guarded_table image.now segments.now prespecialization cursor buffer.old) buffer.old result buffer.new }
 {
-    table(image, segments, cursor, false, 0, 4, buffer)
+    packed_table(
+        image,
+        segments,
+        cursor,
+        EntryKind::Prespecialization,
+        buffer,
+    )
 }
+
+// A record's flags, and the addresses of two names.
+const RECORD: Shape = Shape {
+    numbered: true,
+    more: 2,
+};
 
 // Four numbers for each record: its address, its flags, the addresses of the type's name and of the field's.
 pub fn field_records(
@@ -87,5 +112,5 @@ pub fn field_records(
         count: walk.count,
         next: walk.cursor,
     };
-    table(image, segments, cursor, true, 2, walk.entry_size, buffer)
+    table(image, segments, cursor, RECORD, walk.entry_size, buffer)
 }

@@ -1,11 +1,11 @@
 // The entries of a table, one after the other, into the caller's list of numbers.
 ghost use Rattle.std.specs.Prelude.{◌≡◌, ◌+◌, ◌*◌, ◌^◌, ◌<◌, ◌≤◌, min, ◌∷◌, length, take, drop};
 ghost use Rattle.util.specs.Buffer.{pasted, at_start};
-ghost use Rattle.vtable.specs.Entries.{entry_of, word_at, words_from};
-ghost use Rattle.entry_tables.specs.Tables.{entry_numbers, stop_number, stop_at, first, shape, words_in, PutRun, table_in, Lists};
+ghost use Rattle.vtable.specs.Entries.{entry_of};
+ghost use Rattle.entry_tables.specs.Tables.{entry_numbers, stop_number, stop_at, shape_layout, words_in, PutRun, table_in, Lists};
 
 use crate::window::{Window, window_at};
-use vtable::EntryIter;
+use vtable::{EntryIter, Shape, TableEntry};
 
 // Why there are no more entries; `as u64` gives the number that the calls hand on.
 #[derive(Clone, Copy, PartialEq, Eq)]
@@ -25,76 +25,31 @@ pub struct Listed {
     pub stop: Stop,
 }
 
-// The words of an entry; an entry of fewer than three words does not use the last ones.
-#[derive(Clone, Copy)]
-pub struct Words {
-    pub first: u64,
-    pub second: u64,
-    pub third: u64,
-}
-
-fn first_word(bytes: &[u8], address: u64, numbered: bool) -> u64
-    ensures { result ≡ word_at (first numbered) address 0 bytes.now }
-{
-    if numbered {
-        util::u32_at(bytes, 0) as u64
-    } else {
-        util::address_in(bytes, 0, address)
-    }
-}
-
-// What the bytes of an entry at an address say.
-fn words_at(bytes: &[u8], address: u64, numbered: bool, more: u32) -> Words
-    requires { (more ≤ 2) × (address + 4 * more < 2 ^ 64) }
-    ensures { words_in more result ≡ words_from (shape numbered more 0).words address 0 bytes.now }
-{
-    Words {
-        first: first_word(bytes, address, numbered),
-        second: util::address_in(bytes, 4, std::num::wrapping_add_u64(address, 4)),
-        third: util::address_in(bytes, 8, std::num::wrapping_add_u64(address, 8)),
-    }
-}
-
 // The entry's numbers at a place of the list.
-fn put_entry(address: u64, words: Words, more: u32, buffer: &mut [u64], at: usize)
-    requires { (more ≤ 2) × (at + (2 + more) ≤ length buffer.old) }
-    ensures { buffer.new ≡ pasted buffer.old at (address ∷ words_in more words) }
+fn put_entry(entry: TableEntry, shape: Shape, buffer: &mut [u64], at: usize)
+    requires { at + (2 + shape.more) ≤ length buffer.old }
+    ensures { buffer.new ≡ pasted buffer.old at («entry».address ∷ words_in shape.more «entry») }
 {
-    buffer[at] = address;
-    buffer[at + 1] = words.first;
-    if more == 0 {
+    buffer[at] = entry.address;
+    buffer[at + 1] = entry.first;
+    if shape.more == 0 {
         return;
     }
-    buffer[at + 2] = words.second;
-    if more == 1 {
+    buffer[at + 2] = entry.second;
+    if shape.more == 1 {
         return;
     }
-    buffer[at + 3] = words.third;
+    buffer[at + 3] = entry.third;
 }
 
 // Puts the numbers of the entry at a place of the image at a place of the list. The entry's bytes are a part of known length, so no read
 // tests the length again.
-fn put_from(
-    image: &[u8],
-    place: usize,
-    address: u64,
-    numbered: bool,
-    more: u32,
-    buffer: &mut [u64],
-    at: usize,
-)
-    requires { (more ≤ 2) × ((address + 4 * more < 2 ^ 64) × ((place + (4 + 4 * more) ≤ length image.now) × (at + (2 + more) ≤ length buffer.old))) }
-    ensures { buffer.new ≡ pasted buffer.old at (entry_numbers (entry_of (shape numbered more 0) address (take (4 + 4 * more) (drop place image.now)))) }
+fn put_from(image: &[u8], place: usize, address: u64, shape: Shape, buffer: &mut [u64], at: usize)
+    requires { (address + 4 * shape.more < 2 ^ 64) × ((place + (4 + 4 * shape.more) ≤ length image.now) × (at + (2 + shape.more) ≤ length buffer.old)) }
+    ensures { buffer.new ≡ pasted buffer.old at (entry_numbers (entry_of (shape_layout shape 0) address (take (4 + 4 * shape.more) (drop place image.now)))) }
 {
-    let end = place + (4 + 4 * (more as usize));
-    let bytes = &image[place..end];
-    put_entry(
-        address,
-        words_at(bytes, address, numbered, more),
-        more,
-        buffer,
-        at,
-    );
+    let end = place + shape.size() as usize;
+    put_entry(shape.entry(&image[place..end], address), shape, buffer, at);
 }
 
 // Puts at most `most` entries that lie one after the other in the image, the first at `place` and the others at most `last` bytes further
@@ -104,37 +59,27 @@ fn put_run(
     place: usize,
     last: u64,
     address: u64,
-    numbered: bool,
-    more: u32,
+    shape: Shape,
     stride: u32,
     most: usize,
     buffer: &mut [u64],
     at: usize,
 ) -> usize
-    requires { (more ≤ 2) × ((address + last + 4 * more < 2 ^ 64) × ((place + last + (4 + 4 * more) ≤ length image.now) × (at + (2 + more) * most ≤ length buffer.old))) }
-    ensures { PutRun image.now (shape numbered more stride) place last address most buffer.old at result buffer.new }
+    requires { (address + last + 4 * shape.more < 2 ^ 64) × ((place + last + (4 + 4 * shape.more) ≤ length image.now) × (at + (2 + shape.more) * most ≤ length buffer.old)) }
+    ensures { PutRun image.now (shape_layout shape stride) place last address most buffer.old at result buffer.new }
 {
-    let width = 2 + more as usize;
+    let width = 2 + shape.more as usize;
     let step = stride as u64;
-    let mut n: usize = 0;
     let mut past: u64 = 0;
-    while n < most {
-        put_from(
-            image,
-            place + past as usize,
-            address + past,
-            numbered,
-            more,
-            buffer,
-            at + width * n,
-        );
-        n += 1;
+    for n in 0..most {
+        let here = place + past as usize;
+        put_from(image, here, address + past, shape, buffer, at + width * n);
         if last - past < step {
-            return n;
+            return n + 1;
         }
         past += step;
     }
-    n
+    most
 }
 
 // The only entry that is left.
@@ -142,26 +87,25 @@ fn list_one(
     image: &[u8],
     segments: &[u64],
     cursor: EntryIter,
-    numbered: bool,
-    more: u32,
+    shape: Shape,
     stride: u32,
     buffer: &mut [u64],
 ) -> Listed
-    requires { (more ≤ 2) × (cursor.next + 1 ≡ cursor.count) }
-    ensures { Lists (table_in image.now segments.now (shape numbered more stride) cursor (length buffer.old)) buffer.old result buffer.new }
+    requires { cursor.next + 1 ≡ cursor.count }
+    ensures { Lists (table_in image.now segments.now (shape_layout shape stride) cursor (length buffer.old)) buffer.old result buffer.new }
 {
     let base_va = cursor.base_va;
     let k = cursor.next;
-    if buffer.len() < 2 + more as usize {
+    if buffer.len() < 2 + shape.more as usize {
         return Listed {
             entries: 0,
             stop: Stop::Full,
         };
     }
-    match window_at(image, segments, base_va, stride, k, more, true) {
+    match window_at(image, segments, base_va, stride, k, shape, true) {
         Some(Window { place, last: _ }) => {
             let address = vtable::entry_address(base_va, stride, k);
-            put_from(image, place, address, numbered, more, buffer, 0);
+            put_from(image, place, address, shape, buffer, 0);
             Listed {
                 entries: 1,
                 stop: Stop::Ended,
@@ -186,15 +130,13 @@ fn list_runs(
     image: &[u8],
     segments: &[u64],
     cursor: EntryIter,
-    numbered: bool,
-    more: u32,
+    shape: Shape,
     stride: u32,
     buffer: &mut [u64],
 ) -> Listed
-    requires { more ≤ 2 }
-    ensures { Lists (table_in image.now segments.now (shape numbered more stride) cursor (length buffer.old)) buffer.old result buffer.new }
+    ensures { Lists (table_in image.now segments.now (shape_layout shape stride) cursor (length buffer.old)) buffer.old result buffer.new }
 {
-    let width = 2 + more as usize;
+    let width = 2 + shape.more as usize;
     let base_va = cursor.base_va;
     let count = cursor.count;
     let room = buffer.len() / width;
@@ -207,7 +149,7 @@ fn list_runs(
                 stop: Stop::Ended,
             };
         }
-        let found = window_at(image, segments, base_va, stride, k, more, false);
+        let found = window_at(image, segments, base_va, stride, k, shape, false);
         match found {
             Some(Window { place, last }) => {
                 let address = vtable::entry_address(base_va, stride, k);
@@ -217,8 +159,7 @@ fn list_runs(
                     place,
                     last,
                     address,
-                    numbered,
-                    more,
+                    shape,
                     stride,
                     most,
                     buffer,
@@ -241,24 +182,20 @@ fn list_runs(
     }
 }
 
-// The entries from a walk's position on: a first word that is a number or a pointer, at most two pointers after it, and `stride` bytes from
-// one entry to the next. A single entry is listed by itself, since setting up a run takes as long as listing an entry.
+// The entries from a walk's position on: of a shape, and `stride` bytes from one to the next. A single entry is listed by itself, since setting
+// up a run takes as long as listing an entry.
 pub fn list_entries(
     image: &[u8],
     segments: &[u64],
     cursor: EntryIter,
-    numbered: bool,
-    more: u32,
+    shape: Shape,
     stride: u32,
     buffer: &mut [u64],
 ) -> Listed
-    ensures { Lists (table_in image.now segments.now (shape numbered more stride) cursor (length buffer.old)) buffer.old result buffer.new }
+    ensures { Lists (table_in image.now segments.now (shape_layout shape stride) cursor (length buffer.old)) buffer.old result buffer.new }
 {
-    let pointers = more.min(2);
-    if cursor.next < cursor.count {
-        if cursor.count - cursor.next == 1 {
-            return list_one(image, segments, cursor, numbered, pointers, stride, buffer);
-        }
+    if cursor.next < cursor.count && cursor.count - cursor.next == 1 {
+        return list_one(image, segments, cursor, shape, stride, buffer);
     }
-    list_runs(image, segments, cursor, numbered, pointers, stride, buffer)
+    list_runs(image, segments, cursor, shape, stride, buffer)
 }

@@ -2,6 +2,8 @@
 ghost use Rattle.std.specs.Prelude.{◌≡◌, ◌+◌, ◌-◌, ◌*◌, ◌^◌, ◌<◌, ◌≤◌, min};
 ghost use Rattle.entry_tables.specs.Tables.{Opens};
 
+use vtable::Shape;
+
 // The entry at an address is at `place`, and one that starts at most `last` bytes after that address is as far after `place`.
 #[derive(Clone, Copy)]
 pub struct Window {
@@ -46,19 +48,19 @@ fn window_of_all(image: &[u8], segments: &[u64], address: u64, size: usize) -> O
     Some(Window { place, last })
 }
 
-// The window of entry `k`, with `more` words after its first. The window of a single entry takes less time than that of all.
+// The window of entry `k`. The window of a single entry takes less time than that of all.
 pub fn window_at(
     image: &[u8],
     segments: &[u64],
     base_va: u64,
     stride: u32,
     k: u32,
-    more: u32,
+    shape: Shape,
     alone: bool,
 ) -> Option<Window>
-    ensures { Opens image.now segments.now (4 + 4 * more) (base_va + stride * k) result }
+    ensures { Opens image.now segments.now (4 + 4 * shape.more) (base_va + stride * k) result }
 {
-    let size = 4 + 4 * (more as usize);
+    let size = shape.size() as usize;
     let address = base_va.checked_add(stride as u64 * k as u64)?;
     if u64::MAX - address < (size - 4) as u64 {
         return None;
