@@ -171,8 +171,8 @@ words_in_lem EntryKind.Prespecialization a h = refl
 
 -- a kind and its shape
 module _ (kind : EntryKind) (s : Shape) (e : shape_words s ≡ words_of kind) where
-  pub shape_sized : (size : ℕ) → size ≡ 4 * length (shape_words s) → size ≡ entry_size (kind_layout kind)
-  shape_sized size es = es ∙ ap (λ (ws : List Word). 4 * length ws) e
+  pub shape_sized : (size : ℕ) → size ≡ 4 + 4 * s.more → size ≡ entry_size (kind_layout kind)
+  shape_sized size es = omega (arith, es, ap length e, length-replicate s.more pointer)
 
   pub shape_below : (a : ℕ) → a + (entry_size (kind_layout kind) - 4) < 2 ^ 64 → a + 4 * s.more < 2 ^ 64
   shape_below a h = omega (arith, h, ap length e, length-replicate s.more pointer)

@@ -12,12 +12,12 @@ pub struct Shape {
 }
 
 impl Shape {
-    ghost use Rattle.std.specs.Prelude.{◌≡◌, ◌+◌, ◌*◌, ◌^◌, ◌<◌, length};
+    ghost use Rattle.std.specs.Prelude.{◌≡◌, ◌+◌, ◌*◌, ◌^◌, ◌<◌};
     ghost use Rattle.vtable.specs.Entries.{packed, shape_words, entry_of, table_entry};
 
     // How many bytes an entry has.
     pub fn size(self) -> u32
-        ensures { result ≡ 4 * length (shape_words self) }
+        ensures { result ≡ 4 + 4 * self.more }
     {
         4 + 4 * self.more
     }
