@@ -6,6 +6,7 @@ ghost use Rattle.entry_tables.specs.Tables.{shape_layout, guarded_table, GivesTa
 use crate::list::{Listed, list_entries};
 use field::FieldRecordIter;
 use refusal::Refusal;
+use runtime::SwiftRuntime;
 use vtable::{EntryIter, EntryKind, Shape};
 
 // A table by the shape of its entries, and how many bytes it is from one entry to the next.
@@ -20,7 +21,8 @@ fn table(
     ensures { GivesTable (guarded_table image.now segments.now (shape_layout shape stride) cursor buffer.old) buffer.old result buffer.new }
 {
     refusal::find_fault(segments)?;
-    Ok(list_entries(image, segments, cursor, shape, stride, buffer))
+    let rt = SwiftRuntime::new(image, segments);
+    Ok(list_entries(&rt, cursor, shape, stride, buffer))
 }
 
 // A table whose entries lie one after the other. The four calls below differ from it in their kind alone: docs/CALLS.md has each by its name, and so

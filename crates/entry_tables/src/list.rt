@@ -5,6 +5,7 @@ ghost use Rattle.vtable.specs.Entries.{entry_of};
 ghost use Rattle.entry_tables.specs.Tables.{entry_numbers, stop_number, stop_at, shape_layout, words_in, PutRun, table_in, Lists};
 
 use crate::window::{Window, window_at};
+use runtime::SwiftRuntime;
 use vtable::{EntryIter, Shape, TableEntry};
 
 // Why there are no more entries; `as u64` gives the number that the calls hand on.
@@ -84,15 +85,14 @@ fn put_run(
 
 // The only entry that is left.
 fn list_one(
-    image: &[u8],
-    segments: &[u64],
+    rt: &SwiftRuntime,
     cursor: EntryIter,
     shape: Shape,
     stride: u32,
     buffer: &mut [u64],
 ) -> Listed
     requires { cursor.next + 1 ≡ cursor.count }
-    ensures { Lists (table_in image.now segments.now (shape_layout shape stride) cursor (length buffer.old)) buffer.old result buffer.new }
+    ensures { Lists (table_in rt.now.image.now rt.now.segments.now (shape_layout shape stride) cursor (length buffer.old)) buffer.old result buffer.new }
 {
     let base_va = cursor.base_va;
     let k = cursor.next;
@@ -102,10 +102,10 @@ fn list_one(
             stop: Stop::Full,
         };
     }
-    match window_at(image, segments, base_va, stride, k, shape, true) {
+    match window_at(rt, base_va, stride, k, shape, true) {
         Some(Window { place, last: _ }) => {
             let address = vtable::entry_address(base_va, stride, k);
-            put_from(image, place, address, shape, buffer, 0);
+            put_from(rt.image, place, address, shape, buffer, 0);
             Listed {
                 entries: 1,
                 stop: Stop::Ended,
@@ -127,14 +127,13 @@ pub fn stopped(k: u32, count: u32) -> Stop
 
 // Run after run.
 fn list_runs(
-    image: &[u8],
-    segments: &[u64],
+    rt: &SwiftRuntime,
     cursor: EntryIter,
     shape: Shape,
     stride: u32,
     buffer: &mut [u64],
 ) -> Listed
-    ensures { Lists (table_in image.now segments.now (shape_layout shape stride) cursor (length buffer.old)) buffer.old result buffer.new }
+    ensures { Lists (table_in rt.now.image.now rt.now.segments.now (shape_layout shape stride) cursor (length buffer.old)) buffer.old result buffer.new }
 {
     let width = 2 + shape.more as usize;
     let base_va = cursor.base_va;
@@ -149,13 +148,13 @@ fn list_runs(
                 stop: Stop::Ended,
             };
         }
-        let found = window_at(image, segments, base_va, stride, k, shape, false);
+        let found = window_at(rt, base_va, stride, k, shape, false);
         match found {
             Some(Window { place, last }) => {
                 let address = vtable::entry_address(base_va, stride, k);
                 let most = ((count - k) as usize).min(room - n);
                 let run = put_run(
-                    image,
+                    rt.image,
                     place,
                     last,
                     address,
@@ -185,17 +184,16 @@ fn list_runs(
 // The entries from a walk's position on: of a shape, and `stride` bytes from one to the next. A single entry is listed by itself, since setting
 // up a run takes as long as listing an entry.
 pub fn list_entries(
-    image: &[u8],
-    segments: &[u64],
+    rt: &SwiftRuntime,
     cursor: EntryIter,
     shape: Shape,
     stride: u32,
     buffer: &mut [u64],
 ) -> Listed
-    ensures { Lists (table_in image.now segments.now (shape_layout shape stride) cursor (length buffer.old)) buffer.old result buffer.new }
+    ensures { Lists (table_in rt.now.image.now rt.now.segments.now (shape_layout shape stride) cursor (length buffer.old)) buffer.old result buffer.new }
 {
     if cursor.next < cursor.count && cursor.count - cursor.next == 1 {
-        return list_one(image, segments, cursor, shape, stride, buffer);
+        return list_one(rt, cursor, shape, stride, buffer);
     }
-    list_runs(image, segments, cursor, shape, stride, buffer)
+    list_runs(rt, cursor, shape, stride, buffer)
 }

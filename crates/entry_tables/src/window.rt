@@ -2,6 +2,7 @@
 ghost use Rattle.std.specs.Prelude.{◌≡◌, ◌+◌, ◌-◌, ◌*◌, ◌^◌, ◌<◌, ◌≤◌, min};
 ghost use Rattle.entry_tables.specs.Tables.{Opens};
 
+use runtime::SwiftRuntime;
 use vtable::Shape;
 
 // The entry at an address is at `place`, and one that starts at most `last` bytes after that address is as far after `place`.
@@ -18,21 +19,22 @@ fn least(mapped: u64, left: u64, below: u64) -> u64
     mapped.min(left.min(below))
 }
 
-// The window of a single entry.
-fn window_of_one(image: &[u8], segments: &[u64], address: u64, size: usize) -> Option<Window>
+// The window of a single entry, by the segments alone, as that of all.
+fn window_of_one(rt: &SwiftRuntime, address: u64, size: usize) -> Option<Window>
     requires { address + (size - 4) < 2 ^ 64 }
-    ensures { Opens image.now segments.now size address result }
+    ensures { Opens rt.now.image.now rt.now.segments.now size address result }
 {
-    let place = runtime::find_bytes(image, segments, segment::NO_MAPPING, address, size)?;
+    let place = SwiftRuntime::new(rt.image, rt.segments).find_bytes(address, size)?;
     Some(Window { place, last: 0 })
 }
 
 // The window of everything that is in the file from the entry's address on.
-fn window_of_all(image: &[u8], segments: &[u64], address: u64, size: usize) -> Option<Window>
+fn window_of_all(rt: &SwiftRuntime, address: u64, size: usize) -> Option<Window>
     requires { (4 ≤ size) × (address + (size - 4) < 2 ^ 64) }
-    ensures { Opens image.now segments.now size address result }
+    ensures { Opens rt.now.image.now rt.now.segments.now size address result }
 {
-    let mapping = segment::locate(segments, address)?;
+    let image = rt.image;
+    let mapping = segment::locate(rt.segments, address)?;
     let before = address - mapping.vmaddr;
     let from = mapping.fileoff as usize;
     if image.len() < from || image.len() - from < before as usize {
@@ -50,15 +52,14 @@ fn window_of_all(image: &[u8], segments: &[u64], address: u64, size: usize) -> O
 
 // The window of entry `k`. The window of a single entry takes less time than that of all.
 pub fn window_at(
-    image: &[u8],
-    segments: &[u64],
+    rt: &SwiftRuntime,
     base_va: u64,
     stride: u32,
     k: u32,
     shape: Shape,
     alone: bool,
 ) -> Option<Window>
-    ensures { Opens image.now segments.now (4 + 4 * shape.more) (base_va + stride * k) result }
+    ensures { Opens rt.now.image.now rt.now.segments.now (4 + 4 * shape.more) (base_va + stride * k) result }
 {
     let size = shape.size() as usize;
     let address = base_va.checked_add(stride as u64 * k as u64)?;
@@ -66,8 +67,8 @@ pub fn window_at(
         return None;
     }
     if alone {
-        window_of_one(image, segments, address, size)
+        window_of_one(rt, address, size)
     } else {
-        window_of_all(image, segments, address, size)
+        window_of_all(rt, address, size)
     }
 }

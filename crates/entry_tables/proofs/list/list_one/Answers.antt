@@ -7,7 +7,7 @@ use Rattle.entry_tables.proofs.list.list_one.Goals as goal
 
 pub returns-then-buffer-shape : goal.returns-then-buffer-shape
 returns-then-buffer-shape c =
-    one_full c.args.image.now c.args.segments.now c.args.shape c.args.stride c.args.cursor.base_va c.args.cursor.count c.args.buffer.now c.args.cursor.next c.requires (omega (arith, c.if-buffer-shape.true))
+    one_full c.args.rt.now.image.now c.args.rt.now.segments.now c.args.shape c.args.stride c.args.cursor.base_va c.args.cursor.count c.args.buffer.now c.args.cursor.next c.requires (omega (arith, c.if-buffer-shape.true))
 
 pub put_from-requires : goal.put_from-requires
 put_from-requires c =
@@ -16,8 +16,8 @@ put_from-requires c =
 
 pub returns-in-Some : goal.returns-in-Some
 returns-in-Some c =
-    one_some c.args.image.now c.args.segments.now c.args.shape c.args.stride c.args.cursor.base_va c.args.cursor.count c.args.buffer.now c.args.cursor.next c.requires (search rules) _ _ _ _ (case (Opens _ _ _ _) c.window_at.ensures c.in-Some.is) c.entry_address-address.ensures c.put_from.ensures
+    one_some c.args.rt.now.image.now c.args.rt.now.segments.now c.args.shape c.args.stride c.args.cursor.base_va c.args.cursor.count c.args.buffer.now c.args.cursor.next c.requires (search rules) _ _ _ _ (case (Opens _ _ _ _) c.window_at.ensures c.in-Some.is) c.entry_address-address.ensures c.put_from.ensures
 
 pub returns-in-None : goal.returns-in-None
 returns-in-None c =
-    one_none c.args.image.now c.args.segments.now c.args.shape c.args.stride c.args.cursor.base_va c.args.cursor.count c.args.buffer.now c.args.cursor.next c.requires (search rules) (case (Opens _ _ _ _) c.window_at.ensures c.in-None.is)
+    one_none c.args.rt.now.image.now c.args.rt.now.segments.now c.args.shape c.args.stride c.args.cursor.base_va c.args.cursor.count c.args.buffer.now c.args.cursor.next c.requires (search rules) (case (Opens _ _ _ _) c.window_at.ensures c.in-None.is)

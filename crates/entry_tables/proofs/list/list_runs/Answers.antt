@@ -9,11 +9,11 @@ loop-n-init c = start_going _ _ _ _ _ _ _ _ _
 
 pub returns-then-count-k : goal.returns-then-count-k
 returns-then-count-k c =
-    stops_end entry_numbers c.args.image.now c.args.segments.now (shape_layout c.args.shape c.args.stride) c.args.cursor.base_va c.args.cursor.count (width (shape_layout c.args.shape c.args.stride)) c.args.buffer.now c.args.cursor.next c.loop-n.k c.loop-n.n _ c.loop-n.invariant (omega (arith, c.if-count-k.true))
+    stops_end entry_numbers c.args.rt.now.image.now c.args.rt.now.segments.now (shape_layout c.args.shape c.args.stride) c.args.cursor.base_va c.args.cursor.count (width (shape_layout c.args.shape c.args.stride)) c.args.buffer.now c.args.cursor.next c.loop-n.k c.loop-n.n _ c.loop-n.invariant (omega (arith, c.if-count-k.true))
 
 pub overflow_mul-width : goal.overflow_mul-width
 overflow_mul-width c =
-    record { fits = omega (arith, c.well_formed.1.1.1.1.1.0.0, room_for c.args.buffer.now (2 + c.args.shape.more) c.loop-n.n c.min-most.result (omega (arith, c.min-most.ensures, c.loop-n-test.true))) }
+    record { fits = omega (arith, c.well_formed.1.1.1.1.0.0, room_for c.args.buffer.now (2 + c.args.shape.more) c.loop-n.n c.min-most.result (omega (arith, c.min-most.ensures, c.loop-n-test.true))) }
 
 pub put_run-run-requires : goal.put_run-run-requires
 put_run-run-requires c =
@@ -22,7 +22,7 @@ put_run-run-requires c =
 
 pub overflow_add-n : goal.overflow_add-n
 overflow_add-n c =
-    record { fits = omega (arith, c.well_formed.1.1.1.1.1.0.0, room_few c.args.buffer.now (2 + c.args.shape.more) (c.loop-n.n + c.put_run-run.result) (omega (arith, c.put_run-run.ensures.few, c.min-most.ensures, c.loop-n-test.true))) }
+    record { fits = omega (arith, c.well_formed.1.1.1.1.0.0, room_few c.args.buffer.now (2 + c.args.shape.more) (c.loop-n.n + c.put_run-run.result) (omega (arith, c.put_run-run.ensures.few, c.min-most.ensures, c.loop-n-test.true))) }
 
 pub loop-n-smaller : goal.loop-n-smaller
 loop-n-smaller c =
@@ -31,12 +31,12 @@ loop-n-smaller c =
 
 pub loop-n-preserved : goal.loop-n-preserved
 loop-n-preserved c =
-    table_run c.args.image.now c.args.segments.now c.args.shape c.args.stride c.args.cursor.base_va c.args.cursor.count c.args.buffer.now c.args.cursor.next c.loop-n.k c.loop-n.n _ c.loop-n.invariant _ _ _ _ _ _ (case (Opens _ _ _ _) c.window_at-found.ensures c.in-Some.is) c.entry_address-address.ensures (omega (arith, c.min-most.ensures)) (omega (arith, c.min-most.ensures)) (omega (arith, c.if-count-k.false)) c.put_run-run.ensures
+    table_run c.args.rt.now.image.now c.args.rt.now.segments.now c.args.shape c.args.stride c.args.cursor.base_va c.args.cursor.count c.args.buffer.now c.args.cursor.next c.loop-n.k c.loop-n.n _ c.loop-n.invariant _ _ _ _ _ _ (case (Opens _ _ _ _) c.window_at-found.ensures c.in-Some.is) c.entry_address-address.ensures (omega (arith, c.min-most.ensures)) (omega (arith, c.min-most.ensures)) (omega (arith, c.if-count-k.false)) c.put_run-run.ensures
 
 pub returns-in-None : goal.returns-in-None
 returns-in-None c =
-    table_none c.args.image.now c.args.segments.now c.args.shape c.args.stride c.args.cursor.base_va c.args.cursor.count c.args.buffer.now c.args.cursor.next c.loop-n.k c.loop-n.n _ c.loop-n.invariant (omega (arith, c.if-count-k.false)) c.loop-n-test.true (case (Opens _ _ _ _) c.window_at-found.ensures c.in-None.is)
+    table_none c.args.rt.now.image.now c.args.rt.now.segments.now c.args.shape c.args.stride c.args.cursor.base_va c.args.cursor.count c.args.buffer.now c.args.cursor.next c.loop-n.k c.loop-n.n _ c.loop-n.invariant (omega (arith, c.if-count-k.false)) c.loop-n-test.true (case (Opens _ _ _ _) c.window_at-found.ensures c.in-None.is)
 
 pub returns : goal.returns
 returns c =
-    table_full c.args.image.now c.args.segments.now c.args.shape c.args.stride c.args.cursor.base_va c.args.cursor.count c.args.buffer.now c.args.cursor.next c.loop-n.k c.loop-n.n _ c.loop-n.invariant _ c.loop-n-test.false c.stopped.ensures
+    table_full c.args.rt.now.image.now c.args.rt.now.segments.now c.args.shape c.args.stride c.args.cursor.base_va c.args.cursor.count c.args.buffer.now c.args.cursor.next c.loop-n.k c.loop-n.n _ c.loop-n.invariant _ c.loop-n-test.false c.stopped.ensures

@@ -6,7 +6,7 @@ use Rattle.entry_tables.proofs.list.list_runs.Given as goal
 
 abbrev pub invariant-loop-n : goal.invariant-loop-n
 invariant-loop-n l =
-    Listing l.image l.segments (shape_layout l.shape l.stride) l.base_va l.count l.initial.buffer l.initial.k l.k l.n l.buffer
+    Listing l.rt.image.now l.rt.segments.now (shape_layout l.shape l.stride) l.base_va l.count l.initial.buffer l.initial.k l.k l.n l.buffer
 
 abbrev pub decreases-loop-n : goal.decreases-loop-n
 decreases-loop-n l = l.room - l.n

@@ -5,7 +5,7 @@ use Rattle.entry_tables.proofs.window.window_of_all.Goals as goal
 use Rattle.entry_tables.proofs.window.window_of_all.Goals.{then-image-from-via-then-image-from, then-image-from-via-else-image-from+then-image-from-2}
 
 pub returns-in_err-mapping : goal.returns-in_err-mapping
-returns-in_err-mapping c = opens_same c.args.image.now c.args.segments.now c.args.size c.args.address _ _ c.from_residual.ensures (opens_nowhere _ _ _ _ c.requires.1 c.in_err-mapping.ensures)
+returns-in_err-mapping c = opens_same c.args.rt.now.image.now c.args.rt.now.segments.now c.args.size c.args.address _ _ c.from_residual.ensures (opens_nowhere _ _ _ _ c.requires.1 c.in_err-mapping.ensures)
 
 pub overflow_sub-before : goal.overflow_sub-before
 overflow_sub-before c = let found = c.in_ok-mapping.ensures in omega (arith, found.1.from)
