@@ -5,6 +5,7 @@ use crate::records::list_records;
 use entry_tables::Listed;
 use field::FieldRecordIter;
 use refusal::Refusal;
+use runtime::{SwiftRuntime, SwiftSection};
 
 // The records from a walk's position up to the first that cannot be read, as many as the list holds. Ten numbers for each: its address, its
 // flags, the addresses of the type's name and of the field's; 1, place and length of the type's name; and for the field's name 1 for the
@@ -20,5 +21,10 @@ pub fn named_records(
     ensures { GivesTable (guarded_named image.now segments.now strings.now strings_va walk buffer.old) buffer.old result buffer.new }
 {
     refusal::find_fault(segments)?;
-    Ok(list_records(image, segments, strings, strings_va, walk, buffer))
+    let rt = SwiftRuntime::new(image, segments);
+    let strings = SwiftSection {
+        body: strings,
+        vmaddr: strings_va,
+    };
+    Ok(list_records(&rt, strings, walk, buffer))
 }

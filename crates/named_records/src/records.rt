@@ -1,6 +1,6 @@
 // The records one after the other, each with its names.
 ghost use Rattle.std.specs.Prelude.{◌≡◌, length};
-ghost use Rattle.segment.specs.Mapping.{with_mapping};
+ghost use Rattle.runtime.specs.Runtime.{tried};
 ghost use Rattle.runtime.specs.FieldName.{field_name_of};
 ghost use Rattle.runtime.specs.PlaceNumbers.{text_numbers, field_numbers};
 ghost use Rattle.field.specs.Records.{of_record};
@@ -9,8 +9,7 @@ ghost use Rattle.named_records.specs.NamedRecords.{named_numbers, named_in};
 
 use entry_tables::{Listed, Stop};
 use field::{FieldRecord, FieldRecordIter, FieldRecordStep};
-use runtime::FieldName;
-use segment::Mapping;
+use runtime::{FieldName, SwiftRuntime, SwiftSection};
 use util::Place;
 
 // How many numbers a record has.
@@ -42,21 +41,11 @@ fn field_name_numbers(name: Option<FieldName>) -> [u64; 3]
 }
 
 // All numbers of a record.
-fn record_numbers(
-    image: &[u8],
-    segments: &[u64],
-    mapping: Mapping,
-    strings: &[u8],
-    strings_va: u64,
-    record: FieldRecord,
-) -> [u64; RECORD]
-    ensures { result ≡ named_numbers image.now (with_mapping mapping segments.now) strings.now strings_va (of_record «record») }
+fn record_numbers(rt: &SwiftRuntime, strings: SwiftSection, record: FieldRecord) -> [u64; RECORD]
+    ensures { result ≡ named_numbers rt.now.image.now (tried rt.now) strings.entry.body.now strings.entry.vmaddr (of_record «record») }
 {
-    let type_va = record.mangled_type_name_va;
-    let name_va = record.field_name_va;
-    let type_name = text_numbers(runtime::read_cstr(image, segments, mapping, type_va));
-    let name = runtime::lookup_field_name(image, segments, mapping, strings, strings_va, name_va);
-    let name = field_name_numbers(name);
+    let type_name = text_numbers(field::record_type_name(rt, record));
+    let name = field_name_numbers(field::field_name(rt, strings, record));
     [
         record.address,
         record.flags as u64,
@@ -74,22 +63,23 @@ fn record_numbers(
 // One walk over the segments finds what is in the file around the records, and with it the records' bytes, and those of their names if they
 // lie there too.
 pub fn list_records(
-    image: &[u8],
-    segments: &[u64],
-    strings: &[u8],
-    strings_va: u64,
+    rt: &SwiftRuntime,
+    strings: SwiftSection,
     walk: FieldRecordIter,
     buffer: &mut [u64],
 ) -> Listed
-    ensures { Lists (named_in image.now segments.now strings.now strings_va walk (length buffer.old)) buffer.old result buffer.new }
+    ensures { Lists (named_in rt.now.image.now rt.now.segments.now strings.entry.body.now strings.entry.vmaddr walk (length buffer.old)) buffer.old result buffer.new }
 {
-    let mapping = walk.locate(segments);
+    let near = SwiftRuntime {
+        mapping: walk.locate(rt.segments),
+        ..*rt
+    };
     let room = buffer.len() / RECORD;
     let mut here = walk;
     for n in 0..room {
-        match here.next(image, segments, mapping) {
+        match here.next(&near) {
             FieldRecordStep::Record { record, next } => {
-                let numbers = record_numbers(image, segments, mapping, strings, strings_va, record);
+                let numbers = record_numbers(&near, strings, record);
                 let at = RECORD * n;
                 buffer[at..at + RECORD].copy_from_slice(&numbers);
                 here = next;

@@ -9,4 +9,6 @@ returns-in_err-find_fault c =
     rw (p.1, p.2) (table_refused _ _ _ c.find_fault.ensures c.in_err-find_fault.was)
 
 pub returns : goal.returns
-returns c = table_accepted _ _ _ _ _ c.list_records.ensures c.find_fault.ensures c.in_ok-find_fault.was
+returns c =
+    let listed = rw c.new-rt.ensures at c.list_records.ensures in
+    table_accepted _ _ _ _ _ listed c.find_fault.ensures c.in_ok-find_fault.was

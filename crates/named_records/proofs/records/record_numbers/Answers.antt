@@ -6,5 +6,5 @@ use Rattle.named_records.proofs.records.record_numbers.Goals as goal
 
 pub returns : goal.returns
 returns c =
-    numbers_are _ _ _ _ c.args.«record» _ _ (c.text_numbers-type_name.ensures ∙ ap text_numbers c.read_cstr.ensures)
-    (c.field_name_numbers-name.ensures ∙ ap field_numbers c.lookup_field_name-name.ensures)
+    numbers_are _ _ _ _ c.args.«record» _ _ (c.text_numbers-type_name.ensures ∙ ap text_numbers c.record_type_name.ensures)
+    (c.field_name_numbers-name.ensures ∙ ap field_numbers c.field_name.ensures)
