@@ -5,31 +5,22 @@
 // hexadecimal; `-` stands for no bytes. tests/vectors.py writes the lines and the answers.
 #![tactic(auto)]
 
-use bundle::{Layout, Opened, Section};
-use runtime::{Bytes, FieldName};
-use segment::FileOffset;
+use bundle::{Layout, Section};
+use runtime::{FieldName, SwiftRuntime, SwiftSection};
 use std::io::Stdout;
-use test_lines::{Count, Number};
-use util::{ReadI32, ReadU16, ReadU32, ReadU64, Text};
+use util::Place;
 
 // The numbers from the sixth field to the line's end.
-fn parse_numbers(line: &[u8], out: &mut [u64]) -> Count {
-    let mut n = 0;
-    while n < 64 {
+fn parse_numbers(line: &[u8], out: &mut [u64]) -> Option<usize> {
+    for n in 0..64 {
         let text = test_lines::field(line, 5 + n);
-        if text.len() == 0 {
-            return Count::Of(n);
+        if text.is_empty() {
+            return Some(n);
         }
-        let Number::Value(value) = test_lines::parse_number(text) else {
-            return Count::Bad;
-        };
-        if out.len() <= n {
-            return Count::Bad;
-        }
-        out[n] = value;
-        n += 1;
+        let value = test_lines::parse_number(text)?;
+        *out.get_mut(n)? = value;
     }
-    Count::Bad
+    None
 }
 
 // A call each, and its whole answer on a line.
@@ -52,107 +43,72 @@ fn number_field(out: Stdout, n: u64) {
     let _ = print!(out; "{n:x} ");
 }
 
-fn byte_digits(out: Stdout, b: u8) {
-    let _ = print!(out; "{b:02x}");
-}
-
 // The bytes of a part that two calls return; `differs` if the two are not the same.
 fn bytes_line(out: Stdout, part: &[u8], again: &[u8]) {
-    if !test_lines::same(part, again) {
+    if part != again {
         write(out, b"differs\n");
         return;
     }
-    if part.len() == 0 {
+    if part.is_empty() {
         write(out, b"-");
     }
     for b in part {
-        byte_digits(out, *b);
+        let _ = print!(out; "{b:02x}");
     }
     write(out, b"\n");
 }
 
 // If there is no part, both calls return an empty one.
 fn no_part(out: Stdout, part: &[u8], again: &[u8]) {
-    if part.len() == 0 && again.len() == 0 {
+    if part.is_empty() && again.is_empty() {
         nothing(out);
     } else {
         write(out, b"differs\n");
     }
 }
 
-fn read_u16_le_at(out: Stdout, s: &[u8], off: usize) {
-    match util::read_u16_le_at(s, off) {
-        ReadU16::Value(n) => number_line(out, n as u64),
-        ReadU16::Nothing => nothing(out),
-    }
-}
-
-fn read_u32_le_at(out: Stdout, s: &[u8], off: usize) {
-    match util::read_u32_le_at(s, off) {
-        ReadU32::Value(n) => number_line(out, n as u64),
-        ReadU32::Nothing => nothing(out),
-    }
-}
-
-fn read_u64_le_at(out: Stdout, s: &[u8], off: usize) {
-    match util::read_u64_le_at(s, off) {
-        ReadU64::Value(n) => number_line(out, n),
-        ReadU64::Nothing => nothing(out),
+fn number_answer(out: Stdout, answer: Option<u64>) {
+    match answer {
+        Some(n) => number_line(out, n),
+        None => nothing(out),
     }
 }
 
 // A sign and the magnitude.
-fn signed_line(out: Stdout, n: i32) {
-    if n < 0 {
-        write(out, b"-");
-    }
-    number_line(out, n.unsigned_abs() as u64);
-}
-
-fn read_i32_le_at(out: Stdout, s: &[u8], off: usize) {
-    match util::read_i32_le_at(s, off) {
-        ReadI32::Value(n) => signed_line(out, n),
-        ReadI32::Nothing => nothing(out),
+fn signed_answer(out: Stdout, answer: Option<i32>) {
+    match answer {
+        Some(n) => {
+            if n < 0 {
+                write(out, b"-");
+            }
+            number_line(out, u64::from(n.unsigned_abs()));
+        }
+        None => nothing(out),
     }
 }
 
 // The offset is the i32 at the start of `s`.
 fn relative_pointer(out: Stdout, base: u64, s: &[u8]) {
     match util::read_i32_le_at(s, 0) {
-        ReadI32::Value(n) => {
+        Some(n) => {
             let _ = println!(out; "{:016x}", util::relative_pointer(base, n));
         }
-        ReadI32::Nothing => nothing(out),
+        None => nothing(out),
     }
 }
 
-fn offset_line(out: Stdout, offset: FileOffset) {
-    match offset {
-        FileOffset::At(n) => number_line(out, n),
-        FileOffset::Nothing => nothing(out),
-    }
+fn place_fields(out: Stdout, place: Place) {
+    number_field(out, place.start as u64);
+    number_field(out, place.size as u64);
 }
 
-fn vm_to_file_offset_in(out: Stdout, segments: &[u64], vmaddr: u64) {
-    offset_line(out, segment::vm_to_file_offset_in(segments, vmaddr));
-}
-
-fn vm_to_file_offset(out: Stdout, segments: &[u64], vmaddr: u64) {
-    offset_line(out, runtime::vm_to_file_offset(segments, vmaddr));
-}
-
-fn place_fields(out: Stdout, place: usize, length: usize) {
-    number_field(out, place as u64);
-    number_field(out, length as u64);
-}
-
-fn text_line(out: Stdout, text: Text, part: &[u8], again: &[u8]) {
+fn text_line(out: Stdout, text: Option<Place>, part: &[u8], again: &[u8]) {
     match text {
-        Text::At { place, length } => {
-            place_fields(out, place, length);
+        Some(place) => {
+            place_fields(out, place);
             bytes_line(out, part, again);
         }
-        Text::Nothing => no_part(out, part, again),
+        None => no_part(out, part, again),
     }
 }
 
@@ -161,52 +117,47 @@ fn read_cstr_at(out: Stdout, s: &[u8], off: usize) {
     text_line(out, text, util::text_part(s, text), util::cstr_at(s, off));
 }
 
-fn read_cstr(out: Stdout, image: &[u8], segments: &[u64], vmaddr: u64) {
-    let text = runtime::read_cstr(image, segments, segment::NO_MAPPING, vmaddr);
-    let part = util::text_part(image, text);
+fn read_cstr(out: Stdout, runtime: SwiftRuntime, vmaddr: u64) {
+    let text = runtime.read_cstr(vmaddr);
+    let part = util::text_part(runtime.image, text);
     text_line(out, text, part, part);
 }
 
-fn read_bytes(out: Stdout, image: &[u8], segments: &[u64], vmaddr: u64, length: usize) {
-    let part = runtime::read_bytes(image, segments, segment::NO_MAPPING, vmaddr, length);
-    match runtime::find_bytes(image, segments, segment::NO_MAPPING, vmaddr, length) {
-        Bytes::At(place) => {
+fn read_bytes(out: Stdout, runtime: SwiftRuntime, vmaddr: u64, length: usize) {
+    let part = runtime.read_bytes(vmaddr, length);
+    match runtime.find_bytes(vmaddr, length) {
+        Some(place) => {
             number_field(out, place as u64);
-            bytes_line(out, part, util::part(image, place, length));
+            bytes_line(out, part, util::part(runtime.image, place, length));
         }
-        Bytes::Nothing => no_part(out, part, part),
+        None => no_part(out, part, part),
     }
 }
 
 fn lookup_field_name<'a>(
     out: Stdout,
-    image: &'a [u8],
-    segments: &[u64],
-    strings: &'a [u8],
-    section: u64,
+    runtime: SwiftRuntime<'a, '_>,
+    strings: SwiftSection<'a>,
     vmaddr: u64,
 ) {
-    let name = runtime::lookup_field_name(
-        image,
-        segments,
-        segment::NO_MAPPING,
-        strings,
-        section,
-        vmaddr,
-    );
-    let part = runtime::field_name_part(image, strings, name);
+    let name = runtime.lookup_field_name(strings, vmaddr);
+    let part = runtime::field_name_part(runtime.image, strings.body, name);
     match name {
-        FieldName::Image { place, length } => {
+        Some(FieldName::Image(place)) => {
             write(out, b"image ");
-            place_fields(out, place, length);
-            bytes_line(out, part, util::part(image, place, length));
+            place_fields(out, place);
+            bytes_line(
+                out,
+                part,
+                util::part(runtime.image, place.start, place.size),
+            );
         }
-        FieldName::Strings { place, length } => {
+        Some(FieldName::Strings(place)) => {
             write(out, b"strings ");
-            place_fields(out, place, length);
-            bytes_line(out, part, util::part(strings, place, length));
+            place_fields(out, place);
+            bytes_line(out, part, util::part(strings.body, place.start, place.size));
         }
-        FieldName::Nothing => no_part(out, part, part),
+        None => no_part(out, part, part),
     }
 }
 
@@ -216,98 +167,65 @@ fn section_line(out: Stdout, bytes: &[u8], section: Section, part: &[u8]) {
     bytes_line(
         out,
         part,
-        util::part(bytes, section.part.start, section.part.length),
+        util::part(bytes, section.part.start, section.part.size),
     );
 }
 
 // From a function's name to its call. Each returns whether the name is known.
 
 fn number_call(out: Stdout, name: &[u8], a: u64, bytes: &[u8]) -> bool {
-    if test_lines::same(name, b"read_u16_le_at") {
-        read_u16_le_at(out, bytes, a as usize);
-        return true;
+    let off = a as usize;
+    match name {
+        b"read_u16_le_at" => number_answer(out, util::read_u16_le_at(bytes, off).map(u64::from)),
+        b"read_u32_le_at" => number_answer(out, util::read_u32_le_at(bytes, off).map(u64::from)),
+        b"read_u64_le_at" => number_answer(out, util::read_u64_le_at(bytes, off)),
+        b"read_i32_le_at" => signed_answer(out, util::read_i32_le_at(bytes, off)),
+        b"relative_pointer" => relative_pointer(out, a, bytes),
+        b"read_cstr_at" => read_cstr_at(out, bytes, off),
+        _ => return false,
     }
-    if test_lines::same(name, b"read_u32_le_at") {
-        read_u32_le_at(out, bytes, a as usize);
-        return true;
-    }
-    if test_lines::same(name, b"read_u64_le_at") {
-        read_u64_le_at(out, bytes, a as usize);
-        return true;
-    }
-    if test_lines::same(name, b"read_i32_le_at") {
-        read_i32_le_at(out, bytes, a as usize);
-        return true;
-    }
-    if test_lines::same(name, b"relative_pointer") {
-        relative_pointer(out, a, bytes);
-        return true;
-    }
-    if test_lines::same(name, b"read_cstr_at") {
-        read_cstr_at(out, bytes, a as usize);
-        return true;
-    }
-    false
+    true
 }
 
-fn address_call(out: Stdout, name: &[u8], a: u64, b: u64, image: &[u8], segments: &[u64]) -> bool {
-    if test_lines::same(name, b"vm_to_file_offset_in") {
-        vm_to_file_offset_in(out, segments, a);
-        return true;
+fn address_call(out: Stdout, name: &[u8], a: u64, b: u64, runtime: SwiftRuntime) -> bool {
+    let segments = runtime.segments;
+    match name {
+        b"vm_to_file_offset_in" => number_answer(out, segment::vm_to_file_offset_in(segments, a)),
+        b"vm_to_file_offset" => number_answer(out, runtime::vm_to_file_offset(segments, a)),
+        b"read_bytes" => read_bytes(out, runtime, a, b as usize),
+        b"read_cstr" => read_cstr(out, runtime, a),
+        _ => return false,
     }
-    if test_lines::same(name, b"vm_to_file_offset") {
-        vm_to_file_offset(out, segments, a);
-        return true;
-    }
-    if test_lines::same(name, b"read_bytes") {
-        read_bytes(out, image, segments, a, b as usize);
-        return true;
-    }
-    if test_lines::same(name, b"read_cstr") {
-        read_cstr(out, image, segments, a);
-        return true;
-    }
-    false
+    true
 }
 
 fn part_call(out: Stdout, name: &[u8], bytes: &[u8], layout: Layout) -> bool {
-    if test_lines::same(name, b"image_part") {
-        let part = bundle_parts::image_part(bytes, layout);
-        bytes_line(out, part, part);
-        return true;
+    match name {
+        b"image_part" => {
+            let part = bundle_parts::image_part(bytes, layout);
+            bytes_line(out, part, part);
+        }
+        b"types_part" => {
+            let part = bundle_parts::types_part(bytes, layout);
+            section_line(out, bytes, layout.types, part);
+        }
+        b"fields_part" => {
+            let part = bundle_parts::fields_part(bytes, layout);
+            section_line(out, bytes, layout.fields, part);
+        }
+        b"strings_part" => {
+            let part = bundle_parts::strings_part(bytes, layout);
+            section_line(out, bytes, layout.strings, part);
+        }
+        _ => return false,
     }
-    if test_lines::same(name, b"types_part") {
-        let section = layout.types;
-        section_line(out, bytes, section, bundle_parts::types_part(bytes, layout));
-        return true;
-    }
-    if test_lines::same(name, b"fields_part") {
-        let section = layout.fields;
-        section_line(
-            out,
-            bytes,
-            section,
-            bundle_parts::fields_part(bytes, layout),
-        );
-        return true;
-    }
-    if test_lines::same(name, b"strings_part") {
-        let section = layout.strings;
-        section_line(
-            out,
-            bytes,
-            section,
-            bundle_parts::strings_part(bytes, layout),
-        );
-        return true;
-    }
-    false
+    true
 }
 
 fn bundle_call(out: Stdout, name: &[u8], bytes: &[u8]) -> bool {
     match bundle::open_bundle(bytes) {
-        Opened::Bundle(layout) => part_call(out, name, bytes, layout),
-        Opened::Refused(_) => false,
+        Ok(layout) => part_call(out, name, bytes, layout),
+        Err(_) => false,
     }
 }
 
@@ -316,21 +234,20 @@ fn answer<'a>(
     name: &[u8],
     a: u64,
     b: u64,
-    image: &'a [u8],
+    runtime: SwiftRuntime<'a, '_>,
     strings: &'a [u8],
-    segments: &[u64],
 ) -> bool {
-    if test_lines::same(name, b"lookup_field_name") {
-        lookup_field_name(out, image, segments, strings, b, a);
+    if *name == *b"lookup_field_name".as_slice() {
+        let section = SwiftSection {
+            body: strings,
+            vmaddr: b,
+        };
+        lookup_field_name(out, runtime, section, a);
         return true;
     }
-    if number_call(out, name, a, image) {
-        return true;
-    }
-    if address_call(out, name, a, b, image, segments) {
-        return true;
-    }
-    bundle_call(out, name, image)
+    number_call(out, name, a, runtime.image)
+        || address_call(out, name, a, b, runtime)
+        || bundle_call(out, name, runtime.image)
 }
 
 fn bad_line(out: Stdout) {
@@ -338,10 +255,10 @@ fn bad_line(out: Stdout) {
 }
 
 // How many bytes or numbers a field has; if it cannot be read, 0, and a bad line.
-fn count(out: Stdout, read: Count) -> usize {
+fn count(out: Stdout, read: Option<usize>) -> usize {
     match read {
-        Count::Of(n) => n,
-        Count::Bad => {
+        Some(n) => n,
+        None => {
             bad_line(out);
             0
         }
@@ -366,9 +283,11 @@ fn run_line(out: Stdout, line: &[u8], a: u64, b: u64) {
         test_lines::field(line, 0),
         a,
         b,
-        util::part(&image, 0, bytes),
+        SwiftRuntime::new(
+            util::part(&image, 0, bytes),
+            test_lines::first(&segments, numbers),
+        ),
         util::part(&strings, 0, names),
-        test_lines::first(&segments, numbers),
     );
     if !known {
         bad_line(out);
@@ -385,10 +304,10 @@ fn answer_line(out: Stdout, line: &[u8]) {
 }
 
 fn answer_lines(out: Stdout, input: &[u8]) {
-    let mut at = 0;
-    while at < input.len() {
-        answer_line(out, test_lines::line_at(input, at));
-        at = test_lines::after_line(input, at);
+    for line in input.split(|b| *b == b'\n') {
+        if !line.is_empty() {
+            answer_line(out, line);
+        }
     }
 }
 
