@@ -1,3 +1,4 @@
 pub mod MappingLaws
 pub mod SegmentsLaws
 pub mod VmAddressLaws
+pub mod WalkLaws

@@ -8,6 +8,10 @@ use Rattle.segment.specs.declared.segment.Mapping.{Mapping}
 abbrev pub with_mapping : Mapping → List ℕ → List ℕ
 with_mapping m segments = cond (eqb m.size 0) segments (m.vmaddr ∷ (m.size ∷ (m.fileoff ∷ (m.size ∷ segments))))
 
+-- what the mapping itself says of an address
+abbrev pub as_segment : Mapping → Segment
+as_segment m = record { vmaddr = m.vmaddr; vmsize = m.size; fileoff = m.fileoff; filesize = m.size }
+
 -- a mapping is true of the segments: with it before them, every address has the offset that it has without it
 pub record TrueMapping (segments : List ℕ) (m : Mapping) : Type 0 where
   pub same : (v : ℕ) → file_offset (segments_of (with_mapping m segments)) v ≡ file_offset (segments_of segments) v

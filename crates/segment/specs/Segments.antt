@@ -1,12 +1,14 @@
 -- From an address to a file offset: docs/SPECIFICATION.md, "File offsets". A segment is the four
 -- numbers of a `segment_command_64` of mach-o/loader.h that say where it lies.
-use Rattle.std.specs.Prelude.{ℕ, ◌+◌, ◌-◌, ◌^◌, List, [], ◌∷◌, Bool, cond, ◌&&◌, ◌||◌, leb, ltb, Option, Some, None, unwrap_or}
+use Rattle.std.specs.Prelude.{ℕ, ◌+◌, ◌-◌, ◌^◌, List, [], ◌∷◌, Bool, cond, ◌&&◌, ◌||◌, leb, ltb, Option, Some, None, unwrap_or, get_or}
+use Rattle.segment.specs.declared.segment.Segment.{Segment as Declared}
 
-pub record Segment : Type 0 where
-  pub vmaddr : ℕ
-  pub vmsize : ℕ
-  pub fileoff : ℕ
-  pub filesize : ℕ
+abbrev pub Segment : Type 0
+Segment = Declared
+
+-- the segment that has these numbers
+abbrev pub segment_from : List ℕ → Segment
+segment_from c = record { vmaddr = get_or c 0 0; vmsize = get_or c 1 0; fileoff = get_or c 2 0; filesize = get_or c 3 0 }
 
 -- four numbers to a segment; fewer are not a segment
 unfoldable pub segments_of : List ℕ → List Segment

@@ -7,5 +7,6 @@ mod segment;
 
 pub use file_offset::file_offset_to_vm_in;
 pub use segment::{
-    Mapping, NO_MAPPING, locate, locate_near, vm_to_file_offset_in, vm_to_file_offset_near,
+    Mapping, NO_MAPPING, Segment, from_numbers, locate, locate_near, vm_to_file_offset_in,
+    vm_to_file_offset_near,
 };

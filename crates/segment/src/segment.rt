@@ -1,63 +1,63 @@
 // From an address to a file offset, by the segments: the caller's list of numbers, four to a segment.
-ghost use Rattle.std.specs.Prelude.{◌≡◌, true, ◌+◌, ◌≤◌, ◌<◌, ◌^◌, min, max};
-ghost use Rattle.segment.specs.Segments.{file_offset, segments_of, decides};
-ghost use Rattle.segment.specs.Mapping.{LocatedNear, Has, Covered, Clipped, Located, with_mapping};
+ghost use Rattle.std.specs.Prelude.{◌≡◌, true};
+ghost use Rattle.segment.specs.Segments.{segment_from, file_offset, segments_of, decides};
+ghost use Rattle.segment.specs.Mapping.{LocatedNear, Has, Covered, Clipped, Located, with_mapping, as_segment};
+
+// Where a segment lies, in memory and in the file: the four numbers of a `segment_command_64` of mach-o/loader.h that say so.
+#[derive(Clone, Copy)]
+pub struct Segment {
+    pub vmaddr: u64,
+    pub vmsize: u64,
+    pub fileoff: u64,
+    pub filesize: u64,
+}
+
+// The segment that has these numbers.
+pub fn from_numbers(numbers: &[u64; 4]) -> Segment
+    ensures { result ≡ segment_from numbers.now }
+{
+    let [vmaddr, vmsize, fileoff, filesize] = *numbers;
+    Segment {
+        vmaddr,
+        vmsize,
+        fileoff,
+        filesize,
+    }
+}
 
 // What one segment says of an address: its file offset, if it has one, or `None` where the next segment decides.
-pub fn look_up(
-    vmaddr: u64,
-    vmsize: u64,
-    fileoff: u64,
-    filesize: u64,
-    address: u64,
-) -> Option<Option<u64>>
-    ensures { result ≡ decides (record { vmaddr = vmaddr; vmsize = vmsize; fileoff = fileoff; filesize = filesize }) address }
+pub fn look_up(segment: Segment, address: u64) -> Option<Option<u64>>
+    ensures { result ≡ decides segment address }
 {
-    if vmsize > u64::MAX - vmaddr {
+    if segment.vmsize > u64::MAX - segment.vmaddr {
         return Some(None);
     }
-    if address < vmaddr {
+    if address < segment.vmaddr {
         return None;
     }
-    let delta = address - vmaddr;
-    if vmsize <= delta {
+    let delta = address - segment.vmaddr;
+    if segment.vmsize <= delta {
         return None;
     }
-    if filesize == 0 {
+    if segment.filesize == 0 {
         return None;
     }
-    if filesize <= delta {
+    if segment.filesize <= delta {
         return Some(None);
     }
-    if delta > u64::MAX - fileoff {
-        return Some(None);
-    }
-    Some(Some(fileoff + delta))
+    Some(segment.fileoff.checked_add(delta))
 }
 
 // The file offset of an address. A last piece of fewer than four numbers is not a segment.
 pub fn vm_to_file_offset_in(segments: &[u64], vmaddr: u64) -> Option<u64>
     ensures { result ≡ file_offset (segments_of segments.now) vmaddr }
 {
-    let mut i = 0;
-    while 4 <= segments.len() - i {
-        let found = look_up(
-            segments[i],
-            segments[i + 1],
-            segments[i + 2],
-            segments[i + 3],
-            vmaddr,
-        );
-        match found {
-            Some(offset) => {
-                return offset;
-            }
-            None => {
-                i += 4;
-            }
-        }
-    }
-    None
+    segments
+        .as_chunks()
+        .0
+        .iter()
+        .find_map(|numbers| look_up(from_numbers(numbers), vmaddr))
+        .flatten()
 }
 
 // Addresses that lie one after the other in the file: `size` of them from `vmaddr` on, the first at `fileoff`.
@@ -75,92 +75,55 @@ pub const NO_MAPPING: Mapping = Mapping {
     fileoff: 0,
 };
 
-pub fn lower(a: u64, b: u64) -> u64
-    ensures { result ≡ min a b }
-{
-    if a < b { a } else { b }
-}
-
-fn higher(a: u64, b: u64) -> u64
-    ensures { result ≡ max a b }
-{
-    if a < b { b } else { a }
-}
-
 // What a segment that covers an address has in the file around it, among the addresses from `low` up to but not including `high`: only the
 // address itself, if the segment's end would lie past the last offset.
-fn clip(
-    low: u64,
-    high: u64,
-    vmaddr: u64,
-    vmsize: u64,
-    fileoff: u64,
-    filesize: u64,
-    address: u64,
-) -> Option<Mapping>
-    requires { Covered low high (record { vmaddr = vmaddr; vmsize = vmsize; fileoff = fileoff; filesize = filesize }) address }
-    ensures { Clipped low high (record { vmaddr = vmaddr; vmsize = vmsize; fileoff = fileoff; filesize = filesize }) address result }
+fn clip(low: u64, high: u64, segment: Segment, address: u64) -> Option<Mapping>
+    requires { Covered low high segment address }
+    ensures { Clipped low high segment address result }
 {
-    let delta = address - vmaddr;
-    if delta >= filesize {
+    let delta = address - segment.vmaddr;
+    if delta >= segment.filesize {
         return None;
     }
-    if delta > u64::MAX - fileoff {
+    if delta > u64::MAX - segment.fileoff {
         return None;
     }
-    if filesize > u64::MAX - fileoff {
+    if segment.filesize > u64::MAX - segment.fileoff {
         return Some(Mapping {
             vmaddr: address,
             size: 1,
-            fileoff: fileoff + delta,
+            fileoff: segment.fileoff + delta,
         });
     }
-    let start = higher(low, vmaddr);
-    let end = lower(high, vmaddr + lower(vmsize, filesize));
+    let start = low.max(segment.vmaddr);
+    let end = high.min(segment.vmaddr + segment.vmsize.min(segment.filesize));
     Some(Mapping {
         vmaddr: start,
         size: end - start,
-        fileoff: fileoff + (start - vmaddr),
+        fileoff: segment.fileoff + (start - segment.vmaddr),
     })
 }
 
 // What is in the file around an address: those addresses of its segment about which no earlier segment decides, or `None` where not even
-// the address itself is in the file. The tests are those of
-// `look_up`; on each way past a segment one bound moves at most.
+// the address itself is in the file. The tests are those of `look_up`; on each way past a segment one bound moves at most.
 pub fn locate(segments: &[u64], address: u64) -> Option<Mapping>
     ensures { Located segments.now address result }
 {
     let mut low = 0;
     let mut high = u64::MAX;
-    let mut i = 0;
-    while 4 <= segments.len() - i {
-        let vmaddr = segments[i];
-        let vmsize = segments[i + 1];
-        if u64::MAX - vmaddr < vmsize {
+    for numbers in segments.as_chunks().0 {
+        let segment = from_numbers(numbers);
+        if u64::MAX - segment.vmaddr < segment.vmsize {
             return None;
         }
-        if address < vmaddr {
-            high = lower(high, vmaddr);
-        } else {
-            let end = vmaddr + vmsize;
-            if end <= address {
-                low = higher(low, end);
-            } else {
-                let filesize = segments[i + 3];
-                if filesize != 0 {
-                    return clip(
-                        low,
-                        high,
-                        vmaddr,
-                        vmsize,
-                        segments[i + 2],
-                        filesize,
-                        address,
-                    );
-                }
-            }
+        let end = segment.vmaddr + segment.vmsize;
+        if address < segment.vmaddr {
+            high = high.min(segment.vmaddr);
+        } else if end <= address {
+            low = low.max(end);
+        } else if segment.filesize != 0 {
+            return clip(low, high, segment, address);
         }
-        i += 4;
     }
     None
 }
@@ -169,10 +132,7 @@ pub fn locate(segments: &[u64], address: u64) -> Option<Mapping>
 fn has(mapping: Mapping, address: u64) -> bool
     ensures { result ≡ true → Has mapping address }
 {
-    if address < mapping.vmaddr {
-        return false;
-    }
-    address - mapping.vmaddr < mapping.size
+    mapping.vmaddr <= address && address - mapping.vmaddr < mapping.size
 }
 
 // What is in the file around an address: the caller's mapping, if it has the address, or what `locate` finds.
@@ -185,19 +145,24 @@ pub fn locate_near(segments: &[u64], mapping: Mapping, address: u64) -> Option<M
     locate(segments, address)
 }
 
+// The mapping as a segment, which has a file byte at each of its addresses.
+fn as_segment(mapping: Mapping) -> Segment
+    ensures { result ≡ as_segment mapping }
+{
+    Segment {
+        vmaddr: mapping.vmaddr,
+        vmsize: mapping.size,
+        fileoff: mapping.fileoff,
+        filesize: mapping.size,
+    }
+}
+
 // The file offset of an address, without a walk over the segments if the mapping has it: the mapping is tried before them, as one more
 // segment.
 pub fn vm_to_file_offset_near(segments: &[u64], mapping: Mapping, vmaddr: u64) -> Option<u64>
     ensures { result ≡ file_offset (segments_of (with_mapping mapping segments.now)) vmaddr }
 {
-    let found = look_up(
-        mapping.vmaddr,
-        mapping.size,
-        mapping.fileoff,
-        mapping.size,
-        vmaddr,
-    );
-    match found {
+    match look_up(as_segment(mapping), vmaddr) {
         Some(offset) => offset,
         None => vm_to_file_offset_in(segments, vmaddr),
     }

@@ -1,27 +1,23 @@
-use borrow.Author.Rules.{rules}
-use native.Mathlib.Omega.{arith}
-use mathlib.Core.Path.{refl}
-use Rattle.segment.proofs.SegmentsLaws.{segment_at}
-use Rattle.segment.proofs.VmAddressLaws.{by_hand, turn_answer, turn_next, turn_end}
+-- `segment::file_offset::file_offset_to_vm_in` meets its contract: the first of the turned segments that says something decides.
+use Rattle.std.specs.Prelude.{ℕ, ◌≡◌, List, [], ◌∷◌, map}
+use Rattle.std.specs.Slice.Iter.{iter_rest}
+use Rattle.std.proofs.Common.{rules, refl, ap, ◌∙◌}
+use Rattle.segment.specs.Segments.{Segment, segment_from, file_offset, decides}
+use Rattle.segment.specs.VmAddress.{turned, vm_address}
+use Rattle.segment.proofs.SegmentsLaws.{segments_chunks}
+use Rattle.segment.proofs.WalkLaws.{first_answer, first_offset}
 use Rattle.segment.proofs.file_offset.file_offset_to_vm_in.Goals as goal
 
-pub loop-i-init : goal.loop-i-init
-loop-i-init c = (omega arith, refl)
-
-pub returns-in-Some : goal.returns-in-Some
-returns-in-Some c =
-    turn_answer c.args.segments.now c.loop-i.i c.args.offset _ c.loop-i.invariant.1 _ _
-    (by_hand (segment_at c.args.segments.now c.loop-i.i) _ _ _ c.lower-mapped.ensures c.look_up-found.ensures)
-    c.in-Some.is (omega arith)
-
-pub loop-i-preserved : goal.loop-i-preserved
-loop-i-preserved c = (
-  search rules,
-  turn_next c.args.segments.now c.loop-i.i c.args.offset _ c.loop-i.invariant.1 _
-      (by_hand (segment_at c.args.segments.now c.loop-i.i) _ _ _ c.lower-mapped.ensures c.look_up-found.ensures)
-      c.in-None.is (omega arith),
-)
+each_turned : (cs : List (List ℕ)) → map (λ c. turned (segment_from c)) cs ≡ map turned (map segment_from cs)
+each_turned [] = refl
+each_turned (c ∷ cs) = ap (λ (ss : List Segment). turned (segment_from c) ∷ ss) (each_turned cs)
 
 pub returns : goal.returns
+unfolding vm_address
 returns c =
-    turn_end c.args.segments.now c.loop-i.i _ _ c.loop-i.invariant.1 (omega arith)
+    let run = c.find_map.ensures.runs in
+    let first = first_answer (λ y. y.now) (λ cs. decides (turned (segment_from cs)) c.args.offset) _ [] _ _ (λ x r q k. search rules) run.0 (c.iter.ensures.runs run.0 run.0.seen) _ run.2 in
+    c.flatten.ensures
+    ∙ first_offset (λ cs. turned (segment_from cs)) [] c.args.offset _ _ first
+    ∙ ap (λ (cs : List (List ℕ)). file_offset (map (λ c. turned (segment_from c)) cs) c.args.offset) (ap iter_rest run.1 ∙ c.iter.ensures.rest ∙ c.as_chunks.ensures.front)
+    ∙ ap (λ (ss : List Segment). file_offset ss c.args.offset) (each_turned _ ∙ ap (map turned) (segments_chunks c.args.segments.now))

@@ -1,48 +1,48 @@
-use Rattle.std.specs.Prelude.{None}
-use native.Mathlib.Omega.{arith}
-use mathlib.Core.Path.{◌∙◌}
-use Rattle.segment.proofs.SegmentsLaws.{wraps, told, lookup_end}
-use Rattle.segment.proofs.MappingLaws.{passed_none, passed_above, passed_below, passed_empty, located}
+use Rattle.std.specs.Prelude.{ℕ, ◌≡◌, max, List, map, None}
+use Rattle.std.specs.Ordering.{nat_cmp, ord_max}
+use Rattle.std.proofs.lemmas.Bool.Decides.{nat_tests}
+use Rattle.std.proofs.Common.{arith, sym, ap, subst, ◌∙◌}
+use Rattle.segment.specs.Segments.{Segment, segment_from, segments_of}
+use Rattle.segment.proofs.SegmentsLaws.{wraps, told, segments_chunks}
+use Rattle.segment.proofs.MappingLaws.{Passed, passed_none, at_piece, no_piece, passed_above, passed_below, passed_empty, located}
 use Rattle.segment.proofs.segment.locate.Goals as goal
-use Rattle.segment.proofs.segment.locate.Goals.{then-address-vmaddr, else-address-vmaddr+then-end-address, else-address-vmaddr+else-end-address+else-filesize-ne0}
+use Rattle.segment.proofs.segment.locate.Goals.{then-address-segment, else-address-segment+then-end-address, else-address-segment+else-end-address+else-segment-ne0}
 
-pub loop-i-init : goal.loop-i-init
-loop-i-init c = (omega arith, passed_none _ _)
+max_is : (a b : ℕ) → ord_max nat_cmp a b ≡ max a b
+max_is a b = grind (arith, nat_tests)
 
-pub overflow_sub-vmaddr : goal.overflow_sub-vmaddr
-overflow_sub-vmaddr c = omega (arith, c.type_inv.segments c.loop-i.i)
+pub loop-numbers-init : goal.loop-numbers-init
+loop-numbers-init c =
+    subst (λ (ss : List Segment). Passed (segments_of c.args.segments.now) ss c.args.address 0 18446744073709551615)
+    (sym (ap (map segment_from) c.as_chunks.ensures.front ∙ segments_chunks c.args.segments.now))
+    (passed_none _ _)
 
-pub returns-then-vmaddr-vmsize : goal.returns-then-vmaddr-vmsize
-returns-then-vmaddr-vmsize c =
-    told c.args.segments.now c.loop-i.i _ _ c.loop-i.invariant.1.sought None (wraps _ _ (omega arith)) (omega arith)
+pub returns-then-segment : goal.returns-then-segment
+returns-then-segment c =
+    let p = at_piece _ _ _ c.loop-numbers.invariant c.loop-numbers-test.true c.from_numbers-segment.ensures in
+    told _ _ _ None (wraps _ _ (omega arith)) ∙ sym p.sought
 
 pub clip-requires : goal.clip-requires
 clip-requires c =
     record {
       ends = omega arith;
-      from = (c.loop-i.invariant.1.from, omega arith);
-      to = (c.loop-i.invariant.1.to, omega arith);
+      from = (c.loop-numbers.invariant.from, omega arith);
+      to = (c.loop-numbers.invariant.to, omega arith);
       bytes = omega arith;
     }
 
-pub returns-then-filesize-ne0 : goal.returns-then-filesize-ne0
-returns-then-filesize-ne0 c =
-    located _ _ _ _ _ c.loop-i.invariant.1 (omega arith) (omega arith) c.clip.result c.clip.ensures
+pub returns-then-segment-ne0 : goal.returns-then-segment-ne0
+returns-then-segment-ne0 c =
+    located _ _ _ _ _ _ (at_piece _ _ _ c.loop-numbers.invariant c.loop-numbers-test.true c.from_numbers-segment.ensures) (omega arith) c.clip.result c.clip.ensures
 
-pub loop-i-preserved : goal.loop-i-preserved
-loop-i-preserved c =
-    let k = c.type_inv.segments c.loop-i.i in (
-      omega arith,
-      elim c.if-address-vmaddr.branch [
-        | then-address-vmaddr w ↦
-            passed_above _ _ _ _ _ c.loop-i.invariant.1 (omega (arith, k)) (omega arith) _ _ (omega arith) w.low-is (w.high-is ∙ w.lower-high.ensures)
-        | else-address-vmaddr+then-end-address w ↦
-            passed_below _ _ _ _ _ c.loop-i.invariant.1 (omega (arith, k)) (omega arith) _ _ (omega arith) (w.low-is ∙ w.higher-low.ensures) w.high-is
-        | else-address-vmaddr+else-end-address+else-filesize-ne0 w ↦
-            passed_empty _ _ _ _ _ c.loop-i.invariant.1 (omega (arith, k)) (omega arith) _ _ (omega arith) w.low-is w.high-is
-      ],
-    )
+pub loop-numbers-preserved : goal.loop-numbers-preserved
+loop-numbers-preserved c =
+    let p = at_piece _ _ _ c.loop-numbers.invariant c.loop-numbers-test.true c.from_numbers-segment.ensures in
+    elim c.if-address-segment.branch [
+      | then-address-segment w ↦ passed_above _ _ _ _ _ _ p (omega arith) _ _ (omega arith) w.low-is (w.high-is ∙ w.min-high.ensures)
+      | else-address-segment+then-end-address w ↦ passed_below _ _ _ _ _ _ p (omega arith) _ _ (omega arith) (w.low-is ∙ w.max-low.ensures ∙ max_is _ _) w.high-is
+      | else-address-segment+else-end-address+else-segment-ne0 w ↦ passed_empty _ _ _ _ _ _ p (omega arith) _ _ (omega arith) w.low-is w.high-is
+    ]
 
 pub returns : goal.returns
-returns c =
-    lookup_end c.args.segments.now c.loop-i.i _ _ c.loop-i.invariant.1.sought (omega arith)
+returns c = no_piece _ c.as_chunks.result.0.now c.loop-numbers.numbers-index c.loop-numbers.invariant (omega arith)

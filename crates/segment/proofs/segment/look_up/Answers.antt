@@ -1,25 +1,22 @@
 -- `segment::segment::look_up` meets its contract: each `return` is a case of `decides`.
-use native.Mathlib.Omega.{arith}
-use Rattle.segment.proofs.SegmentsLaws.{wraps, below, above, no_bytes, held, past_file, offset_wraps, in_file_lem}
+use Rattle.std.proofs.Common.{arith}
+use Rattle.segment.proofs.SegmentsLaws.{wraps, below, above, no_bytes, held, past_file, added}
 use Rattle.segment.proofs.segment.look_up.Goals as goal
 
-pub returns-then-vmsize-vmaddr : goal.returns-then-vmsize-vmaddr
-returns-then-vmsize-vmaddr c = wraps _ _ (omega arith)
+pub returns-then-segment : goal.returns-then-segment
+returns-then-segment c = wraps _ _ (omega arith)
 
-pub returns-then-address-vmaddr : goal.returns-then-address-vmaddr
-returns-then-address-vmaddr c = below _ _ (omega arith) (omega arith)
+pub returns-then-address-segment : goal.returns-then-address-segment
+returns-then-address-segment c = below _ _ (omega arith) (omega arith)
 
-pub returns-then-vmsize-delta : goal.returns-then-vmsize-delta
-returns-then-vmsize-delta c = above _ _ (omega arith) (omega arith) (omega arith)
+pub returns-then-segment-delta : goal.returns-then-segment-delta
+returns-then-segment-delta c = above _ _ (omega arith) (omega arith) (omega arith)
 
-pub returns-then-filesize-eq0 : goal.returns-then-filesize-eq0
-returns-then-filesize-eq0 c = no_bytes _ _ (omega arith) (omega arith) (omega arith) (omega arith)
+pub returns-then-segment-eq0 : goal.returns-then-segment-eq0
+returns-then-segment-eq0 c = no_bytes _ _ (omega arith) (omega arith) (omega arith) (omega arith)
 
-pub returns-then-filesize-delta : goal.returns-then-filesize-delta
-returns-then-filesize-delta c = held _ _ (omega arith) (omega arith) (omega arith) _ (omega arith) (past_file _ _ (omega arith))
-
-pub returns-then-delta-fileoff : goal.returns-then-delta-fileoff
-returns-then-delta-fileoff c = held _ _ (omega arith) (omega arith) (omega arith) _ (omega arith) (offset_wraps _ _ (omega arith) (omega arith))
+pub returns-then-segment-delta-2 : goal.returns-then-segment-delta-2
+returns-then-segment-delta-2 c = held _ _ (omega arith) (omega arith) (omega arith) _ (omega arith) (past_file _ _ (omega arith))
 
 pub returns : goal.returns
-returns c = held _ _ (omega arith) (omega arith) (omega arith) _ (omega arith) (in_file_lem _ _ (omega arith) (omega arith))
+returns c = held _ _ (omega arith) (omega arith) (omega arith) _ (omega arith) (added _ _ (omega arith) _ c.checked_add.ensures)

@@ -1,24 +1,17 @@
-use borrow.Author.Rules.{rules}
-use native.Mathlib.Omega.{arith}
-use mathlib.Core.Path.{refl}
-use Rattle.segment.proofs.SegmentsLaws.{lookup_answer, lookup_next, lookup_end}
+-- `segment::segment::vm_to_file_offset_in` meets its contract: the first segment that says something decides.
+use Rattle.std.specs.Prelude.{ℕ, List, [], map}
+use Rattle.std.specs.Slice.Iter.{iter_rest}
+use Rattle.std.proofs.Common.{rules, ap, ◌∙◌}
+use Rattle.segment.specs.Segments.{Segment, segment_from, file_offset, decides}
+use Rattle.segment.proofs.SegmentsLaws.{segments_chunks}
+use Rattle.segment.proofs.WalkLaws.{first_answer, first_offset}
 use Rattle.segment.proofs.segment.vm_to_file_offset_in.Goals as goal
-
-pub loop-i-init : goal.loop-i-init
-loop-i-init c = (omega arith, refl)
-
-pub returns-in-Some : goal.returns-in-Some
-returns-in-Some c =
-    lookup_answer c.args.segments.now c.loop-i.i c.args.vmaddr _ c.loop-i.invariant.1 _ _
-    c.look_up-found.ensures c.in-Some.is (omega arith)
-
-pub loop-i-preserved : goal.loop-i-preserved
-loop-i-preserved c = (
-  search rules,
-  lookup_next c.args.segments.now c.loop-i.i c.args.vmaddr _ c.loop-i.invariant.1 _
-      c.look_up-found.ensures c.in-None.is (omega arith),
-)
 
 pub returns : goal.returns
 returns c =
-    lookup_end c.args.segments.now c.loop-i.i _ _ c.loop-i.invariant.1 (omega arith)
+    let run = c.find_map.ensures.runs in
+    let first = first_answer (λ y. y.now) (λ cs. decides (segment_from cs) c.args.vmaddr) _ [] _ _ (λ x r q k. search rules) run.0 (c.iter.ensures.runs run.0 run.0.seen) _ run.2 in
+    c.flatten.ensures
+    ∙ first_offset segment_from [] c.args.vmaddr _ _ first
+    ∙ ap (λ (cs : List (List ℕ)). file_offset (map segment_from cs) c.args.vmaddr) (ap iter_rest run.1 ∙ c.iter.ensures.rest ∙ c.as_chunks.ensures.front)
+    ∙ ap (λ (ss : List Segment). file_offset ss c.args.vmaddr) (segments_chunks c.args.segments.now)
