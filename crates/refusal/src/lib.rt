@@ -2,9 +2,10 @@
 #![tactic(auto)]
 
 ghost use Rattle.std.specs.Prelude.{◌≡◌};
+ghost use Rattle.std.specs.List.{count_by, position_from};
 ghost use Rattle.refusal.specs.Refusal.{refusal_number};
-ghost use Rattle.segment.specs.Segments.{segments_of};
-ghost use Rattle.refusal.specs.Guarded.{fault, fault_of, first_wrapping};
+ghost use Rattle.segment.specs.Segments.{segment_from, segments_of};
+ghost use Rattle.refusal.specs.Guarded.{wrapping, fault, fault_of, first_wrapping};
 
 #[derive(Clone, Copy)]
 pub enum Refusal {
@@ -43,37 +44,45 @@ impl From<Refusal> for u64 {
     }
 }
 
-// Tests the segments that a call was given: `Err` is what the call answers. The segments that wrap are counted, so that no segment takes a branch.
+// Whether the segment with these numbers ends past the last address.
+fn wraps(numbers: &[u64; 4]) -> bool
+    ensures { result ≡ wrapping (segment_from numbers.now) }
+{
+    let [vmaddr, vmsize, _, _] = *numbers;
+    u64::MAX - vmaddr < vmsize
+}
+
+// How many segments wrap. They are counted, so that no segment takes a branch.
+fn count_wrapping(segments: &[[u64; 4]]) -> usize
+    ensures { result ≡ count_by (λ c. wrapping (segment_from c)) segments.now }
+{
+    segments.iter().filter(|numbers| wraps(numbers)).count()
+}
+
+// Tests the segments that a call was given: `Err` is what the call answers.
 pub fn find_fault(segments: &[u64]) -> Result<(), Refusal>
     ensures { fault_of result ≡ fault segments.now }
 {
-    if segments.len() % 4 != 0 {
+    let (segments, rest) = segments.as_chunks();
+    if !rest.is_empty() {
         return Err(Refusal::RaggedSegments);
     }
-    let mut wrapping: usize = 0;
-    let mut i: usize = 0;
-    while i < segments.len() {
-        if u64::MAX - segments[i] < segments[i + 1] {
-            wrapping += 1;
-        }
-        i += 4;
-    }
-    if wrapping != 0 {
+    if count_wrapping(segments) != 0 {
         return Err(Refusal::WrappingSegment);
     }
     Ok(())
 }
 
-// The first segment of a list that wraps, by its number from 0 on, for a message: the test itself counts them.
+// Which of them wraps first.
+fn first_wrapping(segments: &[[u64; 4]]) -> Option<usize>
+    ensures { result ≡ position_from (λ c. wrapping (segment_from c)) 0 segments.now }
+{
+    segments.iter().position(wraps)
+}
+
+// The first segment of a list that wraps, by its number from 0 on, for a message.
 pub fn wrapping_segment(segments: &[u64]) -> Option<usize>
     ensures { result ≡ first_wrapping 0 (segments_of segments.now) }
 {
-    let mut number: usize = 0;
-    while number < segments.len() / 4 {
-        if u64::MAX - segments[4 * number] < segments[4 * number + 1] {
-            return Some(number);
-        }
-        number += 1;
-    }
-    None
+    first_wrapping(segments.as_chunks().0)
 }

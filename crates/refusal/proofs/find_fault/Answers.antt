@@ -1,41 +1,19 @@
-use native.Mathlib.Omega.{arith}
-use Prim.Native.Nat.{◌+◌, ◌≤◌}
-use mathlib.Core.Path.{refl}
-use lib.ListN.{length}
-use Rattle.refusal.proofs.GuardedLaws.{ragged, wrapped, none_wrapping, counted, passed, all_passed, one_wraps}
+-- `refusal::find_fault` meets its contract.
+use Rattle.std.proofs.Common.{sym, ◌∙◌}
+use borrow.Author.Tests.{eqb-true, eqb-false}
+use Rattle.refusal.proofs.GuardedLaws.{ragged, some_counted, none_counted}
 use Rattle.refusal.proofs.find_fault.Goals as goal
-use Rattle.refusal.proofs.find_fault.Goals.{then-segments-i, else-segments-i}
 
-pub returns-then-segments-ne0 : goal.returns-then-segments-ne0
-returns-then-segments-ne0 c = ragged _ c.if-segments-ne0.true
+pub returns-then-not-is_empty : goal.returns-then-not-is_empty
+returns-then-not-is_empty c =
+    ragged _ (λ z. eqb-false _ _ (sym c.is_empty.ensures ∙ c.if-not-is_empty.true) (c.as_chunks.ensures.back_len ∙ z))
 
-pub loop-i-init : goal.loop-i-init
-loop-i-init c = (omega arith, refl, c.if-segments-ne0.false, omega arith, refl)
-
-pub overflow_sub-segments : goal.overflow_sub-segments
-overflow_sub-segments c = omega (arith, c.type_inv.segments c.loop-i.i)
-
-pub loop-i-preserved : goal.loop-i-preserved
-loop-i-preserved c =
-    let l = c.args.segments.now in
-    let k = c.type_inv.segments c.loop-i.i in
-    let room : c.loop-i.i + 4 ≤ length l = omega arith in (
-      room,
-      omega arith,
-      c.loop-i.invariant.2,
-      elim c.if-segments-i.branch [ then-segments-i w ↦ omega arith | else-segments-i w ↦ omega arith ],
-      elim c.if-segments-i.branch [
-        | then-segments-i w ↦ rw w.wrapping-is (counted l c.loop-i.i c.loop-i.wrapping _ c.loop-i.invariant.4 room (omega (arith, w.if-segments-i.true, k)))
-        | else-segments-i w ↦ rw w.wrapping-is (passed l c.loop-i.i c.loop-i.wrapping _ c.loop-i.invariant.4 room (omega (arith, w.if-segments-i.false, k)))
-      ],
-    )
-
-pub returns-then-wrapping-ne0 : goal.returns-then-wrapping-ne0
-returns-then-wrapping-ne0 c =
-    wrapped c.args.segments.now c.loop-i.invariant.2
-    (one_wraps _ c.loop-i.i c.loop-i.wrapping _ c.loop-i.invariant.4 (omega arith))
+pub returns-then-count_wrapping-ne0 : goal.returns-then-count_wrapping-ne0
+returns-then-count_wrapping-ne0 c =
+    some_counted _ _ _ c.as_chunks.ensures.front c.count_wrapping.ensures
+    (sym c.as_chunks.ensures.back_len ∙ eqb-true _ _ (sym c.is_empty.ensures ∙ c.if-not-is_empty.false)) c.if-count_wrapping-ne0.true
 
 pub returns : goal.returns
 returns c =
-    none_wrapping c.args.segments.now c.loop-i.invariant.2
-    (all_passed _ c.loop-i.i c.loop-i.wrapping _ c.loop-i.invariant.4 (omega arith) (omega arith))
+    none_counted _ _ _ c.as_chunks.ensures.front c.count_wrapping.ensures
+    (sym c.as_chunks.ensures.back_len ∙ eqb-true _ _ (sym c.is_empty.ensures ∙ c.if-not-is_empty.false)) c.if-count_wrapping-ne0.false

@@ -1,25 +1,14 @@
-use native.Mathlib.Omega.{arith}
-use Prim.Native.Nat.{◌*◌}
-use mathlib.Core.Path.{refl}
-use Rattle.refusal.proofs.GuardedLaws.{first_here, first_passed, first_nowhere}
+-- `refusal::wrapping_segment` meets its contract.
+use Rattle.std.specs.Prelude.{List, map}
+use Rattle.std.proofs.Common.{ap, ◌∙◌}
+use Rattle.segment.specs.Segments.{Segment, segment_from}
+use Rattle.segment.proofs.SegmentsLaws.{segments_chunks}
+use Rattle.refusal.specs.Guarded.{first_wrapping}
+use Rattle.refusal.proofs.GuardedLaws.{first_piece}
 use Rattle.refusal.proofs.wrapping_segment.Goals as goal
-
-pub loop-number-init : goal.loop-number-init
-loop-number-init c = (omega arith, refl)
-
-pub overflow_sub-segments : goal.overflow_sub-segments
-overflow_sub-segments c = omega (arith, c.type_inv.segments (4 * c.loop-number.number))
-
-pub returns-then-segments-number : goal.returns-then-segments-number
-returns-then-segments-number c =
-    first_here c.args.segments.now c.loop-number.number _ c.loop-number.invariant.1 (omega arith) (omega (arith, c.type_inv.segments (4 * c.loop-number.number)))
-
-pub loop-number-preserved : goal.loop-number-preserved
-loop-number-preserved c = (
-  omega arith,
-  first_passed c.args.segments.now c.loop-number.number _ c.loop-number.invariant.1 (omega arith) (omega (arith, c.type_inv.segments (4 * c.loop-number.number))),
-)
 
 pub returns : goal.returns
 returns c =
-    first_nowhere c.args.segments.now c.loop-number.number _ c.loop-number.invariant.1 (omega arith)
+    c.first_wrapping.ensures
+    ∙ first_piece 0 _
+    ∙ ap (λ (ss : List Segment). first_wrapping 0 ss) (ap (map segment_from) c.as_chunks.ensures.front ∙ segments_chunks c.args.segments.now)
