@@ -1,11 +1,10 @@
 -- What lies at a layout's places (docs/SPECIFICATION.md, "Bundles"): util's parts, and the segments as numbers.
-use Rattle.std.specs.Prelude.{ℕ, zero, suc, ◌+◌, ◌*◌, ◌/◌, min, List, [], ◌∷◌, cond, length, take, drop, leb, Option, Some, None, option_map}
+use Rattle.std.specs.Prelude.{ℕ, zero, suc, ◌+◌, ◌*◌, ◌/◌, min, List, [], ◌∷◌, cond, length, take, drop, leb, Option, Some, None}
 use Rattle.util.specs.Cstr.{part_of}
 use Rattle.util.specs.LittleEndian.{little_endian}
 use Rattle.segment.specs.Segments.{Segment}
 use Rattle.util.specs.declared.cstr.Place.{Place}
 use Rattle.bundle.specs.declared.open.Layout.{Layout}
-use Rattle.bundle_parts.specs.declared.parts.Segment.{Segment as Found}
 
 -- the bytes of a part, none if it does not lie within
 abbrev pub bytes_of : List ℕ → Place → List ℕ
@@ -24,10 +23,6 @@ segment_in body k =
     cond (leb (32 * k + 32) (length body))
     (Some (record { vmaddr = u64_in body (32 * k); vmsize = u64_in body (32 * k + 8); fileoff = u64_in body (32 * k + 16); filesize = u64_in body (32 * k + 24) }))
     None
-
--- the same from the code's segment
-abbrev pub segment_of : Option Found → Option Segment
-segment_of o = option_map (λ (g : Found). record { vmaddr = g.vmaddr; vmsize = g.vmsize; fileoff = g.fileoff; filesize = g.filesize }) o
 
 -- the first numbers of a body, eight bytes each
 unfoldable pub numbers : ℕ → List ℕ → List ℕ

@@ -6,5 +6,5 @@ mod parts;
 mod segments;
 
 pub use accepted::accept_bundle;
-pub use parts::{Segment, fields_part, image_part, strings_part, types_part};
+pub use parts::{fields_part, image_part, strings_part, types_part};
 pub use segments::{SEGMENT_NUMBERS, segment, segment_numbers};

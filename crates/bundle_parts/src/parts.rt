@@ -4,15 +4,6 @@ ghost use Rattle.bundle_parts.specs.Parts.{bytes_of};
 
 use bundle::Layout;
 
-// Where a segment lies, in memory and in the file.
-#[derive(Clone, Copy)]
-pub struct Segment {
-    pub vmaddr: u64,
-    pub vmsize: u64,
-    pub fileoff: u64,
-    pub filesize: u64,
-}
-
 pub fn image_part(bytes: &[u8], layout: Layout) -> &[u8]
     ensures { result.now ≡ bytes_of bytes.now layout.image }
 {

@@ -1,10 +1,10 @@
 // The segments of a bundle, by their numbers.
 ghost use Rattle.std.specs.Prelude.{◌≡◌, ◌+◌, ◌≤◌, length};
 ghost use Rattle.util.specs.Buffer.{at_start};
-ghost use Rattle.bundle_parts.specs.Parts.{segment_bytes, segment_in, segment_of, u64_in, listed_numbers};
+ghost use Rattle.bundle_parts.specs.Parts.{segment_bytes, segment_in, u64_in, listed_numbers};
 
-use crate::parts::Segment;
 use bundle::Layout;
+use segment::Segment;
 
 // The length of a list that holds the segment numbers of every bundle.
 pub const SEGMENT_NUMBERS: usize = 8192;
@@ -26,7 +26,7 @@ fn segments_part(bytes: &[u8], layout: Layout) -> &[u8]
 
 // The segment with a number; none past the last.
 pub fn segment(bytes: &[u8], layout: Layout, number: usize) -> Option<Segment>
-    ensures { segment_of result ≡ segment_in (segment_bytes bytes.now layout) number }
+    ensures { result ≡ segment_in (segment_bytes bytes.now layout) number }
 {
     let body = segments_part(bytes, layout);
     if body.len() / 32 <= number {
