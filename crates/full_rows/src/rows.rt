@@ -3,11 +3,12 @@ ghost use Rattle.std.specs.Prelude.{◌≡◌, [], ◌∷◌, ◌+◌, ◌≤◌
 ghost use Rattle.util.specs.Buffer.{pasted, at_start};
 ghost use Rattle.type_body.specs.Body.{body_of, class_of};
 ghost use Rattle.full_rows.specs.FullRows.{body_numbers, table_recorded, recorded_numbers, recorded_of, block_four, block_fours, full_row, full_rows_in, numbers_of, given_of};
-ghost use Rattle.segment.specs.Mapping.{with_mapping};
+ghost use Rattle.runtime.specs.Runtime.{tried};
 ghost use Rattle.typedescriptor.specs.Row.{row_of};
 
 use classtrailers::{Block, BlockBody, BlockKind, Trailing};
-use segment::Mapping;
+use runtime::{SwiftRuntime, SwiftSection};
+use segment::NO_MAPPING;
 use type_body::{ClassBody, ClassSizes, Start, TypeBody};
 use typedescriptor::Row;
 
@@ -49,15 +50,15 @@ const ENUM: u64 = 3;
 
 // A row's own numbers.
 fn row_numbers(slot: usize, row: Row) -> [u64; 6]
-    ensures { result ≡ slot ∷ (row.address ∷ (row.flags ∷ (row.parent ∷ (row.name_place ∷ (row.name_length ∷ []))))) }
+    ensures { result ≡ slot ∷ (row.address ∷ (row.flags ∷ (row.parent ∷ (row.name.start ∷ (row.name.size ∷ []))))) }
 {
     [
         slot as u64,
         row.address,
         row.flags as u64,
         row.parent,
-        row.name_place as u64,
-        row.name_length as u64,
+        row.name.start as u64,
+        row.name.size as u64,
     ]
 }
 
@@ -185,17 +186,9 @@ fn put_block(block: Block, buffer: &mut [u64], at: usize)
 }
 
 // The blocks of a descriptor, which start at an address: after one that cannot be read, or whose end overflows, there is none.
-fn put_blocks(
-    image: &[u8],
-    segments: &[u64],
-    mapping: Mapping,
-    trailing: Trailing,
-    start: u64,
-    buffer: &mut [u64],
-    at: usize,
-)
+fn put_blocks(rt: &SwiftRuntime, trailing: Trailing, start: u64, buffer: &mut [u64], at: usize)
     requires { at + 44 ≤ length buffer.old }
-    ensures { buffer.new ≡ pasted buffer.old at (block_fours image.now (with_mapping mapping segments.now) (Some (record { trailing = trailing; start = start }))) }
+    ensures { buffer.new ≡ pasted buffer.old at (block_fours rt.now.image.now (tried rt.now) (Some (record { trailing = trailing; start = start }))) }
 {
     let mut address = start;
     for row in 0..KINDS {
@@ -204,7 +197,7 @@ fn put_blocks(
             put_zeros(4, buffer, here);
             continue;
         };
-        let Some(found) = classtrailers::block_at(image, segments, mapping, kind, address) else {
+        let Some(found) = classtrailers::block_at(rt, kind, address) else {
             put_zeros(44 - 4 * (row as usize), buffer, here);
             return;
         };
@@ -218,28 +211,20 @@ fn put_blocks(
 }
 
 // A row's record at a place of the list.
-fn put_record(
-    image: &[u8],
-    segments: &[u64],
-    mapping: Mapping,
-    slot: usize,
-    row: Row,
-    buffer: &mut [u64],
-    at: usize,
-)
+fn put_record(rt: &SwiftRuntime, slot: usize, row: Row, buffer: &mut [u64], at: usize)
     requires { at + 58 ≤ length buffer.old }
-    ensures { buffer.new ≡ pasted buffer.old at (full_row image.now (with_mapping mapping segments.now) slot (row_of image.now row)) }
+    ensures { buffer.new ≡ pasted buffer.old at (full_row rt.now.image.now (tried rt.now) slot (row_of rt.now.image.now row)) }
 {
     let address = row.address;
     let flags = row.flags;
     put(&row_numbers(slot, row), buffer, at);
-    let body = type_body::decode_body(image, segments, mapping, address, flags);
+    let body = type_body::decode_body(rt, address, flags);
     let mut numbers = [0; 8];
     write_body(body, &mut numbers);
     put(&numbers, buffer, at + 6);
     match type_body::trailing(address, flags, body) {
         Some(Start { trailing, start }) => {
-            put_blocks(image, segments, mapping, trailing, start, buffer, at + 14);
+            put_blocks(rt, trailing, start, buffer, at + 14);
         }
         None => {
             put_zeros(44, buffer, at + 14);
@@ -248,23 +233,17 @@ fn put_record(
 }
 
 // The records of the rows from a slot on, as many as the list holds. The mapping around one descriptor finds the next, unless that lies elsewhere.
-pub fn put_rows(
-    image: &[u8],
-    segments: &[u64],
-    types: &[u8],
-    vmaddr: u64,
-    start: usize,
-    buffer: &mut [u64],
-) -> Given
-    ensures value { result ≡ given_of (full_rows_in image.now segments.now types.now vmaddr start (length buffer.old)) }
-    ensures buffer_after { buffer.new ≡ at_start (numbers_of (full_rows_in image.now segments.now types.now vmaddr start (length buffer.old))) buffer.old }
+pub fn put_rows(rt: &SwiftRuntime, types: SwiftSection, start: usize, buffer: &mut [u64]) -> Given
+    ensures value { result ≡ given_of (full_rows_in rt.now.image.now rt.now.segments.now types.entry.body.now types.entry.vmaddr start (length buffer.old)) }
+    ensures buffer_after { buffer.new ≡ at_start (numbers_of (full_rows_in rt.now.image.now rt.now.segments.now types.entry.body.now types.entry.vmaddr start (length buffer.old))) buffer.old }
 {
-    let count = types.len() / 4;
+    let count = types.body.len() / 4;
     let room = buffer.len() / RECORD;
-    let mut mapping = segment::NO_MAPPING;
+    let mut mapping = NO_MAPPING;
     let mut n: usize = 0;
     for slot in start..count {
-        let step = typedescriptor::slot_row_moving(image, segments, mapping, types, vmaddr, slot);
+        let near = SwiftRuntime { mapping, ..*rt };
+        let step = typedescriptor::slot_row_moving(&near, types, slot);
         mapping = step.mapping;
         let Some(row) = step.found else {
             continue;
@@ -276,7 +255,8 @@ pub fn put_rows(
                 all: false,
             };
         }
-        put_record(image, segments, mapping, slot, row, buffer, RECORD * n);
+        let here = SwiftRuntime { mapping, ..*rt };
+        put_record(&here, slot, row, buffer, RECORD * n);
         n += 1;
     }
     Given {

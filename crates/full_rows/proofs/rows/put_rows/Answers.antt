@@ -15,7 +15,7 @@ pub returns-then-room-n : goal.returns-then-room-n
 returns-then-room-n c =
     let a = c.args in
     let l = c.loop-slot in
-    let long = full_row_long a.image.now a.segments.now l.slot (row_of a.image.now c.in-Some.row) in
+    let long = full_row_long a.rt.now.image.now a.rt.now.segments.now l.slot (row_of a.rt.now.image.now c.in-Some.row) in
     let all = records_told _ _ _ _ _ _ _ _ _ _ (full _ _ _ _ _ _ _ _ _ _ _ l.invariant c.loop-slot-test.true _ _ c.slot_row_moving-step.ensures _ c.in-Some.is (omega (arith, long, l.invariant.long, c.if-room-n.true))) in
     record { value = all.0; buffer_after = all.1 }
 
@@ -24,9 +24,9 @@ loop-slot-preserved c =
     let a = c.args in
     let l = c.loop-slot in
     let step = c.slot_row_moving-step.ensures in
-    let row = row_of a.image.now c.in-Some.row in
-    let long = full_row_long a.image.now a.segments.now l.slot row in
-    goes_on_lem _ _ _ _ _ _ _ _ _ _ _ l.invariant c.loop-slot-test.true _ _ step _ c.in-Some.is _ _ _ (row_mapped a.image.now a.segments.now _ (step.mapped l.invariant.mapped) l.slot row) (omega (arith, long)) (omega (arith, l.invariant.long, c.if-room-n.false)) c.put_record.ensures
+    let row = row_of a.rt.now.image.now c.in-Some.row in
+    let long = full_row_long a.rt.now.image.now a.rt.now.segments.now l.slot row in
+    goes_on_lem _ _ _ _ _ _ _ _ _ _ _ l.invariant c.loop-slot-test.true _ _ step _ c.in-Some.is _ _ _ (row_mapped a.rt.now.image.now a.rt.now.segments.now _ (step.mapped l.invariant.mapped) l.slot row) (omega (arith, long)) (omega (arith, l.invariant.long, c.if-room-n.false)) c.put_record.ensures
 
 pub returns : goal.returns
 returns c =

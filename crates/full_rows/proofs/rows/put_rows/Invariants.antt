@@ -6,4 +6,4 @@ use Rattle.full_rows.proofs.rows.put_rows.Given as goal
 
 abbrev pub invariant-loop-slot : goal.invariant-loop-slot
 invariant-loop-slot l =
-    Going (full_row l.image l.segments) l.image l.segments l.types l.vmaddr l.start l.fn.buffer l.slot (58 * l.n) l.mapping l.buffer
+    Going (full_row l.rt.image.now l.rt.segments.now) l.rt.image.now l.rt.segments.now l.types.body.now l.types.vmaddr l.start l.fn.buffer l.slot (58 * l.n) l.mapping l.buffer
