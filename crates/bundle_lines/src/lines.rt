@@ -15,7 +15,8 @@ use type_lines::{LINE_BYTES, LineIter, next_line, refused_line};
 // No bundle has more lines.
 pub const LINES: usize = 16385;
 
-// What is left to print: the lines of a bundle's rows from the walk's position on, the line of a refused bundle, or nothing.
+// What is left to print: the lines of a bundle's rows from the walk's position on, the line of a refused bundle, or nothing. Three cases, as
+// `Pending` of the definitions has them: no Option says them.
 #[derive(Clone, Copy)]
 pub enum BundleLineIter {
     Rows { layout: Layout, walk: LineIter },

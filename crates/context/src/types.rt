@@ -5,6 +5,7 @@ ghost use Rattle.context.specs.TypeContext.{initialization_of, reference_of, has
 
 use crate::bits::{bit, bits};
 
+// The kinds of MetadataValues.h under their names there: `None` is one of its values, and no Option.
 #[derive(Clone, Copy)]
 pub enum MetadataInitializationKind {
     None,

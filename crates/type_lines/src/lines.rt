@@ -17,7 +17,8 @@ pub const NAME_BYTES: usize = 4096;
 
 pub const LINE_BYTES: usize = 4121;
 
-// A walk over the lines: the next slot to read, how many rows were given, and whether the last line was given.
+// A walk over the lines: the next slot to read, how many rows were given, and whether the last line was given. `ended` is no variant of an
+// enum, since the definition of a step, `line_step`, has the walk as these three.
 #[derive(Clone, Copy)]
 pub struct LineIter {
     pub slot: usize,
@@ -70,8 +71,7 @@ fn kind_word(flags: u32) -> &'static [u8]
 }
 
 // The address and the kind, each with a space after it.
-fn put_head(row: Row, line: &mut [u8]) -> usize
-    requires { 24 ≤ length line.old }
+fn put_head(row: Row, line: &mut [u8; LINE_BYTES]) -> usize
     ensures { Put line.old 0 (hex 16 row.address ++ space ++ kind_word row.flags ++ space) result line.new }
 {
     let digits = hex_digits(row.address);
@@ -109,8 +109,7 @@ fn put_name(rt: &SwiftRuntime, row: Row, line: &mut [u8], at: usize) -> usize
     }
 }
 
-fn put_row(rt: &SwiftRuntime, row: Row, line: &mut [u8]) -> usize
-    requires { line_bytes ≤ length line.old }
+fn put_row(rt: &SwiftRuntime, row: Row, line: &mut [u8; LINE_BYTES]) -> usize
     ensures { Put line.old 0 (row_line rt.now.image.now rt.now.segments.now (row_of rt.now.image.now row)) result line.new }
 {
     let a = put_head(row, line);
@@ -118,8 +117,7 @@ fn put_row(rt: &SwiftRuntime, row: Row, line: &mut [u8]) -> usize
     util::put(b"\n", line, b)
 }
 
-fn put_end(given: usize, line: &mut [u8]) -> usize
-    requires { line_bytes ≤ length line.old }
+fn put_end(given: usize, line: &mut [u8; LINE_BYTES]) -> usize
     ensures { Put line.old 0 (end_line given) result line.new }
 {
     let a = util::put(b"end ", line, 0);
@@ -132,9 +130,8 @@ fn next_into(
     lister: LineIter,
     rt: &SwiftRuntime,
     types: SwiftSection,
-    line: &mut [u8],
+    line: &mut [u8; LINE_BYTES],
 ) -> Option<Line>
-    requires { line_bytes ≤ length line.old }
     ensures result_after { answered (line_answer line.new result) ≡ answered (line_step rt.now.image.now rt.now.segments.now types.entry.body.now types.entry.vmaddr lister) }
     ensures line_after { line.new ≡ overwritten line.old (line_text (answered (line_step rt.now.image.now rt.now.segments.now types.entry.body.now types.entry.vmaddr lister))) }
 {
@@ -189,11 +186,10 @@ pub fn next_line(
     ensures line_after { line.new ≡ overwritten line.old (line_text (guarded segments.now (answered (line_step image.now segments.now types.now vmaddr walk)))) }
 {
     refusal::find_fault(segments)?;
-    let buffer: &mut [u8] = line;
     let rt = SwiftRuntime::new(image, segments);
     let types = SwiftSection {
         body: types,
         vmaddr,
     };
-    Ok(next_into(walk, &rt, types, buffer))
+    Ok(next_into(walk, &rt, types, line))
 }

@@ -6,7 +6,7 @@ use Rattle.type_lines.proofs.lines.put_row.Goals as goal
 pub put_name-b-requires : goal.put_name-b-requires
 put_name-b-requires c =
     let row = c.args.row in
-    omega (arith, c.put_head-a.ensures.ends, c.put_head-a.auto, head_length row.address row.flags)
+    omega (arith, c.put_head-a.ensures.ends, head_length row.address row.flags)
 
 pub returns : goal.returns
 returns c =
