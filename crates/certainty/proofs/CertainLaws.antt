@@ -12,7 +12,8 @@ use Rattle.std.proofs.Math.Dec.{leb, leb-suc-suc}
 use borrow.Author.Tests.{le-leb, leb-true, lt-ltb, ltb-true}
 use Rattle.utf8.specs.Text.{until_nul, well_formed, text_length}
 use Rattle.segment.specs.Segments.{segments_of, file_offset}
-use Rattle.util.specs.Cstr.{Place, place, text_at}
+use Rattle.util.specs.declared.cstr.Place.{Place}
+use Rattle.util.specs.Cstr.{place, text_at}
 use Rattle.runtime.specs.Reads.{Reads, done, nothing, bytes, text, and_then, within, bytes_place, text_offset, run}
 use Rattle.certainty.specs.Certain.{has_nul, if_there, certain}
 

@@ -16,7 +16,8 @@ use Rattle.utf8.specs.Text.{until_nul}
 use Rattle.segment.specs.Segments.{segments_of, file_offset}
 use Rattle.util.specs.LittleEndian.{unsigned_in, signed_in}
 use Rattle.util.specs.Pointer.{relative_pointer}
-use Rattle.util.specs.Cstr.{Place, place, text_at}
+use Rattle.util.specs.declared.cstr.Place.{Place}
+use Rattle.util.specs.Cstr.{text_at}
 use Rattle.runtime.specs.Reads.{Reads, done, nothing, bytes, text, and_then, within, bytes_place, text_offset, text_place, run, Range, bytes_range, text_range, also, path, All}
 use Rattle.runtime.proofs.PathLaws.{BytesRead, TextRead, bytes_read_lem, text_read, text_at_is}
 use Rattle.runtime.specs.FieldName.{field_name}

@@ -1,10 +1,11 @@
 -- If a row in the listing of what arrived is not certain, it is open: with one byte more, any byte but NUL, the slot has another row or
 -- none (`row_open`). So no row that is settled is called open.
-use Rattle.std.specs.Prelude.{ℕ, zero, suc, ◌+◌, ◌^◌, ◌≤◌, ◌≡◌, refl, List, [], ◌∷◌, ◌++◌, Bool, true, false, cond, length, take, drop, leb, ltb, Some, None}
+use Rattle.std.specs.Prelude.{ℕ, zero, suc, ◌+◌, ◌^◌, ◌≤◌, ◌≡◌, refl, List, [], ◌∷◌, ◌++◌, Bool, true, false, cond, length, take, drop, leb, ltb, Some}
 use Rattle.std.proofs.Common.{arith, sym, ◌∙◌, ap, true≢false}
 use Rattle.std.proofs.lemmas.List.{drop-append-le}
 use Rattle.utf8.specs.Text.{until_nul}
-use Rattle.util.specs.Cstr.{Place, place, text_at}
+use Rattle.util.specs.declared.cstr.Place.{Place}
+use Rattle.util.specs.Cstr.{text_at}
 use Rattle.runtime.specs.Reads.{done, nothing, text, run}
 use Rattle.runtime.proofs.PathLaws.{BytesRead, TextRead, bytes_read_lem, text_read, text_at_is}
 use Rattle.typedescriptor.specs.Row.{TypeRow, type_row, name_address, row_name, descriptor}

@@ -1,8 +1,9 @@
 -- What the readers' answers say about certainty, in the cases that the calls' tests leave.
 use Prim.Native.Nat.{ℕ, zero, suc, ◌+◌, ◌-◌, ◌^◌, ◌≤◌, ◌<◌}
 use Rattle.std.proofs.Math.Decide.{dec_le}
-use Rattle.std.proofs.Common.{add-one, arith, sym, ◌∙◌, length-take, length-drop, drop_of_length-le, drop-cons}
-use Rattle.std.specs.Prelude.{◌≡◌, Bool, ◌&&◌, get_or, leb, Option, Some, None}
+use Rattle.std.proofs.Common.{arith, sym, ◌∙◌, length-take, length-drop, drop_of_length-le, take_all, le-ltb}
+use Rattle.std.specs.List.{list_any}
+use Rattle.std.specs.Prelude.{◌≡◌, Bool, ◌&&◌, eqb, ltb, leb, not, is_some, Option, Some, None}
 use Rattle.std.proofs.Math.Path.{refl, ap}
 use mathlib.Core.List.{List, [], ◌∷◌}
 use Rattle.std.proofs.Math.Bool.{true, false, and-true, or-true}
@@ -12,8 +13,9 @@ use borrow.Author.Tests.{le-leb, lt-leb, eq-eqb, ne_eqb}
 use Rattle.segment.specs.Segments.{segments_of, file_offset}
 use Rattle.util.specs.LittleEndian.{unsigned_in, signed_in}
 use Rattle.util.specs.Pointer.{relative_pointer}
-use Rattle.util.specs.Cstr.{Place, text_at}
-use Rattle.runtime.specs.Reads.{Reads, done, nothing, bytes, text, and_then, within, bytes_place, text_offset, run}
+use Rattle.util.specs.declared.cstr.Place.{Place}
+use Rattle.util.specs.Cstr.{text_at}
+use Rattle.runtime.specs.Reads.{Reads, done, bytes, text, and_then, within, bytes_place, text_offset, run}
 use Rattle.runtime.specs.Bytes.{bytes_read, bytes_from}
 use Rattle.context.specs.Context.{context_kind, has_name}
 use Rattle.typedescriptor.specs.Row.{TypeRow, row_name, descriptor}
@@ -28,22 +30,20 @@ use Rattle.certainty.specs.JoinedName.{header_certain, chain_certain, name_certa
 
 -- ---- a scan for a NUL
 
+-- the library's search
+nul_among : (s : List ℕ) → list_any (λ y. eqb y 0) s ≡ has_nul s
+unfolding has_nul
+nul_among [] = refl
+nul_among (zero ∷ s) = refl
+nul_among (suc b ∷ s) = rw (ne_eqb (suc b) 0 (omega arith)) (nul_among s)
+
 module _ (image : List ℕ) (i : ℕ) where
-  pub nul_here : get_or image i 0 ≡ 0 → i < length image → has_nul (drop i image) ≡ true
-  unfolding has_nul
-  nul_here e h = rw (drop-cons image i 0 h, e)
+  pub nul_within : (b : Bool) → b ≡ list_any (λ y. eqb y 0) (take (length image - i) (drop i image)) → b ≡ has_nul (drop i image)
+  nul_within b e = e ∙ ap (list_any (λ y. eqb y 0)) (take_all (length image - i) (drop i image) (simp length-drop (omega arith))) ∙ nul_among (drop i image)
 
-  pub nul_later : (get_or image i 0 ≡ 0 → ⊥) → i < length image → has_nul (drop i image) ≡ has_nul (drop (i + 1) image)
+  pub nul_past : length image ≤ i → ltb i (length image) ≡ has_nul (drop i image)
   unfolding has_nul
-  nul_later e h = rw (drop-cons image i 0 h, add-one) (go (get_or image i 0) e)
-    where
-      go : (b : ℕ) → (b ≡ 0 → ⊥) → has_nul (b ∷ drop (suc i) image) ≡ has_nul (drop (suc i) image)
-      go zero z = absurd (z refl)
-      go (suc b) z = refl
-
-  pub nul_past : length image ≤ i → has_nul (drop i image) ≡ false
-  unfolding has_nul
-  nul_past h = rw (drop_of_length-le image h)
+  nul_past h = rw (drop_of_length-le image h, le-ltb i (length image) h)
 
 -- ---- a text
 
@@ -52,11 +52,14 @@ abbrev pub nowhere : List ℕ → ℕ → Bool
 nowhere segments a = if_there (file_offset (segments_of segments) a) (λ _. false)
 
 module _ (segments : List ℕ) (a : ℕ) where
-  pub in_file_lem : (o : ℕ) → Some o ≡ file_offset (segments_of segments) a → false ≡ nowhere segments a
-  in_file_lem o e = rw (← e)
-
-  pub not_in_file : None ≡ file_offset (segments_of segments) a → true ≡ nowhere segments a
-  not_in_file e = rw (← e)
+  pub nowhere_by : (b : Bool) (x : Option ℕ) → is_some x ≡ not b → x ≡ file_offset (segments_of segments) a → b ≡ nowhere segments a
+  nowhere_by b x e f = rw (← f) (go x b e)
+    where
+      go : (x : Option ℕ) (b : Bool) → is_some x ≡ not b → b ≡ if_there x (λ _. false)
+      go None true e = refl
+      go None false e = absurd (false≢true e)
+      go (Some o) true e = absurd (false≢true (sym e))
+      go (Some o) false e = refl
 
 module _ (image segments : List ℕ) (a : ℕ) where
   pub zero_text : a ≡ 0 → certain image segments (lookup a) ≡ true
@@ -223,11 +226,6 @@ module _ (image segments : List ℕ) (left a : ℕ) where
       go (suc n) = rw (chain_certain, ← e) (and-true (header_certain image segments a))
 
   module _ (h : Header) (e : Some h ≡ run image segments (header a)) where
-    -- a 257th context
-    pub chain_deep : left ≡ 0 → chain_certain image segments left a ≡ true
-    unfolding chain_certain
-    chain_deep z = rw z (header_there image segments a h e)
-
     chain_by : (n : ℕ) → left ≡ suc n
         → chain_certain image segments left a ≡ (certain image segments (name h.address h.flags) && chain_certain image segments n h.parent)
     unfolding chain_certain
@@ -238,6 +236,16 @@ module _ (image segments : List ℕ) (left a : ℕ) where
 
     pub chain_on : 0 < left → certain image segments (name h.address h.flags) ≡ true → chain_certain image segments left a ≡ chain_certain image segments (left - 1) h.parent
     chain_on l f = chain_by (left - 1) (omega arith) ∙ rw f
+
+    -- the same by how many were gone over
+    pub chain_more : (k : ℕ) → k < contexts_most → left ≡ contexts_most - k → certain image segments (name h.address h.flags) ≡ true
+        → chain_certain image segments left a ≡ chain_certain image segments (contexts_most - (k + 1)) h.parent
+    chain_more k l e f = chain_on (omega arith) f ∙ ap (λ (n : ℕ). chain_certain image segments n h.parent) (omega arith)
+
+  -- all of them were gone over
+  pub chain_end : left ≡ 0 → chain_certain image segments left a ≡ header_certain image segments a
+  unfolding chain_certain
+  chain_end z = rw z refl
 
 -- ---- the joined name of a slot
 

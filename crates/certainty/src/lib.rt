@@ -6,4 +6,4 @@ mod chain;
 mod reads;
 mod row;
 
-pub use calls::{Certainty, name_certain, row_certain};
+pub use calls::{name_certain, row_certain};

@@ -1,14 +1,13 @@
 -- `certainty::row::slot_certain` meets its contract.
 use mathlib.Core.Path.{◌∙◌}
-use Rattle.util.proofs.AnswersLaws.{told}
-use Rattle.segment.specs.VmAddress.{address_of}
+use Rattle.util.proofs.AnswersLaws.{known}
 use Rattle.certainty.specs.Certain.{certain}
 use Rattle.certainty.proofs.ReadLaws.{slot_reads}
 use Rattle.certainty.proofs.row.slot_certain.Goals as goal
 
-pub returns-in-At : goal.returns-in-At
-returns-in-At c = c.descriptor_certain.ensures ∙ slot_reads _ _ _ _ _ _ (told address_of c.slot_descriptor.ensures c.in-At.is)
+pub returns-in-Some : goal.returns-in-Some
+returns-in-Some c = c.descriptor_certain.ensures ∙ slot_reads _ _ _ _ _ _ (known c.slot_descriptor.ensures c.in-Some.is)
 
-pub returns-in-Nothing : goal.returns-in-Nothing
+pub returns-in-None : goal.returns-in-None
 unfolding certain
-returns-in-Nothing c = slot_reads _ _ _ _ _ _ (told address_of c.slot_descriptor.ensures c.in-Nothing.is)
+returns-in-None c = slot_reads _ _ _ _ _ _ (known c.slot_descriptor.ensures c.in-None.is)
