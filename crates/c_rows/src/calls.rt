@@ -13,7 +13,7 @@ ghost use Rattle.c_rows.specs.Numbers.{Tells, value_numbers, row_numbers, chain_
 
 use parent::{ParentChain, ParentStep};
 use refusal::Refusal;
-use runtime::FieldName;
+use runtime::{FieldName, SwiftRuntime, SwiftSection};
 use typedescriptor::{Row, TypeIter, TypeStep};
 use util::Place;
 
@@ -102,8 +102,8 @@ fn row_numbers(step: Option<TypeStep>) -> [u64; 8]
                 row.address,
                 u64::from(row.flags),
                 row.parent,
-                row.name_place as u64,
-                row.name_length as u64,
+                row.name.start as u64,
+                row.name.size as u64,
             ]
         }
         None => [0; 8],
@@ -167,8 +167,11 @@ fn field_name(
     ensures { mapped field_name_of (outcome result) ≡ guarded segments.now (answered (field_name image.now segments.now strings.now vmaddr target_va)) }
 {
     refusal::find_fault(segments)?;
-    let near = segment::NO_MAPPING;
-    Ok(runtime::lookup_field_name(image, segments, near, strings, vmaddr, target_va))
+    let strings = SwiftSection {
+        body: strings,
+        vmaddr,
+    };
+    Ok(SwiftRuntime::new(image, segments).lookup_field_name(strings, target_va))
 }
 
 // The numbers of the field name at an address.
@@ -244,8 +247,10 @@ pub fn hodrupec_qualified_name(
         address: 0,
         flags: 0,
         parent,
-        name_place,
-        name_length,
+        name: Place {
+            start: name_place,
+            size: name_length,
+        },
     };
     tell(
         steps::joined_name(image, segments, row, buffer).map(one_number),
