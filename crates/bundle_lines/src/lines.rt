@@ -44,6 +44,7 @@ pub fn start(bytes: &[u8]) -> BundleLineIter
     }
 }
 
+// Both calls match what is left: a type and a trait for each case would be no plainer, since a caller keeps one value that is copied.
 impl BundleLineIter {
     // The numbers of the segments, for `next_line`.
     pub fn segments(self, bytes: &[u8], out: &mut [u64; SEGMENT_NUMBERS]) -> usize

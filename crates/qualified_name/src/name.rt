@@ -42,14 +42,14 @@ pub fn around_parent(segments: &[u64], mapping: Mapping, parent: u64) -> Mapping
 }
 
 // Reads contexts from `descriptor_va` on, of which `left` are allowed, until 8 have a name, and keeps where the names lie and how long they are.
+// `count` rises only at a context that has a name: no range gives it.
 fn collect(
     rt: &SwiftRuntime,
     descriptor_va: u64,
     left: usize,
     rest: usize,
-    names: &mut [Place],
+    names: &mut [Place; 8],
 ) -> Result<Walk, Refusal>
-    requires { length names.old ≡ 8 }
     ensures { Walked rt.now.image.now (tried rt.now) left descriptor_va rest names.new result }
 {
     let mut count = 0;

@@ -1,6 +1,6 @@
 -- `qualified_name::name::write_hops` meets its contract. It calls itself with fewer contexts allowed, so its measure is `left`.
 use native.Mathlib.Omega.{arith}
-use Rattle.std.proofs.Common.{refl, ap, sym, ◌∙◌, Ok, Err}
+use Rattle.std.proofs.Common.{ap, sym, ◌∙◌, Ok, Err}
 use Rattle.std.proofs.lemmas.Result.{err_from_is_err_and}
 use Rattle.parent.proofs.ContextLaws.{zero_header, no_context}
 use Rattle.util.proofs.AnswersLaws.{told, case}
@@ -20,9 +20,6 @@ returns-then-descriptor_va-eq0 t c =
     let e = no_context _ _ _ (zero_header _ _ _ c.if-descriptor_va-eq0.true) in
     (record { result_value = none_written _ _ _ _ e _ _ (omega arith) (omega (arith, c.well_formed)); buffer_after = none_filled _ _ _ _ e _ })
 
-pub collect-requires : goal.collect-requires
-collect-requires t c = refl
-
 pub returns-then-buffer-room : goal.returns-then-buffer-room
 returns-then-buffer-room t c =
     let w = case (Walked _ _ _ _ _ _) c.collect.ensures (c.in_ok-walk.was ∙ ap Ok c.in-Ended.is) in (record {
@@ -33,7 +30,7 @@ returns-then-buffer-room t c =
 pub put_hops-requires : goal.put_hops-requires
 put_hops-requires t c =
     let w = case (Walked _ _ _ _ _ _) c.collect.ensures (c.in_ok-walk.was ∙ ap Ok c.in-Ended.is) in (record {
-      count_in_bounds = omega (arith, w.few, c.collect.auto);
+      count_in_bounds = omega (arith, w.few);
       count_in_bounds_2 = omega (arith, last_fits _ _ _ _ _ _ _ _ w _ c.if-buffer-room.false (omega (arith, c.well_formed)));
     })
 
@@ -45,7 +42,7 @@ write_hops-requires t c =
 pub put_hops-requires-in-Full : goal.put_hops-requires-in-Full
 put_hops-requires-in-Full t c =
     let w = case (Walked _ _ _ _ _ _) c.collect.ensures (c.in_ok-walk.was ∙ ap Ok c.in-Full.is) in (record {
-      count_in_bounds = omega (arith, c.collect.auto);
+      count_in_bounds = omega arith;
       count_in_bounds_2 = omega (
         arith,
         further_fits _ _ _ _ _ _ _ _ _ _ w _ _ (told outcome c.write_hops.ensures.result_value c.in_ok-at-in-Full.was) (omega (arith, c.well_formed)),

@@ -10,5 +10,4 @@ invariant-loop-count l =
     (length l.names ≡ 8) × Block l.rt.image.now (tried l.rt) l.left l.descriptor_va l.rest l.names l.count l.allowed l.next l.room
 
 abbrev pub decreases-loop-count : goal.decreases-loop-count
-decreases-loop-count l =
-    l.allowed
+decreases-loop-count l = l.allowed
