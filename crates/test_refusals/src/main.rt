@@ -11,20 +11,17 @@
 
 use classtrailers::{Block, BlockBody, BlockIter, BlockKind, Trailing};
 use parent::ParentChain;
-use qualified_name::QualifiedName;
 use refusal::Refusal;
 use std::io::Stdout;
-use steps::{
-    BlockAnswer, BodyAnswer, InitAnswer, NextBlock, NextContext, NextEntry, NextRow, PointerAnswer,
-    TextAnswer,
-};
-use type_body::{
-    ClassBody, ClassSizes, SingletonMetadataInit, SingletonMetadataPointer, StructBody, TypeBody,
-};
-use type_lines::{LINE_BYTES, LineIter, NextLine};
+use type_body::{ClassBody, ClassSizes, StructBody, TypeBody};
+use type_lines::{LINE_BYTES, LineIter};
 use typedescriptor::{Row, TypeIter};
-use util::Text;
+use util::Place;
 use vtable::{EntryIter, EntryKind, EntryStep, TableEntry};
+
+const NOTHING: &[u8] = b" nothing";
+
+const END: &[u8] = b" end";
 
 // What could not be written is missing where the output is compared.
 fn write(out: Stdout, text: &[u8]) {
@@ -46,81 +43,56 @@ fn refused(out: Stdout, refusal: Refusal) {
     number(out, refusal::number(refusal));
 }
 
-fn try_row(out: Stdout, image: &[u8], segments: &[u64]) {
+// A number, a word in place of one, or a refusal.
+fn answer(out: Stdout, answer: Result<Option<u64>, Refusal>, none: &[u8]) {
+    match answer {
+        Ok(Some(n)) => number(out, n),
+        Ok(None) => write(out, none),
+        Err(refusal) => refused(out, refusal),
+    }
+}
+
+fn row_address(image: &[u8], segments: &[u64]) -> Result<Option<u64>, Refusal> {
     let types = b"\x00\xf0\xff\xff";
-    match steps::next_row(image, segments, types, 0x2000, TypeIter::new()) {
-        NextRow::Row { slot, row, next } => number(out, row.address),
-        NextRow::End => end(out),
-        NextRow::Refused(refusal) => refused(out, refusal),
-    }
+    let step = steps::next_row(image, segments, types, 0x2000, TypeIter::new())?;
+    Ok(step.map(|step| step.row.address))
 }
 
-fn try_context(out: Stdout, image: &[u8], segments: &[u64]) {
-    match steps::next_context(image, segments, ParentChain::starting_at(0x1000)) {
-        NextContext::Context { context, next } => number(out, context.address),
-        NextContext::End => end(out),
-        NextContext::Refused(refusal) => refused(out, refusal),
-    }
+fn context_address(image: &[u8], segments: &[u64]) -> Result<Option<u64>, Refusal> {
+    let step = steps::next_context(image, segments, ParentChain::starting_at(0x1000))?;
+    Ok(step.map(|step| step.context.address))
 }
 
-fn try_line(out: Stdout, image: &[u8], segments: &[u64]) {
+fn line_length(image: &[u8], segments: &[u64]) -> Result<Option<u64>, Refusal> {
+    let types = b"\x00\xf0\xff\xff";
     let mut line = [0u8; LINE_BYTES];
-    match type_lines::next_line(
-        image,
-        segments,
-        b"\x00\xf0\xff\xff",
-        0x2000,
-        LineIter::new(),
-        &mut line,
-    ) {
-        NextLine::Line { length, next } => number(out, length as u64),
-        NextLine::Done => end(out),
-        NextLine::Refused(refusal) => refused(out, refusal),
-    }
+    let given = type_lines::next_line(image, segments, types, 0x2000, LineIter::new(), &mut line)?;
+    Ok(given.map(|line| line.length as u64))
 }
 
 fn try_walks(out: Stdout, image: &[u8], segments: &[u64]) {
     head(out, b"walks", segments);
-    try_row(out, image, segments);
-    try_context(out, image, segments);
-    try_line(out, image, segments);
+    answer(out, row_address(image, segments), END);
+    answer(out, context_address(image, segments), END);
+    answer(out, line_length(image, segments), END);
     write(out, b"\n");
 }
 
-fn nothing(out: Stdout) {
-    write(out, b" nothing");
-}
-
-fn end(out: Stdout) {
-    write(out, b" end");
-}
-
-fn unreadable(out: Stdout) {
-    write(out, b" unreadable");
-}
-
 // The fields of the body.
-fn try_body(out: Stdout, image: &[u8], segments: &[u64]) {
-    match steps::row_body(image, segments, 0x1000, 17) {
-        BodyAnswer::Body(body) => match body {
-            TypeBody::Class(_) => nothing(out),
-            TypeBody::Struct(fields) => number(out, fields.num_fields as u64),
-            TypeBody::Enum(_) => nothing(out),
-            TypeBody::Nothing => nothing(out),
-        },
-        BodyAnswer::Refused(refusal) => refused(out, refusal),
+fn body_fields(image: &[u8], segments: &[u64]) -> Result<Option<u64>, Refusal> {
+    match steps::row_body(image, segments, 0x1000, 17)? {
+        Some(TypeBody::Struct(fields)) => Ok(Some(u64::from(fields.num_fields))),
+        _ => Ok(None),
     }
 }
 
 // The place of a text.
-fn answer_text(out: Stdout, found: TextAnswer) {
-    match found {
-        TextAnswer::Text(text) => match text {
-            Text::At { place, length } => number(out, place as u64),
-            Text::Nothing => nothing(out),
-        },
-        TextAnswer::Refused(refusal) => refused(out, refusal),
-    }
+fn answer_text(out: Stdout, found: Result<Option<Place>, Refusal>) {
+    answer(
+        out,
+        found.map(|text| text.map(|place| place.start as u64)),
+        NOTHING,
+    );
 }
 
 // The name at 0x101c, as that of a superclass and by itself.
@@ -135,21 +107,20 @@ fn try_texts(out: Stdout, image: &[u8], segments: &[u64]) {
         num_fields: 0,
         field_offset_vector_offset: 0,
     });
-    answer_text(out, steps::superclass_name(image, segments, class));
+    answer_text(out, steps::superclass_name(image, segments, Some(class)));
     answer_text(out, steps::text_at(image, segments, 0x101c));
 }
 
 // The address of a generic block.
-fn block(out: Stdout, found: Block) {
-    let body = found.body;
-    match body {
-        BlockBody::At(va) => number(out, va),
-        _ => nothing(out),
+fn block_address(block: Block) -> Option<u64> {
+    match block.body {
+        BlockBody::At(va) => Some(va),
+        _ => None,
     }
 }
 
-// The descriptor's bytes as the generic block of a walk, and as that of a struct 28 bytes before them.
-fn try_blocks(out: Stdout, image: &[u8], segments: &[u64]) {
+// The descriptor's bytes as the generic block of a walk.
+fn try_block(out: Stdout, image: &[u8], segments: &[u64]) {
     let walk = BlockIter {
         trailing: Trailing {
             flags: 0x91,
@@ -160,44 +131,39 @@ fn try_blocks(out: Stdout, image: &[u8], segments: &[u64]) {
         address: 0x1000,
     };
     match steps::next_block(image, segments, walk) {
-        NextBlock::Block { block: found, next } => block(out, found),
-        NextBlock::End => end(out),
-        NextBlock::Refused(refusal) => refused(out, refusal),
+        Ok(Some(step)) => answer(out, Ok(block_address(step.block)), NOTHING),
+        Ok(None) => write(out, END),
+        Err(refusal) => refused(out, refusal),
     }
+}
+
+// The same as the block of a struct 28 bytes before them.
+fn generic_address(image: &[u8], segments: &[u64]) -> Result<Option<u64>, Refusal> {
     let body = TypeBody::Struct(StructBody {
         num_fields: 0,
         field_offset_vector_offset: 0,
     });
-    match steps::block_of_kind(image, segments, 0xfe4, 0x91, body, BlockKind::Generic) {
-        BlockAnswer::Block(found) => block(out, found),
-        BlockAnswer::Nothing => nothing(out),
-        BlockAnswer::Refused(refusal) => refused(out, refusal),
-    }
+    let found = steps::block_of_kind(image, segments, 0xfe4, 0x91, Some(body), BlockKind::Generic)?;
+    Ok(found.and_then(block_address))
 }
 
 // The last word of an entry of each kind of table.
-fn last_word(out: Stdout, kind: EntryKind, entry: TableEntry) {
+fn last_word(kind: EntryKind, entry: TableEntry) -> u64 {
     match kind {
-        EntryKind::Method => number(out, entry.second),
-        EntryKind::Override => number(out, entry.third),
-        EntryKind::DefaultOverride => number(out, entry.second),
-        EntryKind::Prespecialization => number(out, entry.first),
+        EntryKind::Method => entry.second,
+        EntryKind::Override => entry.third,
+        EntryKind::DefaultOverride => entry.second,
+        EntryKind::Prespecialization => entry.first,
     }
 }
 
-fn entry_word(out: Stdout, kind: EntryKind, answer: NextEntry) {
-    match answer {
-        NextEntry::Step(step) => match step {
-            EntryStep::Entry { entry, next: _ } => last_word(out, kind, entry),
-            EntryStep::Unreadable { next: _ } => unreadable(out),
-            EntryStep::End => end(out),
-        },
-        NextEntry::Refused(refusal) => refused(out, refusal),
+fn entry_word(out: Stdout, kind: EntryKind, step: Result<EntryStep, Refusal>) {
+    match step {
+        Ok(EntryStep::Entry { entry, next: _ }) => number(out, last_word(kind, entry)),
+        Ok(EntryStep::Unreadable { next: _ }) => write(out, b" unreadable"),
+        Ok(EntryStep::End) => write(out, END),
+        Err(refusal) => refused(out, refusal),
     }
-}
-
-fn try_table(out: Stdout, image: &[u8], segments: &[u64], cursor: EntryIter, kind: EntryKind) {
-    entry_word(out, kind, steps::next_entry(image, segments, cursor, kind));
 }
 
 // The descriptor's bytes as the first entry of each kind of table.
@@ -208,48 +174,35 @@ fn try_tables(out: Stdout, image: &[u8], segments: &[u64]) {
         EntryKind::Method,
         steps::next_method(image, segments, cursor),
     );
-    try_table(out, image, segments, cursor, EntryKind::Override);
-    try_table(out, image, segments, cursor, EntryKind::DefaultOverride);
-    try_table(out, image, segments, cursor, EntryKind::Prespecialization);
+    for kind in [
+        EntryKind::Override,
+        EntryKind::DefaultOverride,
+        EntryKind::Prespecialization,
+    ] {
+        entry_word(out, kind, steps::next_entry(image, segments, cursor, kind));
+    }
 }
 
-// The descriptor's bytes as the records of a singleton: the completion function, and the metadata.
-fn try_singletons(out: Stdout, image: &[u8], segments: &[u64]) {
-    match steps::singleton_init(image, segments, 0x1000) {
-        InitAnswer::Init(init) => match init {
-            SingletonMetadataInit::At {
-                initialization_cache_va: _,
-                incomplete_metadata_va: _,
-                completion_function_va,
-            } => number(out, completion_function_va),
-            SingletonMetadataInit::Nothing => nothing(out),
-        },
-        InitAnswer::Refused(refusal) => refused(out, refusal),
-    }
-    match steps::singleton_pointer(image, segments, 0x1000) {
-        PointerAnswer::Pointer(pointer) => match pointer {
-            SingletonMetadataPointer::At(metadata_va) => number(out, metadata_va),
-            SingletonMetadataPointer::Nothing => nothing(out),
-        },
-        PointerAnswer::Refused(refusal) => refused(out, refusal),
-    }
+// The descriptor's bytes as the record of a singleton: the completion function.
+fn completion_function(image: &[u8], segments: &[u64]) -> Result<Option<u64>, Refusal> {
+    let init = steps::singleton_init(image, segments, 0x1000)?;
+    Ok(init.map(|init| init.completion_function_va))
 }
 
 fn try_reads(out: Stdout, image: &[u8], segments: &[u64]) {
     head(out, b"reads", segments);
-    try_body(out, image, segments);
+    answer(out, body_fields(image, segments), NOTHING);
     try_texts(out, image, segments);
-    try_blocks(out, image, segments);
+    try_block(out, image, segments);
+    answer(out, generic_address(image, segments), NOTHING);
     try_tables(out, image, segments);
-    try_singletons(out, image, segments);
+    answer(out, completion_function(image, segments), NOTHING);
+    answer(
+        out,
+        steps::singleton_pointer(image, segments, 0x1000),
+        NOTHING,
+    );
     write(out, b"\n");
-}
-
-fn answer(out: Stdout, joined: QualifiedName) {
-    match joined {
-        QualifiedName::Length(n) => number(out, n as u64),
-        QualifiedName::Refused(refusal) => refused(out, refusal),
-    }
 }
 
 fn try_buffer(
@@ -267,11 +220,12 @@ fn try_buffer(
         address: 0x1000,
         flags: 17,
         parent,
-        name_place: 28,
-        name_length: 4,
+        name: Place { start: 28, size: 4 },
     };
-    let joined = steps::joined_name(image, segments, row, &mut buffer[..size]);
-    answer(out, joined);
+    match steps::joined_name(image, segments, row, &mut buffer[..size]) {
+        Ok(length) => number(out, length as u64),
+        Err(refusal) => refused(out, refusal),
+    }
     write(out, b" ");
     write(out, buffer);
 }
@@ -288,12 +242,12 @@ fn try_name(out: Stdout, image: &[u8], segments: &[u64], parent: u64, size: usiz
 fn try_all(out: Stdout, image: &[u8], segments: &[u64]) {
     try_walks(out, image, segments);
     try_reads(out, image, segments);
-    try_name(out, image, segments, 0, 8);
-    try_name(out, image, segments, 0, 4);
-    try_name(out, image, segments, 0, 3);
-    try_name(out, image, segments, 0x1000, 8);
-    try_name(out, image, segments, 0x1000, 3);
-    try_name(out, image, segments, 0x1000, 0);
+    for size in [8, 4, 3] {
+        try_name(out, image, segments, 0, size);
+    }
+    for size in [8, 3, 0] {
+        try_name(out, image, segments, 0x1000, size);
+    }
 }
 
 fn try_list(out: Stdout, image: &[u8], numbers: &[u64]) {
