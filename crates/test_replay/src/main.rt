@@ -19,16 +19,12 @@
 // files, stdin and stdout, anew from the Rust; OUT gets them as one.
 #![tactic(auto)]
 
-use parent::{ParentChain, ParentContext};
-use qualified_name::QualifiedName;
+use parent::{ParentChain, ParentContext, ParentStep};
 use refusal::Refusal;
-use runtime::FieldName;
-use segment::FileOffset;
+use runtime::{FieldName, SwiftRuntime, SwiftSection};
 use std::io::Stdout;
-use steps::{NextContext, NextRow};
-use test_lines::Count;
-use typedescriptor::{Row, TypeIter};
-use util::Text;
+use typedescriptor::{Row, TypeIter, TypeStep};
+use util::Place;
 
 // Parts of lines.
 
@@ -59,9 +55,9 @@ fn nothing(out: Stdout) {
 }
 
 // The rest of a line that ends with a place and a length.
-fn place_end(out: Stdout, place: usize, length: usize) {
-    number_field(out, place as u64);
-    last_field(out, length as u64);
+fn place_end(out: Stdout, place: Place) {
+    number_field(out, place.start as u64);
+    last_field(out, place.size as u64);
 }
 
 fn refused(out: Stdout, refusal: Refusal) {
@@ -69,61 +65,46 @@ fn refused(out: Stdout, refusal: Refusal) {
     last_field(out, refusal::number(refusal));
 }
 
-fn byte_digits(out: Stdout, b: u8) {
-    let _ = print!(out; "{b:02x}");
-}
-
 fn name_line(out: Stdout, name: &[u8]) {
     write(out, b"name");
     number_field(out, name.len() as u64);
     write(out, b" ");
-    if name.len() == 0 {
+    if name.is_empty() {
         write(out, b"-");
     }
     for b in name {
-        byte_digits(out, *b);
+        let _ = print!(out; "{b:02x}");
     }
     write(out, b"\n");
 }
 
 // The rows.
 
-// The joined name once more, into a buffer that is one byte too short for its `n` bytes.
-fn shorter(out: Stdout, image: &[u8], segments: &[u64], row: Row, n: usize, buffer: &mut [u8]) {
-    if n == 0 {
-        return;
-    }
-    if buffer.len() < n {
-        bad_line(out);
-        return;
-    }
-    let end = n - 1;
-    match steps::joined_name(image, segments, row, &mut buffer[..end]) {
-        QualifiedName::Length(_) => bad_line(out),
-        QualifiedName::Refused(refusal) => refused(out, refusal),
-    }
-}
-
+// The joined name, and once more into a buffer that is one byte too short for it.
 fn name_lines(out: Stdout, image: &[u8], segments: &[u64], row: Row, buffer: &mut [u8]) {
     match steps::joined_name(image, segments, row, buffer) {
-        QualifiedName::Length(n) => {
-            name_line(out, util::part(buffer, 0, n));
-            shorter(out, image, segments, row, n, buffer);
+        Ok(0) => name_line(out, b""),
+        Ok(length) => {
+            name_line(out, util::part(buffer, 0, length));
+            match buffer.get_mut(..length - 1) {
+                Some(shorter) => match steps::joined_name(image, segments, row, shorter) {
+                    Ok(_) => bad_line(out),
+                    Err(refusal) => refused(out, refusal),
+                },
+                None => bad_line(out),
+            }
         }
-        QualifiedName::Refused(refusal) => refused(out, refusal),
+        Err(refusal) => refused(out, refusal),
     }
 }
 
 fn context_line(out: Stdout, context: ParentContext) {
     write(out, b"context");
     number_field(out, context.address);
-    number_field(out, context.flags as u64);
-    let name = context.name;
-    match name {
-        Text::At { place, length } => place_end(out, place, length),
-        Text::Nothing => {
-            write(out, b" -\n");
-        }
+    number_field(out, u64::from(context.flags));
+    match context.name {
+        Some(place) => place_end(out, place),
+        None => write(out, b" -\n"),
     }
 }
 
@@ -143,20 +124,13 @@ fn depth_line(out: Stdout, depth: u64) {
 fn context_lines(out: Stdout, image: &[u8], segments: &[u64], parent: u64) {
     let mut walk = ParentChain::starting_at(parent);
     for depth in 0..257 {
-        let step = steps::next_context(image, segments, walk);
-        match step {
-            NextContext::Context { context, next } => {
+        match steps::next_context(image, segments, walk) {
+            Ok(Some(ParentStep { context, next })) => {
                 shown(out, depth, context);
                 walk = next;
             }
-            NextContext::End => {
-                depth_line(out, depth);
-                return;
-            }
-            NextContext::Refused(refusal) => {
-                refused(out, refusal);
-                return;
-            }
+            Ok(None) => return depth_line(out, depth),
+            Err(refusal) => return refused(out, refusal),
         }
     }
     bad_line(out);
@@ -166,9 +140,9 @@ fn row_line(out: Stdout, slot: usize, row: Row) {
     write(out, b"row");
     number_field(out, slot as u64);
     number_field(out, row.address);
-    number_field(out, row.flags as u64);
+    number_field(out, u64::from(row.flags));
     number_field(out, row.parent);
-    place_end(out, row.name_place, row.name_length);
+    place_end(out, row.name);
 }
 
 fn row_lines(out: Stdout, image: &[u8], segments: &[u64], slot: usize, row: Row) {
@@ -187,20 +161,13 @@ fn end_line(out: Stdout, rows: u64) {
 fn all_rows(out: Stdout, image: &[u8], segments: &[u64], types: &[u8], vmaddr: u64) {
     let mut walk = TypeIter::new();
     for rows in 0..4096 {
-        let step = steps::next_row(image, segments, types, vmaddr, walk);
-        match step {
-            NextRow::Row { slot, row, next } => {
+        match steps::next_row(image, segments, types, vmaddr, walk) {
+            Ok(Some(TypeStep { slot, row, next })) => {
                 row_lines(out, image, segments, slot, row);
                 walk = next;
             }
-            NextRow::End => {
-                end_line(out, rows);
-                return;
-            }
-            NextRow::Refused(refusal) => {
-                refused(out, refusal);
-                return;
-            }
+            Ok(None) => return end_line(out, rows),
+            Err(refusal) => return refused(out, refusal),
         }
     }
     bad_line(out);
@@ -212,38 +179,24 @@ fn offset_line(out: Stdout, segments: &[u64], address: u64) {
     write(out, b"offset");
     number_field(out, address);
     match runtime::vm_to_file_offset(segments, address) {
-        FileOffset::At(n) => last_field(out, n),
-        FileOffset::Nothing => nothing(out),
+        Some(n) => last_field(out, n),
+        None => nothing(out),
     }
 }
 
-fn field_line(
-    out: Stdout,
-    image: &[u8],
-    segments: &[u64],
-    strings: &[u8],
-    section: u64,
-    address: u64,
-) {
+fn field_line(out: Stdout, runtime: SwiftRuntime, strings: SwiftSection, address: u64) {
     write(out, b"field");
     number_field(out, address);
-    match runtime::lookup_field_name(
-        image,
-        segments,
-        segment::NO_MAPPING,
-        strings,
-        section,
-        address,
-    ) {
-        FieldName::Image { place, length } => {
+    match runtime.lookup_field_name(strings, address) {
+        Some(FieldName::Image(place)) => {
             number_field(out, 1);
-            place_end(out, place, length);
+            place_end(out, place);
         }
-        FieldName::Strings { place, length } => {
+        Some(FieldName::Strings(place)) => {
             number_field(out, 2);
-            place_end(out, place, length);
+            place_end(out, place);
         }
-        FieldName::Nothing => nothing(out),
+        None => nothing(out),
     }
 }
 
@@ -251,8 +204,8 @@ fn text_line(out: Stdout, image: &[u8], off: usize) {
     write(out, b"text");
     number_field(out, off as u64);
     match util::read_cstr_at(image, off) {
-        Text::At { place, length } => place_end(out, place, length),
-        Text::Nothing => nothing(out),
+        Some(place) => place_end(out, place),
+        None => nothing(out),
     }
 }
 
@@ -265,29 +218,22 @@ fn offset_by(image: &[u8], address: u64) -> usize {
     }
 }
 
-fn all_addresses(
-    out: Stdout,
-    image: &[u8],
-    segments: &[u64],
-    strings: &[u8],
-    section: u64,
-    addresses: &[u64],
-) {
+fn all_addresses(out: Stdout, runtime: SwiftRuntime, strings: SwiftSection, addresses: &[u64]) {
     for address in addresses {
         let address = *address;
-        offset_line(out, segments, address);
-        field_line(out, image, segments, strings, section, address);
-        text_line(out, image, offset_by(image, address));
+        offset_line(out, runtime.segments, address);
+        field_line(out, runtime, strings, address);
+        text_line(out, runtime.image, offset_by(runtime.image, address));
     }
 }
 
 // From a line to its answers.
 
 // How many bytes or numbers a field has; if it cannot be read, 0, and a line that no expected answer has.
-fn count(out: Stdout, read: Count) -> usize {
+fn count(out: Stdout, read: Option<usize>) -> usize {
     match read {
-        Count::Of(n) => n,
-        Count::Bad => {
+        Some(n) => n,
+        None => {
             bad_line(out);
             0
         }
@@ -321,16 +267,17 @@ fn run_line(out: Stdout, line: &[u8], types_va: u64, strings_va: u64) {
     all_rows(out, whole, list, util::part(&types, 0, slots), types_va);
     all_addresses(
         out,
-        whole,
-        list,
-        util::part(&strings, 0, names),
-        strings_va,
+        SwiftRuntime::new(whole, list),
+        SwiftSection {
+            body: util::part(&strings, 0, names),
+            vmaddr: strings_va,
+        },
         test_lines::first(&addresses, given),
     );
 }
 
 fn answer_line(out: Stdout, line: &[u8]) {
-    if !test_lines::same(test_lines::field(line, 0), b"input") {
+    if test_lines::field(line, 0) != b"input".as_slice() {
         bad_line(out);
         return;
     }
@@ -343,10 +290,10 @@ fn answer_line(out: Stdout, line: &[u8]) {
 }
 
 fn answer_lines(out: Stdout, input: &[u8]) {
-    let mut at = 0;
-    while at < input.len() {
-        answer_line(out, test_lines::line_at(input, at));
-        at = test_lines::after_line(input, at);
+    for line in input.split(|b| *b == b'\n') {
+        if !line.is_empty() {
+            answer_line(out, line);
+        }
     }
 }
 
