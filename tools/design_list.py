@@ -170,7 +170,7 @@ def where_now():
     f = HERE / "design_list.txt"
     if f.exists():
         for line in f.read_text(encoding="utf-8").splitlines():
-            m = re.match(r"(\S+) ([^:]+): (.*)", line)
+            m = re.match(r"(\S+) (.+?): (.*)", line)
             if m:
                 for name in m[2].split():
                     out[(m[1], name)] = m[3]
