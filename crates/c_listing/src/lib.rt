@@ -14,7 +14,8 @@ ghost use Rattle.c_listing.specs.Listing.{two_numbers, head_bytes, row_bytes, li
 
 use c_rows::ANSWERED;
 use refusal::Refusal;
-use segment::Mapping;
+use runtime::{SwiftRuntime, SwiftSection};
+use segment::NO_MAPPING;
 use typedescriptor::Row;
 
 // How many bytes of a record come before the name.
@@ -51,34 +52,23 @@ fn put_head(slot: usize, row: Row, name_length: u64, buffer: &mut [u8], at: usiz
 
 // Writes the joined name of a row at the start of `name`. The mapping that the row was read with finds its parents too, unless they lie
 // elsewhere.
-fn joined(
-    image: &[u8],
-    segments: &[u64],
-    near: Mapping,
-    row: Row,
-    name: &mut [u8],
-) -> Result<usize, Refusal>
-    requires { TrueMapping segments.now near }
-    ensures result_value { outcome result ≡ mapped length (name_answer image.now segments.now (row_of image.now row) (length name.old)) }
-    ensures name_after { name.new ≡ overwritten name.old (answer_of (name_answer image.now segments.now (row_of image.now row) (length name.old))) }
+fn joined(rt: &SwiftRuntime, row: Row, name: &mut [u8]) -> Result<usize, Refusal>
+    requires { TrueMapping rt.now.segments.now rt.now.mapping }
+    ensures result_value { outcome result ≡ mapped length (name_answer rt.now.image.now rt.now.segments.now (row_of rt.now.image.now row) (length name.old)) }
+    ensures name_after { name.new ≡ overwritten name.old (answer_of (name_answer rt.now.image.now rt.now.segments.now (row_of rt.now.image.now row) (length name.old))) }
 {
-    let mapping = qualified_name::around_parent(segments, near, row.parent);
-    qualified_name::qualified_name_near(image, segments, mapping, row, name)
+    let near = SwiftRuntime {
+        mapping: qualified_name::around_parent(rt.segments, rt.mapping, row.parent),
+        ..*rt
+    };
+    qualified_name::qualified_name_near(&near, row, name)
 }
 
 // Puts a row's record at a place, and returns where it ends, or its start if it does not fit.
-fn put_record(
-    image: &[u8],
-    segments: &[u64],
-    mapping: Mapping,
-    slot: usize,
-    row: Row,
-    buffer: &mut [u8],
-    at: usize,
-) -> usize
-    requires { TrueMapping segments.now mapping }
-    ensures value { result ≡ put_end buffer.old at (row_bytes image.now segments.now slot (row_of image.now row)) }
-    ensures buffer_after { buffer.new ≡ put_into buffer.old at (row_bytes image.now segments.now slot (row_of image.now row)) }
+fn put_record(rt: &SwiftRuntime, slot: usize, row: Row, buffer: &mut [u8], at: usize) -> usize
+    requires { TrueMapping rt.now.segments.now rt.now.mapping }
+    ensures value { result ≡ put_end buffer.old at (row_bytes rt.now.image.now rt.now.segments.now slot (row_of rt.now.image.now row)) }
+    ensures buffer_after { buffer.new ≡ put_into buffer.old at (row_bytes rt.now.image.now rt.now.segments.now slot (row_of rt.now.image.now row)) }
 {
     if buffer.len() < at {
         return at;
@@ -86,7 +76,7 @@ fn put_record(
     if buffer.len() - at < HEAD {
         return at;
     }
-    match joined(image, segments, mapping, row, &mut buffer[at + HEAD..]) {
+    match joined(rt, row, &mut buffer[at + HEAD..]) {
         Ok(length) => put_head(slot, row, length as u64, buffer, at) + length,
         Err(refusal) => match refusal {
             Refusal::DeepContexts => put_head(slot, row, TOO_DEEP, buffer, at),
@@ -100,22 +90,27 @@ fn put_record(
 fn put_rows(
     image: &[u8],
     segments: &[u64],
-    types: &[u8],
-    vmaddr: u64,
+    types: SwiftSection,
     start: usize,
     buffer: &mut [u8],
 ) -> [u64; 3]
-    ensures value { result ≡ listing_numbers (listing_from image.now segments.now types.now vmaddr start (length buffer.old)) }
-    ensures buffer_after { buffer.new ≡ at_start (listing_bytes (listing_from image.now segments.now types.now vmaddr start (length buffer.old))) buffer.old }
+    ensures value { result ≡ listing_numbers (listing_from image.now segments.now types.entry.body.now types.entry.vmaddr start (length buffer.old)) }
+    ensures buffer_after { buffer.new ≡ at_start (listing_bytes (listing_from image.now segments.now types.entry.body.now types.entry.vmaddr start (length buffer.old))) buffer.old }
 {
-    let count = types.len() / 4;
-    let mut mapping = segment::NO_MAPPING;
+    let count = types.body.len() / 4;
+    let mut mapping = NO_MAPPING;
     let mut at = 0;
     for slot in start..count {
-        let step = typedescriptor::slot_row_moving(image, segments, mapping, types, vmaddr, slot);
+        let rt = SwiftRuntime {
+            image,
+            segments,
+            mapping,
+        };
+        let step = typedescriptor::slot_row_moving(&rt, types, slot);
         mapping = step.mapping;
         if let Some(row) = step.found {
-            let end = put_record(image, segments, mapping, slot, row, buffer, at);
+            let near = SwiftRuntime { mapping, ..rt };
+            let end = put_record(&near, slot, row, buffer, at);
             if end == at {
                 return [at as u64, slot as u64, BUFFER_FULL];
             }
@@ -145,6 +140,10 @@ pub extern "C" fn hodrupec_listing(
     if let Err(refusal) = refusal::find_fault(segments) {
         return u64::from(refusal);
     }
-    *out = put_rows(image, segments, types, vmaddr, start, buffer);
+    let types = SwiftSection {
+        body: types,
+        vmaddr,
+    };
+    *out = put_rows(image, segments, types, start, buffer);
     ANSWERED
 }

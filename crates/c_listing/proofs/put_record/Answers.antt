@@ -14,7 +14,7 @@ returns-then-buffer-at c = (record { value = past_end _ _ _ (omega arith); buffe
 pub returns-then-buffer-at-lt-HEAD : goal.returns-then-buffer-at-lt-HEAD
 returns-then-buffer-at-lt-HEAD c =
     let a = c.args in
-    let l = row_long a.image.now a.segments.now a.slot (row_of a.image.now a.row) in
+    let l = row_long a.rt.now.image.now a.rt.now.segments.now a.slot (row_of a.rt.now.image.now a.row) in
     (record { value = past_end _ _ _ (omega (arith, l)); buffer_after = past_into _ _ _ (omega (arith, l)) })
 
 pub overflow_add-result : goal.overflow_add-result

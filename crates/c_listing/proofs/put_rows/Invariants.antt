@@ -5,4 +5,4 @@ use Rattle.c_listing.proofs.put_rows.Given as goal
 
 abbrev pub invariant-loop-slot : goal.invariant-loop-slot
 invariant-loop-slot l =
-    Going (row_bytes l.image l.segments) l.image l.segments l.types l.vmaddr l.start l.initial.buffer l.slot l.at l.mapping l.buffer
+    Going (row_bytes l.image l.segments) l.image l.segments l.types.body.now l.types.vmaddr l.start l.initial.buffer l.slot l.at l.mapping l.buffer
