@@ -238,7 +238,11 @@ def main():
             both((key.split()[0], " ".join(key.split()[2:])), a, b)
     if spelled:
         print(f"{len(spelled)} clauses differ only in the name of std's Option: {by_crate(spelled)}.")
-    say_gone("Functions that are gone", [(k.split()[0], "::".join(k.split(" (")[0].split()[2:])) for k in j["functions not found again"]], now)
+    named_so = [((k.split()[0], "::".join(k.split(" (")[0].split()[2:])), k) for k in j["functions not found again"]]
+    say_gone("Functions that are gone", [k for k, said in named_so if not said.endswith("(requires 0, ensures 0)")], now)
+    silent = [k for k, said in named_so if said.endswith("(requires 0, ensures 0)")]
+    if silent:
+        print(f"\nAnd, without a clause: {by_crate(silent)}.")
     print("\n### Definitions\n")
     spelled = []
     for crate, name, a, b in j["definitions"]["changed"]:
