@@ -8,7 +8,7 @@ use Rattle.utf8.specs.Text.{following, goes_on, until_nul, text_length}
 use Rattle.util.specs.Letters.{letters}
 use Rattle.util.specs.LittleEndian.{little_endian, bytes_at, little_at, twos_complement, signed_at, unsigned_in, signed_in}
 use Rattle.util.specs.Pointer.{relative_pointer, relative_address}
-use Rattle.util.specs.Cstr.{text_at, part_of}
+use Rattle.util.specs.Cstr.{place, text_at, part_of}
 use Rattle.segment.specs.Segments.{segments_of, file_offset, decides, in_file}
 use Rattle.runtime.specs.Reads.{within, bytes_place, text_offset, run, extent, path, bind}
 use Rattle.context.specs.Context.{kind_of}
@@ -21,7 +21,7 @@ use Rattle.items.proofs.Oak.{oak_image}
 use Rattle.items.specs.Texts.{NameKey, descriptor_name, slot_name_address, name_of, ClearOf}
 use Rattle.items.proofs.ClearLaws.{Outside, nowhere, there}
 use Rattle.items.proofs.CutLaws.{kept_rows}
-use Rattle.bundle.specs.Bundle.{part, body_fits, section_in}
+use Rattle.bundle.specs.Bundle.{body_fits, section_in}
 use Rattle.bundle.specs.Open.{is_at, taken_at, answer, open_bundle}
 use Rattle.bundle_parts.specs.Accepted.{accept_bundle}
 use Rattle.refusal.specs.Guarded.{any_wrapping, fault, guarded}
@@ -68,11 +68,11 @@ oak' = 107 ∷ 0 ∷ 0 ∷ 0 ∷ 1 ∷ 0 ∷ take 107 oak_image ++ behind 113 4
 abbrev layout : ℕ → Layout
 layout n =
     record {
-      image = part 6 n;
-      segments = part (n + 12) 32;
-      types = record { address = 0x2000; part = part (n + 58) 4 };
-      fields = record { address = 0; part = part 0 0 };
-      strings = record { address = 0; part = part 0 0 };
+      image = place 6 n;
+      segments = place (n + 12) 32;
+      types = record { address = 0x2000; part = place (n + 58) 4 };
+      fields = record { address = 0; part = place 0 0 };
+      strings = record { address = 0; part = place 0 0 };
     }
 
 pub record Met : Type 0 where
