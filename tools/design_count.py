@@ -3,7 +3,9 @@
 
 Without COMMIT the work tree is read. For each point it prints the places as `file: name: what`, and how many there are; --brief prints them by
 crate, as the page does. A place is a type, a function, a group of twins, or an answer that three proofs or more repeat.
---against prints for each place of that older commit whether it is changed, kept (with the comment lines beside it that are new) or still as it was.
+--against prints for each place of that older commit whether it is changed, kept or still as it was, and the page's table. tools/design_kept.txt
+names the places that are kept, a line `POINT CRATE PLACE | REASON | LINE` each: LINE stands in a comment of the crate, which is looked up, and
+REASON is one of the four. For a place that is still as it was the comment lines beside it that are new are printed too.
 --other counts in the other way: by the arms of `match`, and by the goals that the proofs' folders name.
 A place that no pattern finds stands in TABLE below, by its name and a pattern that its text has as long as it has the old form. Names of the
 table that the older commit doesn't have are reported as stale.
@@ -355,6 +357,10 @@ def by_crate(places):
     return crates
 
 
+def squeeze(text):
+    return re.sub(r"\s+", "", text)
+
+
 def said_answers(found):
     crates = Counter(f.split("/")[1] for f in found.answers)
     return (f"{len(found.answers)} files of answers with {sum(found.answers.values())} answers: "
@@ -384,6 +390,16 @@ def main():
         said = {}
         for (c, f, n), it in old_items.items():
             said.setdefault(c, set()).update(it.comments())
+        kept_so, comments = OrderedDict(), {}
+        for f, text in files.items():
+            if SRC.match(f):
+                c = SRC.match(f)[1]
+                comments[c] = comments.get(c, "") + squeeze(" ".join(m for m in re.findall(r"//+(.*)", text)))
+        with open("tools/design_kept.txt", encoding="utf-8") as f:
+            for row in f.read().splitlines():
+                if row:
+                    where, reason, line = row.split(" | ")
+                    kept_so[tuple(where.split(" ", 2))] = (reason, line)
         rows = []
         for point in range(1, 9):
             kept = changed = still = 0
@@ -397,18 +413,24 @@ def main():
                         print(f"changed  {file}: {name}")
                         continue
                     now = (file, what, sorted(set(members) & names))
+                key = (str(point), crate, name)
+                if key in kept_so:
+                    reason, line = kept_so.pop(key)
+                    if squeeze(line) in comments.get(crate, ""):
+                        kept += 1
+                        print(f"kept     {file}: {name}: {reason}: {line}")
+                        continue
+                    print(f"not in a comment of {crate}: {line}", file=sys.stderr)
                 new = []
                 for (c, f, n), it in its.items():
                     if c == crate and (n in now[2] or f"{c}::{n}" in now[2]):
                         new += [s for s in it.comments() if s not in said.get(crate, set())]
-                if new:
-                    kept += 1
-                    print(f"kept     {file}: {name}: {' '.join(new)[:300]}")
-                else:
-                    still += 1
-                    print(f"still    {file}: {name}: {what}")
+                still += 1
+                print(f"still    {file}: {name}: {what}" + (f"   [{' '.join(new)[:300]}]" if new else ""))
             rows.append((point, len(old.of[point]), changed, kept, still))
         gone = [f for f in old.answers if f not in found.answers]
+        for key in kept_so:
+            print(f"in design_kept.txt, and no such place is left: {' '.join(key)}", file=sys.stderr)
         print(f"\n{said_answers(old)}\nthen {said_answers(found)}\ngone: {len(gone)}: {', '.join(gone)}")
         print("\n| point | found | changed | kept with a reason | still to do |\n|---|---|---|---|---|")
         for r in rows:
