@@ -1,7 +1,6 @@
 // Bytes and texts at an address.
 ghost use Rattle.std.specs.Prelude.{◌≡◌};
 ghost use Rattle.segment.specs.Segments.{file_offset, segments_of};
-ghost use Rattle.segment.specs.Mapping.{with_mapping};
 ghost use Rattle.runtime.specs.Reads.{bytes_place, text_place};
 ghost use Rattle.runtime.specs.Bytes.{bytes_read};
 ghost use Rattle.runtime.specs.Runtime.{tried};
@@ -77,49 +76,4 @@ pub fn vm_to_file_offset(segments: &[u64], vmaddr: u64) -> Option<u64>
     ensures { result ≡ file_offset (segments_of segments.now) vmaddr }
 {
     segment::vm_to_file_offset_in(segments, vmaddr)
-}
-
-pub fn find_bytes(
-    image: &[u8],
-    segments: &[u64],
-    mapping: Mapping,
-    vmaddr: u64,
-    len: usize,
-) -> Option<usize>
-    ensures { result ≡ bytes_place image.now (with_mapping mapping segments.now) vmaddr len }
-{
-    SwiftRuntime {
-        image,
-        segments,
-        mapping,
-    }
-    .find_bytes(vmaddr, len)
-}
-
-pub fn read_bytes<'a>(
-    image: &'a [u8],
-    segments: &[u64],
-    mapping: Mapping,
-    vmaddr: u64,
-    len: usize,
-) -> &'a [u8]
-    ensures { result.now ≡ bytes_read image.now (with_mapping mapping segments.now) vmaddr len }
-{
-    SwiftRuntime {
-        image,
-        segments,
-        mapping,
-    }
-    .read_bytes(vmaddr, len)
-}
-
-pub fn read_cstr(image: &[u8], segments: &[u64], mapping: Mapping, vmaddr: u64) -> Option<Place>
-    ensures { result ≡ text_place image.now (with_mapping mapping segments.now) vmaddr }
-{
-    SwiftRuntime {
-        image,
-        segments,
-        mapping,
-    }
-    .read_cstr(vmaddr)
 }

@@ -1,10 +1,8 @@
 ghost use Rattle.std.specs.Prelude.{◌≡◌};
 ghost use Rattle.runtime.specs.FieldName.{field_name, field_name_of, name_part, section_text};
 ghost use Rattle.runtime.specs.Runtime.{tried};
-ghost use Rattle.segment.specs.Mapping.{with_mapping};
 
 use crate::reads::{SwiftRuntime, SwiftSection};
-use segment::Mapping;
 use util::Place;
 
 // Where a field's name lies: in the image, or in the string section.
@@ -44,28 +42,6 @@ impl<'a, 's> SwiftRuntime<'a, 's> {
             }
         }
     }
-}
-
-pub fn lookup_field_name(
-    image: &[u8],
-    segments: &[u64],
-    mapping: Mapping,
-    strings: &[u8],
-    vmaddr: u64,
-    target_va: u64,
-) -> Option<FieldName>
-    ensures { field_name_of result ≡ field_name image.now (with_mapping mapping segments.now) strings.now vmaddr target_va }
-{
-    let strings = SwiftSection {
-        body: strings,
-        vmaddr,
-    };
-    SwiftRuntime {
-        image,
-        segments,
-        mapping,
-    }
-    .lookup_field_name(strings, target_va)
 }
 
 // The part of the image or of the string section that a name is: empty if there is none.
