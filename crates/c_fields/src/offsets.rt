@@ -11,6 +11,7 @@ ghost use Rattle.c_fields.specs.Offsets.{offsets_numbers};
 use c_rows::{ANSWERED, THERE};
 use field_offsets::FieldOffsets;
 use refusal::Refusal;
+use runtime::SwiftRuntime;
 
 fn offsets_numbers(offsets: Option<FieldOffsets>) -> [u64; 3]
     ensures { result ≡ offsets_numbers offsets }
@@ -41,9 +42,8 @@ pub extern "C" fn hodrupec_field_offsets(
 ) -> u64
     ensures { Tells (mapped offsets_numbers (guarded segments.now (answered (offsets_place image.now segments.now (run image.now segments.now (body address flags)) metadata_va)))) out.old result out.new }
 {
-    let body = type_body::decode_body(image, segments, segment::NO_MAPPING, address, flags);
-    let found = steps::field_offsets(image, segments, body, metadata_va);
-    tell_offsets(found, out)
+    let body = type_body::decode_body(&SwiftRuntime::new(image, segments), address, flags);
+    tell_offsets(steps::field_offsets(image, segments, body, metadata_va), out)
 }
 
 // The same for the metadata that the descriptor's singleton pointer refers to.
@@ -57,8 +57,7 @@ pub extern "C" fn hodrupec_static_field_offsets(
 ) -> u64
     ensures { Tells (mapped offsets_numbers (guarded segments.now (answered (static_place image.now segments.now address flags)))) out.old result out.new }
 {
-    let found = steps::static_field_offsets(image, segments, address, flags);
-    tell_offsets(found, out)
+    tell_offsets(steps::static_field_offsets(image, segments, address, flags), out)
 }
 
 // 1 and the offset of the field with this number, out of `count` offsets that start at a place of the image. It takes no segments, and
