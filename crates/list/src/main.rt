@@ -12,17 +12,15 @@ ghost use Rattle.list.specs.Input.{Came, CameFrom};
 
 mod reason;
 
-use bundle::{BUNDLE_BYTES, Layout, Opened};
-use bundle_lines::{BundleLineIter, LINES, PrintStep};
-use bundle_parts::{SEGMENT_NUMBERS, SegmentRead};
-use bundle_rules::{Broken, Rule};
+use bundle::{BUNDLE_BYTES, Layout};
+use bundle_lines::{BundleLineIter, LINES};
+use bundle_parts::SEGMENT_NUMBERS;
+use bundle_rules::Rule;
 use reason::say_reason;
-use refusal::Wrapping;
 use std::env::{Env, FillError};
 use std::io::{IsTerminal, Read, Stderr, Stdout};
 use std::{fs, io};
 use type_lines::LINE_BYTES;
-use util::ReadU32;
 
 // One byte more than any bundle has, so that a longer input is noticed.
 const INPUT_BYTES: usize = BUNDLE_BYTES + 1;
@@ -64,26 +62,20 @@ fn print_lines(out: Stdout, bytes: &[u8], segments: &[u64], first: BundleLineIte
 {
     let mut line = [0u8; LINE_BYTES];
     let mut left = first;
-    let mut lines: usize = 0;
     let mut all = Ok(());
-    while lines < LINES {
+    for lines in 0..LINES {
         match left.next_line(bytes, segments, &mut line) {
-            PrintStep::Line { length, next } => {
+            Ok(Some(printed)) => {
                 if all.is_ok() {
-                    all = write_line(out, bytes, segments, left, line_part(&line, length));
+                    all = write_line(out, bytes, segments, left, line_part(&line, printed.length));
                 }
-                left = next;
-                lines += 1;
+                left = printed.next;
             }
-            PrintStep::Done => {
-                return Written { lines, all };
-            }
-            PrintStep::Refused(_) => {
-                return Written { lines, all };
-            }
+            Ok(None) => return Written { lines, all },
+            Err(_) => return Written { lines, all },
         }
     }
-    Written { lines, all }
+    Written { lines: LINES, all }
 }
 
 // Writes the listing of a bundle.
@@ -109,83 +101,64 @@ fn fail(err: Stderr, what: &[u8], error: io::Error) {
     say(err, b"\n");
 }
 
-fn say_rule(err: Stderr, rule: Rule) {
+fn rule_text(rule: Rule) -> &'static str {
     match rule {
-        Rule::CutShort => say(err, b"a record is cut short"),
-        Rule::KindRange => say(err, b"a kind is not 1 to 5"),
-        Rule::KindOrder => say(err, b"a kind does not rise"),
-        Rule::SegmentBody => say(err, b"a segment body is not of whole segments of 32 bytes"),
-        Rule::LedBody => say(
-            err,
-            b"a section body has no room for its address of 8 bytes",
-        ),
-        Rule::NoImage => say(err, b"there is no image"),
+        Rule::CutShort => "a record is cut short",
+        Rule::KindRange => "a kind is not 1 to 5",
+        Rule::KindOrder => "a kind does not rise",
+        Rule::SegmentBody => "a segment body is not of whole segments of 32 bytes",
+        Rule::LedBody => "a section body has no room for its address of 8 bytes",
+        Rule::NoImage => "there is no image",
     }
 }
 
 // Why a bundle is refused with 2, and at which byte.
 fn say_broken(err: Stderr, bytes: &[u8]) {
-    match bundle_rules::broken_rule(bytes) {
-        Broken::At { rule, at } => {
-            say(err, b"list: refused 2: ");
-            say_rule(err, rule);
-            say(err, b", at byte ");
-            let _ = print!(err; "{at}");
-            say(err, b"\n");
-        }
-        Broken::Whole => {}
+    if let Some(broken) = bundle_rules::broken_rule(bytes) {
+        let rule = rule_text(broken.rule);
+        let _ = println!(err; "list: refused 2: {rule}, at byte {}", broken.at);
     }
 }
 
 // Whether a file starts as a Mach-O file does: thin or fat, of either width and byte order. No bundle does, since its first record
 // would have more bytes than any bundle.
 fn is_macho(bytes: &[u8]) -> bool {
-    match util::read_u32_le_at(bytes, 0) {
-        ReadU32::Value(magic) => match magic {
-            0xFEEDFACF | 0xFEEDFACE | 0xCFFAEDFE | 0xCEFAEDFE | 0xBEBAFECA | 0xBFBAFECA => true,
-            _ => false,
-        },
-        ReadU32::Nothing => false,
-    }
+    matches!(
+        util::read_u32_le_at(bytes, 0),
+        Some(0xFEEDFACF | 0xFEEDFACE | 0xCFFAEDFE | 0xCEFAEDFE | 0xBEBAFECA | 0xBFBAFECA)
+    )
 }
 
 fn say_macho(err: Stderr, bytes: &[u8]) {
-    if BUNDLE_BYTES < bytes.len() {
-        say(err, b"list: refused 5: ");
-    } else {
-        say(err, b"list: refused 2: ");
-    }
-    say(
-        err,
-        b"this is a Mach-O file and not a bundle; `scripts/make_bundle.py --macho FILE` makes a bundle of it\n",
+    let refusal = if BUNDLE_BYTES < bytes.len() { 5 } else { 2 };
+    let _ = println!(err;
+        "list: refused {refusal}: this is a Mach-O file and not a bundle; `scripts/make_bundle.py --macho FILE` makes a bundle of it"
     );
-}
-
-fn say_number(err: Stderr, before: &[u8], n: u64) {
-    say(err, before);
-    let _ = print!(err; "{n:016x}");
 }
 
 // Which segment a bundle is refused with 9 for, and its addresses.
 fn say_wrapping(err: Stderr, bytes: &[u8], layout: Layout) {
     let mut numbers = [0u64; SEGMENT_NUMBERS];
     let count = bundle_parts::segment_numbers(bytes, layout, &mut numbers);
-    if let Wrapping::At(number) = refusal::wrapping_segment(&numbers[..count]) {
-        say(err, b"list: refused 9: segment ");
-        let _ = print!(err; "{}", number.wrapping_add(1));
-        say(err, b" of ");
-        let _ = print!(err; "{}", count / 4);
-        if let SegmentRead::Segment(segment) = bundle_parts::segment(bytes, layout, number) {
-            say_number(err, b" does not end below 2^64: vmaddr 0x", segment.vmaddr);
-            say_number(err, b", vmsize 0x", segment.vmsize);
+    if let Some(number) = refusal::wrapping_segment(&numbers[..count]) {
+        let _ = print!(err;
+            "list: refused 9: segment {} of {}",
+            number.wrapping_add(1),
+            count / 4
+        );
+        if let Some(segment) = bundle_parts::segment(bytes, layout, number) {
+            let _ = print!(err;
+                " does not end below 2^64: vmaddr 0x{:016x}, vmsize 0x{:016x}",
+                segment.vmaddr, segment.vmsize
+            );
         }
-        say(err, b"\n");
+        let _ = println!(err);
     }
 }
 
 // Why a bundle by the format's rules is refused, if it is.
 fn say_segments(err: Stderr, bytes: &[u8]) {
-    if let Opened::Bundle(layout) = bundle::open_bundle(bytes) {
+    if let Ok(layout) = bundle::open_bundle(bytes) {
         say_wrapping(err, bytes, layout);
     }
 }
@@ -194,7 +167,7 @@ fn say_refused(err: Stderr, bytes: &[u8]) {
     if is_macho(bytes) {
         say_macho(err, bytes);
     } else if BUNDLE_BYTES < bytes.len() {
-        say(err, b"list: refused 5: a bundle has at most 65536 bytes\n");
+        let _ = println!(err; "list: refused 5: a bundle has at most {BUNDLE_BYTES} bytes");
     } else {
         say_broken(err, bytes);
         say_segments(err, bytes);
@@ -213,50 +186,41 @@ fn print_input(out: Stdout, err: Stderr, space: &[u8], count: usize)
     say_refused(err, bytes);
 }
 
-// What reading ended with: a count of bytes, or an error.
-#[derive(Clone, Copy)]
-pub enum Input {
-    Bytes(usize),
-    Failed(io::Error),
-}
-
-// Reads to the end, or until the space is full.
-fn read_input<R: Read>(from: &mut R, space: &mut [u8]) -> Input
+// Reads to the end, or until the space is full; the count of bytes that came.
+fn read_input<R: Read>(from: &mut R, space: &mut [u8]) -> io::Result<usize>
     ensures count { Came space.new result }
     ensures bytes { CameFrom (R.remaining from.old) (R.remaining from.new) space.new result }
 {
     let mut n: usize = 0;
     while n < space.len() {
-        match from.read(&mut space[n..]) {
-            Ok(0) => return Input::Bytes(n),
-            Ok(more) => n += more,
-            Err(error) => return Input::Failed(error),
+        match from.read(&mut space[n..])? {
+            0 => return Ok(n),
+            more => n += more,
         }
     }
-    Input::Bytes(n)
+    Ok(n)
 }
 
 fn print_from<R: Read>(out: Stdout, err: Stderr, from: &mut R, name: &[u8]) {
     let mut space = [0u8; INPUT_BYTES];
     match read_input(from, &mut space) {
-        Input::Bytes(count) => print_input(out, err, &space, count),
-        Input::Failed(error) => fail(err, name, error),
+        Ok(count) => print_input(out, err, &space, count),
+        Err(error) => fail(err, name, error),
     }
 }
 
 // std opens a path only if it is a text.
 fn print_file(rt: &HostRuntime, path: &[u8]) {
     let (out, err) = (rt.stdout(), rt.stderr());
-    match str::from_utf8(path) {
-        Ok(name) => match fs::open(rt, name) {
-            Ok(mut file) => print_from(out, err, &mut file, path),
-            Err(error) => fail(err, path, error),
-        },
-        Err(_) => {
-            say(err, b"list: ");
-            say(err, path);
-            say(err, b": the name is not UTF-8\n");
-        }
+    let Ok(name) = str::from_utf8(path) else {
+        say(err, b"list: ");
+        say(err, path);
+        say(err, b": the name is not UTF-8\n");
+        return;
+    };
+    match fs::open(rt, name) {
+        Ok(mut file) => print_from(out, err, &mut file, path),
+        Err(error) => fail(err, path, error),
     }
 }
 
@@ -264,10 +228,7 @@ fn print_standard_input(rt: &HostRuntime) {
     let (out, err) = (rt.stdout(), rt.stderr());
     let mut input = rt.stdin();
     if input.is_terminal() {
-        say(
-            err,
-            b"list: reading a bundle from the terminal; `list --help` says more\n",
-        );
+        let _ = println!(err; "list: reading a bundle from the terminal; `list --help` says more");
     }
     print_from(out, err, &mut input, b"standard input");
 }
@@ -298,35 +259,23 @@ fn say_option(err: Stderr, word: &[u8]) {
 
 // A word that begins with `-` is an option and not a file.
 fn print_argument(rt: &HostRuntime, word: &[u8]) {
-    if word.len() == 0 {
-        print_file(rt, word);
-    } else if word[0] != b'-' {
-        print_file(rt, word);
-    } else if word == b"--help".as_slice() {
-        print_help(rt);
-    } else if word == b"--version".as_slice() {
-        print_version(rt);
-    } else {
-        say_option(rt.stderr(), word);
+    match word {
+        b"--help" => print_help(rt),
+        b"--version" => print_version(rt),
+        [b'-', ..] => say_option(rt.stderr(), word),
+        _ => print_file(rt, word),
     }
 }
 
 // Whether there is an argument of this number, whatever it is.
 fn is_given(rt: &HostRuntime, number: usize) -> bool {
     let mut word = [0u8; 1];
-    match rt.arg(number, &mut word) {
-        Ok(_) => true,
-        Err(FillError::TooLong) => true,
-        Err(FillError::NotPresent) => false,
-    }
+    !matches!(rt.arg(number, &mut word), Err(FillError::NotPresent))
 }
 
 fn main(rt: HostRuntime) {
     if is_given(&rt, 2) {
-        say(
-            rt.stderr(),
-            b"list: one FILE at most (list --help says more)\n",
-        );
+        let _ = println!(rt.stderr(); "list: one FILE at most (list --help says more)");
         return;
     }
     let mut word = [0u8; WORD_BYTES];

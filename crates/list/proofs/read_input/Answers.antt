@@ -18,5 +18,5 @@ joined n more k xs ys within fits =
 pub loop-n-preserved : goal.loop-n-preserved
 loop-n-preserved g c =
     let room = length c.loop-n.space - c.loop-n.n in
-    let grown = joined c.loop-n.n c.in-Ok.more room c.loop-n.space c.read.new.buf c.loop-n.invariant.0 c.in-Ok.ensures.bound.0 in
-    (search rules, search rules, subst (Consumes _ _) grown (Consumes-trans _ _ _ _ _ c.loop-n.invariant.2 c.in-Ok.ensures.bytes.0))
+    let grown = joined c.loop-n.n c.in_ok-more.more room c.loop-n.space c.read.new.buf c.loop-n.invariant.0 c.in_ok-more.ensures.bound.0 in
+    (search rules, search rules, subst (Consumes _ _) grown (Consumes-trans _ _ _ _ _ c.loop-n.invariant.2 c.in_ok-more.ensures.bytes.0))
