@@ -1,8 +1,8 @@
-ghost use Rattle.std.specs.Prelude.{◌≡◌, drop, false};
+ghost use Rattle.std.specs.Prelude.{◌≡◌, false};
 ghost use Rattle.items.specs.Texts.{lookup};
 ghost use Rattle.runtime.specs.Runtime.{tried};
 ghost use Rattle.segment.specs.Segments.{segments_of, file_offset};
-ghost use Rattle.certainty.specs.Certain.{has_nul, if_there, certain};
+ghost use Rattle.certainty.specs.Certain.{if_there, certain};
 
 use runtime::SwiftRuntime;
 
@@ -13,14 +13,7 @@ pub fn is_nowhere(rt: &SwiftRuntime, vmaddr: u64) -> bool
     segment::vm_to_file_offset_near(rt.segments, rt.mapping, vmaddr).is_none()
 }
 
-// Whether there is a NUL from a place of the image on.
-fn has_nul(image: &[u8], place: usize) -> bool
-    ensures { result ≡ has_nul (drop place image.now) }
-{
-    place < image.len() && image[place..].contains(&0)
-}
-
-// Whether the text at an address is certain, or that there is none.
+// Whether the text at an address is certain, or that there is none: whether its NUL arrived.
 pub fn text_certain(rt: &SwiftRuntime, vmaddr: u64) -> bool
     ensures { result ≡ certain rt.now.image.now (tried rt.now) (lookup vmaddr) }
 {
@@ -28,7 +21,11 @@ pub fn text_certain(rt: &SwiftRuntime, vmaddr: u64) -> bool
         return true;
     }
     match segment::vm_to_file_offset_near(rt.segments, rt.mapping, vmaddr) {
-        Some(offset) => has_nul(rt.image, offset as usize),
+        Some(offset) => {
+            let image = rt.image;
+            let place = offset as usize;
+            place < image.len() && image[place..].contains(&0)
+        }
         None => true,
     }
 }

@@ -1,7 +1,7 @@
 -- What the code finds of a table is `tableFrom`: where an entry lies (`no_place`, `a-place`), its numbers in the list (`set-put`,
 -- `set_more`), the entries of a run (`Ran`), and run after run (`Going`, for any numbers of an entry: `tableBy`). The table is the entries
 -- that stepping gives, as numbers (`table-listed`); its counts do not depend on those numbers (`same-counts`).
-use Rattle.std.specs.Prelude.{◌≡◌, ℕ, zero, suc, ◌+◌, ◌-◌, ◌*◌, ◌/◌, ◌%◌, ◌^◌, ◌<◌, ◌≤◌, min, Bool, List, [], ◌∷◌, ◌++◌, length, replicate, take, drop, ◌≢◌, slice_set, Option, Some, None, Result, Ok, Err, ⊤}
+use Rattle.std.specs.Prelude.{◌≡◌, ℕ, zero, suc, ◌+◌, ◌-◌, ◌*◌, ◌/◌, ◌%◌, ◌^◌, ◌<◌, ◌≤◌, min, List, [], ◌∷◌, ◌++◌, length, replicate, take, drop, ◌≢◌, slice_set, Option, Some, None, Result, Ok, Err, ⊤}
 use Rattle.std.proofs.Common.{mul-le-mul_left, mul-zero, mul-suc, mul-add, mod-eq_of_lt, le_antisymm, le_trans, div-le_self, zero-add, add-one, subst, ◌∙◌, append_assoc, append-nil, length-append, take-append-drop, take_at, drop_at, drop-drop, length-take-le, le-leb, lt-ltb, le-ltb}
 use Rattle.std.proofs.Math.Nat.{mul-div-le, div-eq_of_lt, div-eq-sub-div}
 use Rattle.std.proofs.Math.Decide.{dec_le, dec_lt}
@@ -20,13 +20,15 @@ use Rattle.refusal.specs.Guarded.{fault, fault_of, guarded}
 use Rattle.refusal.proofs.GuardedLaws.{refused_list, accepted_list}
 use Rattle.runtime.specs.Reads.{bytes_place, run}
 use Rattle.runtime.proofs.CallsLaws.{bytes_at_lem, bytes_past, bytes_nowhere, bytes_within}
-use Rattle.vtable.specs.Entries.{Word, pointer, Layout, packed, first, shape_words, table_entry, Entry, entry_size, entry_of, entry_address, entry_at, Step, entry_step, words_from}
+use Rattle.vtable.specs.Entries.{Layout, packed, shape_words, table_entry, Entry, entry_size, entry_of, entry_address, entry_at, Step, entry_step, words_from}
 use Rattle.vtable.proofs.EntriesLaws.{step_end, step_gives}
 use Rattle.vtable.specs.Listed.{listed_entries}
 use Rattle.vtable.proofs.ListLaws.{iter_at}
 use Rattle.vtable.specs.declared.iter.EntryIter.{EntryIter}
 use Rattle.vtable.specs.declared.entry.TableEntry.{TableEntry}
 use Rattle.vtable.specs.declared.shape.Shape.{Shape}
+use Rattle.vtable.specs.declared.shape.Word.{Word}
+use Rattle.vtable.specs.declared.shape.Word.TheVariants.{Pointer as pointer}
 use Rattle.entry_tables.specs.declared.list.Listed.{Listed}
 use Rattle.entry_tables.specs.declared.list.Stop.{Stop}
 use Rattle.entry_tables.specs.declared.window.Window.{Window}
@@ -160,12 +162,12 @@ below_word a x more last e h =
     omega arith
 
 -- an entry's words are those that its value holds
-words_are : (numbered : Bool) (more a : ℕ) (h : List ℕ) → more ≤ 2
-    → words_in more (table_entry (record { address = a; words = words_from (first numbered ∷ replicate more pointer) a 0 h })) ≡ words_from (first numbered ∷ replicate more pointer) a 0 h
-words_are numbered zero a h m = refl
-words_are numbered (suc zero) a h m = refl
-words_are numbered (suc (suc zero)) a h m = refl
-words_are numbered (suc (suc (suc n))) a h m = absurd (omega arith)
+words_are : (w : Word) (more a : ℕ) (h : List ℕ) → more ≤ 2
+    → words_in more (table_entry (record { address = a; words = words_from (w ∷ replicate more pointer) a 0 h })) ≡ words_from (w ∷ replicate more pointer) a 0 h
+words_are w zero a h m = refl
+words_are w (suc zero) a h m = refl
+words_are w (suc (suc zero)) a h m = refl
+words_are w (suc (suc (suc n))) a h m = absurd (omega arith)
 
 -- ---- its numbers in the list
 
@@ -206,7 +208,7 @@ pub put_words : (b b' bytes s : List ℕ) (at a n o : ℕ) (x : Shape) (e : Tabl
 put_words b b' bytes s at a n o x e small en eb ee ep =
     let len : o + n - o ≡ 4 + 4 * x.more = omega arith in
     let same : bytes ≡ take (4 + 4 * x.more) (drop o s) = ep ∙ ap (λ (j : ℕ). take j (drop o s)) len in
-    eb ∙ ap (λ (y : TableEntry). pasted b at (y.address ∷ words_in x.more y)) ee ∙ ap (λ (ws : List ℕ). pasted b at (a ∷ ws)) (words_are x.numbered x.more a bytes small)
+    eb ∙ ap (λ (y : TableEntry). pasted b at (y.address ∷ words_in x.more y)) ee ∙ ap (λ (ws : List ℕ). pasted b at (a ∷ ws)) (words_are x.first x.more a bytes small)
     ∙ ap (λ (h : List ℕ). pasted b at (entry_numbers (entry_of (shape_layout x 0) a h))) same
 
 -- ---- the entries of a run

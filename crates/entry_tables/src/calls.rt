@@ -7,7 +7,7 @@ use crate::list::{Listed, list_entries};
 use field::FieldRecordIter;
 use refusal::Refusal;
 use runtime::SwiftRuntime;
-use vtable::{EntryIter, EntryKind, Shape};
+use vtable::{EntryIter, EntryKind, Shape, Word};
 
 // A table by the shape of its entries, and how many bytes it is from one entry to the next.
 fn table(
@@ -25,8 +25,7 @@ fn table(
     Ok(list_entries(&rt, cursor, shape, stride, buffer))
 }
 
-// A table whose entries lie one after the other. The four calls below differ from it in their kind alone: docs/CALLS.md has each by its name, and so
-// have the calls for C.
+// A table whose entries lie one after the other.
 fn packed_table(
     image: &[u8],
     segments: &[u64],
@@ -40,7 +39,8 @@ fn packed_table(
     table(image, segments, cursor, shape, shape.size(), buffer)
 }
 
-// Three numbers for each method: its address, its flags, its implementation's address.
+// Three numbers for each method: its address, its flags, its implementation's address. This call and the next three differ in the kind alone:
+// docs/CALLS.md has each by its name, and so have the calls for C.
 pub fn methods(
     image: &[u8],
     segments: &[u64],
@@ -96,7 +96,7 @@ pub fn prespecializations(
 
 // A record's flags, and the addresses of two names.
 const RECORD: Shape = Shape {
-    numbered: true,
+    first: Word::Number,
     more: 2,
 };
 

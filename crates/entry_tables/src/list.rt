@@ -125,7 +125,7 @@ pub fn stopped(k: u32, count: u32) -> Stop
     if k < count { Stop::Full } else { Stop::Ended }
 }
 
-// Run after run.
+// Run after run. No `for`: a turn lists as many entries as a run has.
 fn list_runs(
     rt: &SwiftRuntime,
     cursor: EntryIter,

@@ -13,7 +13,7 @@ pub struct Window {
 }
 
 // How far after an entry others lie: no further than the bytes that are mapped, those that the image has, and those below 2^64.
-fn least(mapped: u64, left: u64, below: u64) -> u64
+fn reach(mapped: u64, left: u64, below: u64) -> u64
     ensures { result ≡ min mapped (min left below) }
 {
     mapped.min(left.min(below))
@@ -46,11 +46,11 @@ fn window_of_all(rt: &SwiftRuntime, address: u64, size: usize) -> Option<Window>
         return None;
     }
     let below = u64::MAX - (size - 4) as u64 - address;
-    let last = least(mapping.size - before - 1, (left - size) as u64, below);
+    let last = reach(mapping.size - before - 1, (left - size) as u64, below);
     Some(Window { place, last })
 }
 
-// The window of entry `k`. The window of a single entry takes less time than that of all.
+// The window of entry `k`. `alone` chooses one of two calls: two functions would both repeat the lines before it. The window of a single entry takes less time than that of all.
 pub fn window_at(
     rt: &SwiftRuntime,
     base_va: u64,

@@ -3,7 +3,9 @@
 use Rattle.std.specs.Prelude.{ℕ, ◌+◌, ◌^◌, cond, List, [], ◌∷◌, nat_le, Option, Some, None, option_map}
 use Rattle.runtime.specs.Reads.{Reads, bind}
 use Rattle.vtable.specs.declared.iter.EntryIter.{EntryIter}
-use Rattle.vtable.specs.Entries.{Word, number, pointer, Layout, Entry, entry, Step, entry_step}
+use Rattle.vtable.specs.declared.shape.Word.{Word}
+use Rattle.vtable.specs.declared.shape.Word.TheVariants.{Number as number, Pointer as pointer}
+use Rattle.vtable.specs.Entries.{Layout, Entry, entry, Step, entry_step}
 use Rattle.field.specs.declared.iter.FieldDescriptor.{FieldDescriptor}
 use Rattle.field.specs.declared.record.FieldRecord.{FieldRecord}
 use Rattle.field.specs.declared.record.FieldRecordIter.{FieldRecordIter}

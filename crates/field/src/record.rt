@@ -32,7 +32,8 @@ pub struct FieldRecordIter {
     pub cursor: u32,
 }
 
-// What a step gives: a record, or that there is one that cannot be read, each with the walk from there on; or the end.
+// What a step gives: a record, or that there is one that cannot be read, each with the walk from there on; or the end. No Option: a caller may go
+// on past a record that cannot be read.
 #[derive(Clone, Copy)]
 pub enum FieldRecordStep {
     Record {

@@ -1,7 +1,7 @@
 -- The entries of a table: docs/SPECIFICATION.md, "Entries"; Metadata.h, `TargetMethodDescriptor`, `TargetMethodOverrideDescriptor`,
 -- `TargetMethodDefaultOverrideDescriptor`, and the canonical specialized metadata. One definition covers them all, over what the
 -- words of an entry are.
-use Rattle.std.specs.Prelude.{ℕ, zero, suc, ◌+◌, ◌-◌, ◌*◌, ◌^◌, Bool, true, false, cond, List, [], ◌∷◌, length, replicate, nat_le, nat_lt, slice_index, Option, Some, None}
+use Rattle.std.specs.Prelude.{ℕ, zero, suc, ◌+◌, ◌-◌, ◌*◌, ◌^◌, cond, List, [], ◌∷◌, length, replicate, nat_le, nat_lt, slice_index, Option, Some, None}
 use Rattle.std.specs.Borrow.{Bor}
 use Rattle.util.specs.LittleEndian.{unsigned_in, signed_in}
 use Rattle.util.specs.Pointer.{relative_address}
@@ -10,14 +10,11 @@ use Rattle.runtime.specs.Bytes.{bytes_read}
 use Rattle.vtable.specs.declared.entry.EntryKind.{EntryKind}
 use Rattle.vtable.specs.declared.entry.TableEntry.{TableEntry}
 use Rattle.vtable.specs.declared.shape.Shape.{Shape}
+pub use Rattle.vtable.specs.declared.shape.Word.{Word}
+pub use Rattle.vtable.specs.declared.shape.Word.TheVariants.{Number as number, Pointer as pointer}
 use Rattle.vtable.specs.declared.iter.EntryIter.{EntryIter}
 use Rattle.vtable.specs.declared.iter.EntryStep.{EntryStep}
 use Rattle.vtable.specs.declared.walk.MethodWalk.{MethodWalk}
-
--- a word of four bytes: a number, or the offset of a relative pointer that may be null
-pub data Word : Type 0 where
-  number : Word
-  pointer : Word
 
 -- what the words of an entry are, and how many bytes it is from its start to the next entry's
 pub record Layout : Type 0 where
@@ -36,13 +33,9 @@ words_of EntryKind.Override = pointer ∷ pointer ∷ pointer ∷ []
 words_of EntryKind.DefaultOverride = pointer ∷ pointer ∷ []
 words_of EntryKind.Prespecialization = pointer ∷ []
 
--- a first word that is a number or a pointer, and the pointers after it
-abbrev pub first : Bool → Word
-first true = number
-first false = pointer
-
+-- a first word, and the pointers after it
 abbrev pub shape_words : Shape → List Word
-shape_words s = first s.numbered ∷ replicate s.more pointer
+shape_words s = s.first ∷ replicate s.more pointer
 
 abbrev pub kind_layout : EntryKind → Layout
 kind_layout k = packed (words_of k)

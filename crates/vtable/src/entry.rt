@@ -2,7 +2,7 @@ ghost use Rattle.std.specs.Prelude.{◌≡◌, ◌+◌, ◌*◌, ◌%◌, ◌^�
 ghost use Rattle.runtime.specs.Runtime.{tried};
 ghost use Rattle.vtable.specs.Entries.{shape_words, words_of, kind_layout, entry_size, entry_bytes};
 
-use crate::shape::Shape;
+use crate::shape::{Shape, Word};
 use runtime::SwiftRuntime;
 
 // The kinds of tables.
@@ -19,13 +19,13 @@ impl EntryKind {
     pub fn shape(self) -> Shape
         ensures { shape_words result ≡ words_of self }
     {
-        let (numbered, more) = match self {
-            EntryKind::Method => (true, 1),
-            EntryKind::Override => (false, 2),
-            EntryKind::DefaultOverride => (false, 1),
-            EntryKind::Prespecialization => (false, 0),
+        let (first, more) = match self {
+            EntryKind::Method => (Word::Number, 1),
+            EntryKind::Override => (Word::Pointer, 2),
+            EntryKind::DefaultOverride => (Word::Pointer, 1),
+            EntryKind::Prespecialization => (Word::Pointer, 0),
         };
-        Shape { numbered, more }
+        Shape { first, more }
     }
 
     // How many bytes an entry has.

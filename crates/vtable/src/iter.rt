@@ -14,7 +14,8 @@ pub struct EntryIter {
     pub next: u32,
 }
 
-// What a step gives: an entry, or that there is one that cannot be read, each with the walk from there on; or the end.
+// What a step gives: an entry, or that there is one that cannot be read, each with the walk from there on; or the end. No Option: a caller may go
+// on past an entry that cannot be read.
 #[derive(Clone, Copy)]
 pub enum EntryStep {
     Entry { entry: TableEntry, next: EntryIter },

@@ -9,5 +9,5 @@ mod walk;
 
 pub use entry::{EntryKind, TableEntry, entry_address, entry_bytes};
 pub use iter::{EntryIter, EntryStep};
-pub use shape::Shape;
+pub use shape::{Shape, Word};
 pub use walk::{MethodWalk, method_step, method_walk, walk_step};

@@ -3,10 +3,17 @@ ghost use Rattle.std.specs.Prelude.{◌≤◌};
 
 use crate::entry::TableEntry;
 
-// The first word is a number or a pointer, and at most two pointers follow it.
+// A word of four bytes: a number, or the offset of a relative pointer that may be null.
+#[derive(Clone, Copy)]
+pub enum Word {
+    Number,
+    Pointer,
+}
+
+// The first word is of either kind, and at most two pointers follow it.
 #[derive(Clone, Copy)]
 pub struct Shape {
-    pub numbered: bool,
+    pub first: Word,
     pub more: u32,
     pub ghost small: { more ≤ 2 },
 }
@@ -27,10 +34,9 @@ impl Shape {
         requires { address + 4 * self.more < 2 ^ 64 }
         ensures { result ≡ table_entry (entry_of (packed (shape_words self)) address bytes.now) }
     {
-        let first = if self.numbered {
-            util::u32_at(bytes, 0) as u64
-        } else {
-            util::address_in(bytes, 0, address)
+        let first = match self.first {
+            Word::Number => util::u32_at(bytes, 0) as u64,
+            Word::Pointer => util::address_in(bytes, 0, address),
         };
         let second = if self.more < 1 {
             0

@@ -1,5 +1,5 @@
-// A walk over methods as one value that carries the image, the segments and the next entry's number. The step on slices and numbers does
-// the work; each function here makes such a value or takes it apart.
+// A walk over methods as one value that carries the image, the segments and the next entry's number, as docs/DECISIONS.md asks for (79). The
+// step on slices and numbers does the work; each function here makes such a value or takes it apart.
 ghost use Rattle.std.specs.Prelude.{◌≡◌};
 ghost use Rattle.vtable.specs.Entries.{method, entry_step, step_answer, method_walk_from};
 
@@ -36,7 +36,7 @@ pub fn walk_step<'a, 'b>(w: MethodWalk<'a, 'b>) -> EntryStep
         .next(&SwiftRuntime::new(w.image, w.segments), EntryKind::Method)
 }
 
-// The same on slices and numbers, with the value in between: a caller of this needs no proof by hand.
+// The same on slices and numbers, with the value in between: what the calls for C go through.
 pub fn method_step(cursor: EntryIter, image: &[u8], segments: &[u64]) -> EntryStep
     ensures { result ≡ step_answer (entry_step image.now segments.now method cursor) }
 {

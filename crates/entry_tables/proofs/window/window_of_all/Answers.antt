@@ -28,4 +28,4 @@ pub overflow_sub-mapping-2 : goal.overflow_sub-mapping-2
 overflow_sub-mapping-2 c = let found = c.in_ok-mapping.ensures in omega (arith, found.1.from, found.1.to)
 
 pub returns : goal.returns
-returns c = opens_least _ _ _ _ c.requires.1 _ c.in_ok-mapping.ensures _ c.if-image-from.false c.if-image-from-2.false c.if-left-size.false c.least-last.ensures
+returns c = opens_least _ _ _ _ c.requires.1 _ c.in_ok-mapping.ensures _ c.if-image-from.false c.if-image-from-2.false c.if-left-size.false c.reach-last.ensures
