@@ -7,13 +7,16 @@ use crate::{
 };
 use context::FieldDescriptorKind;
 use field::{FieldDescriptor, FieldIter, FieldRecord, FieldRecordStep, FieldStep};
-use runtime::FieldName;
+use runtime::{FieldName, SwiftRuntime, SwiftSection};
 use std::io::Stdout;
+use util::Place;
 
 // The kind's number. The call for C adds 256 to the number of a kind that has no name.
 fn kind_number(kind: FieldDescriptorKind) -> u64 {
-    let number = c_numbers::field_kind_number(kind);
-    if number < 256 { number } else { number - 256 }
+    match kind {
+        FieldDescriptorKind::Other(number) => u64::from(number),
+        _ => c_numbers::field_kind_number(kind),
+    }
 }
 
 fn unreadable(out: Stdout) {
@@ -22,65 +25,45 @@ fn unreadable(out: Stdout) {
 
 // Records.
 
-fn name_line(
-    out: Stdout,
-    image: &[u8],
-    segments: &[u64],
-    strings: &[u8],
-    strings_va: u64,
-    record: FieldRecord,
-) {
+// Which section the name lies in, and where.
+fn name_place(out: Stdout, section: u64, place: Place) {
+    three(out, section, place.start as u64, place.size as u64);
+}
+
+fn name_line(out: Stdout, rt: &SwiftRuntime, strings: SwiftSection, record: FieldRecord) {
     word(out, b"name");
-    match field::field_name(image, segments, strings, strings_va, record) {
-        FieldName::Image { place, length } => three(out, 1, place as u64, length as u64),
-        FieldName::Strings { place, length } => three(out, 2, place as u64, length as u64),
-        FieldName::Nothing => nothing(out),
+    match field::field_name(rt, strings, record) {
+        Some(FieldName::Image(place)) => name_place(out, 1, place),
+        Some(FieldName::Strings(place)) => name_place(out, 2, place),
+        None => nothing(out),
     }
 }
 
-fn record_lines(
-    out: Stdout,
-    image: &[u8],
-    segments: &[u64],
-    strings: &[u8],
-    strings_va: u64,
-    record: FieldRecord,
-) {
+fn record_lines(out: Stdout, rt: &SwiftRuntime, strings: SwiftSection, record: FieldRecord) {
     word(out, b"record");
-    one(out, record.flags as u64);
-    text_line(
-        out,
-        b"type",
-        field::record_type_name(image, segments, record),
-    );
-    name_line(out, image, segments, strings, strings_va, record);
+    one(out, u64::from(record.flags));
+    text_line(out, b"type", field::record_type_name(rt, record));
+    name_line(out, rt, strings, record);
 }
 
-fn records(
-    out: Stdout,
-    image: &[u8],
-    segments: &[u64],
-    strings: &[u8],
-    strings_va: u64,
-    descriptor: FieldDescriptor,
-) {
+fn records(out: Stdout, rt: &SwiftRuntime, strings: SwiftSection, descriptor: FieldDescriptor) {
     let mut walk = descriptor.records();
-    let mapping = walk.locate(segments);
+    let near = SwiftRuntime {
+        image: rt.image,
+        segments: rt.segments,
+        mapping: walk.locate(rt.segments),
+    };
     for _ in 0..SHOWN {
-        let step = walk.next(image, segments, mapping);
-        match step {
+        match walk.next(&near) {
             FieldRecordStep::Record { record, next } => {
-                record_lines(out, image, segments, strings, strings_va, record);
+                record_lines(out, rt, strings, record);
                 walk = next;
             }
             FieldRecordStep::Unreadable { next } => {
                 unreadable(out);
                 walk = next;
             }
-            FieldRecordStep::End => {
-                done(out);
-                return;
-            }
+            FieldRecordStep::End => return done(out),
         }
     }
     after_shown(out, descriptor.num_fields);
@@ -89,37 +72,27 @@ fn records(
 // Descriptors.
 
 fn descriptor_line(out: Stdout, descriptor: FieldDescriptor) {
-    let kind = descriptor.kind;
     word(out, b"descriptor");
     number_field(out, descriptor.address);
     three(
         out,
-        kind_number(kind),
-        descriptor.field_record_size as u64,
-        descriptor.num_fields as u64,
+        kind_number(descriptor.kind),
+        u64::from(descriptor.field_record_size),
+        u64::from(descriptor.num_fields),
     );
 }
 
 fn descriptor_lines(
     out: Stdout,
-    image: &[u8],
-    segments: &[u64],
-    strings: &[u8],
-    strings_va: u64,
+    rt: &SwiftRuntime,
+    strings: SwiftSection,
     descriptor: FieldDescriptor,
 ) {
     descriptor_line(out, descriptor);
-    text_line(
-        out,
-        b"type",
-        field::mangled_type_name(image, segments, descriptor),
-    );
-    text_line(
-        out,
-        b"superclass",
-        field::superclass_mangled_name(image, segments, descriptor),
-    );
-    records(out, image, segments, strings, strings_va, descriptor);
+    text_line(out, b"type", field::mangled_type_name(rt, descriptor));
+    let superclass = field::superclass_mangled_name(rt, descriptor);
+    text_line(out, b"superclass", superclass);
+    records(out, rt, strings, descriptor);
 }
 
 fn end_line(out: Stdout) {
@@ -129,31 +102,22 @@ fn end_line(out: Stdout) {
 // The descriptors up to the end of the walk, from there on.
 fn walk_fields(
     out: Stdout,
-    image: &[u8],
-    segments: &[u64],
-    fields: &[u8],
-    vmaddr: u64,
-    strings: &[u8],
-    strings_va: u64,
+    rt: &SwiftRuntime,
+    fields: SwiftSection,
+    strings: SwiftSection,
     from: FieldIter,
 ) -> FieldIter
-    ensures { result.at ≡ walk_end fields.now vmaddr 4096 from.at }
+    ensures { result.at ≡ walk_end fields.entry.body.now fields.entry.vmaddr 4096 from.at }
 {
     let mut walk = from;
-    let mut given: u32 = 0;
-    while given < 4096 {
-        let step = walk.next(fields, vmaddr);
-        match step {
-            FieldStep::Descriptor { descriptor, next } => {
-                descriptor_lines(out, image, segments, strings, strings_va, descriptor);
-                walk = next;
-                given += 1;
-            }
-            FieldStep::End { next } => {
-                end_line(out);
-                return next;
-            }
-        }
+    for _ in 0..4096u32 {
+        let FieldStep { found, next } = walk.next(fields);
+        let Some(descriptor) = found else {
+            end_line(out);
+            return next;
+        };
+        descriptor_lines(out, rt, strings, descriptor);
+        walk = next;
     }
     bad_line(out);
     walk
@@ -163,27 +127,12 @@ fn walk_fields(
 // is.
 pub fn all_fields(
     out: Stdout,
-    image: &[u8],
-    segments: &[u64],
-    fields: &[u8],
-    vmaddr: u64,
-    strings: &[u8],
-    strings_va: u64,
+    rt: &SwiftRuntime,
+    fields: SwiftSection,
+    strings: SwiftSection,
 ) -> usize
-    ensures { result ≡ walk_end fields.now vmaddr 4096 (walk_end fields.now vmaddr 4096 0) }
+    ensures { result ≡ walk_end fields.entry.body.now fields.entry.vmaddr 4096 (walk_end fields.entry.body.now fields.entry.vmaddr 4096 0) }
 {
-    let stopped = walk_fields(
-        out,
-        image,
-        segments,
-        fields,
-        vmaddr,
-        strings,
-        strings_va,
-        FieldIter::new(),
-    );
-    let again = walk_fields(
-        out, image, segments, fields, vmaddr, strings, strings_va, stopped,
-    );
-    again.at
+    let stopped = walk_fields(out, rt, fields, strings, FieldIter::new());
+    walk_fields(out, rt, fields, strings, stopped).at
 }

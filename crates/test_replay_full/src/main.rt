@@ -42,9 +42,9 @@ mod rows;
 use crate::fields::all_fields;
 use crate::rows::all_rows;
 use refusal::Refusal;
+use runtime::{SwiftRuntime, SwiftSection};
 use std::io::Stdout;
-use test_lines::Count;
-use util::Text;
+use util::Place;
 
 // Parts of lines, here for all modules.
 
@@ -92,11 +92,11 @@ fn refused(out: Stdout, refusal: Refusal) {
 }
 
 // A text of the image.
-fn text_line(out: Stdout, name: &[u8], text: Text) {
+fn text_line(out: Stdout, name: &[u8], text: Option<Place>) {
     word(out, name);
     match text {
-        Text::At { place, length } => two(out, place as u64, length as u64),
-        Text::Nothing => nothing(out),
+        Some(place) => two(out, place.start as u64, place.size as u64),
+        None => nothing(out),
     }
 }
 
@@ -121,10 +121,10 @@ fn bad_line(out: Stdout) {
 }
 
 // How many bytes or numbers a field has; if it cannot be read, 0, and a bad line.
-fn count(out: Stdout, read: Count) -> usize {
+fn count(out: Stdout, read: Option<usize>) -> usize {
     match read {
-        Count::Of(n) => n,
-        Count::Bad => {
+        Some(n) => n,
+        None => {
             bad_line(out);
             0
         }
@@ -160,17 +160,20 @@ fn run_line(out: Stdout, line: &[u8], types_va: u64, fields_va: u64, strings_va:
     all_rows(out, whole, list, util::part(&types, 0, slots), types_va);
     all_fields(
         out,
-        whole,
-        list,
-        util::part(&fields, 0, headers),
-        fields_va,
-        util::part(&strings, 0, names),
-        strings_va,
+        &SwiftRuntime::new(whole, list),
+        SwiftSection {
+            body: util::part(&fields, 0, headers),
+            vmaddr: fields_va,
+        },
+        SwiftSection {
+            body: util::part(&strings, 0, names),
+            vmaddr: strings_va,
+        },
     );
 }
 
 fn answer_line(out: Stdout, line: &[u8]) {
-    if !test_lines::same(test_lines::field(line, 0), b"input") {
+    if test_lines::field(line, 0) != b"input".as_slice() {
         bad_line(out);
         return;
     }
@@ -183,10 +186,10 @@ fn answer_line(out: Stdout, line: &[u8]) {
 }
 
 fn answer_lines(out: Stdout, input: &[u8]) {
-    let mut at = 0;
-    while at < input.len() {
-        answer_line(out, test_lines::line_at(input, at));
-        at = test_lines::after_line(input, at);
+    for line in input.split(|b| *b == b'\n') {
+        if !line.is_empty() {
+            answer_line(out, line);
+        }
     }
 }
 

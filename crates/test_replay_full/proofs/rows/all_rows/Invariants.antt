@@ -1,10 +1,7 @@
-use Rattle.std.proofs.Common.{◌-◌, ◌≤◌, ◌<◌}
+use Rattle.std.proofs.Common.{◌<◌}
 use Rattle.test_replay_full.proofs.ShownLaws.{Showing, Whole}
 use Rattle.test_replay_full.proofs.rows.all_rows.Given as goal
 
 abbrev pub invariant-loop-rows : goal.invariant-loop-rows
 invariant-loop-rows l =
-    (l.rows ≤ 4096) × Showing l.image l.segments l.types l.vmaddr l.rows l.walk.slot × (0 < l.rows → Whole l.image l.segments l.types l.vmaddr)
-
-abbrev pub decreases-loop-rows : goal.decreases-loop-rows
-decreases-loop-rows l = 4096 - l.rows
+    Showing l.image l.segments l.types l.vmaddr l.rows l.walk.slot × (0 < l.rows → Whole l.image l.segments l.types l.vmaddr)
