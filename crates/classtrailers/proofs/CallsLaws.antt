@@ -2,14 +2,17 @@
 use Prim.Native.Nat.{ℕ, zero, suc, ◌+◌, ◌-◌, ◌*◌, ◌/◌, ◌%◌, ◌^◌, ◌≤◌, ◌<◌}
 use Rattle.std.proofs.Math.Decide.{dec_le}
 use native.Mathlib.Omega.{arith}
-use Rattle.std.proofs.Common.{add-one, pow-suc, mul-le-mul_right, sub-eq-zero_of_le, ◌∙◌, le-leb}
+use Rattle.std.proofs.Common.{ne_eqb, add-one, pow-suc, mul-le-mul_right, sub-eq-zero_of_le, ◌∙◌, le-leb}
 use Rattle.std.proofs.Math.Path.{◌≡◌, refl, sym, ap}
-use Rattle.std.specs.Prelude.{List, [], ◌∷◌, map, Bool, length, Option, Some, None, SomeIff, option_map, slice_get}
+use Rattle.std.specs.Prelude.{List, [], ◌∷◌, map, Bool, length, eqb, Option, Some, None, SomeIff, option_map, slice_get}
 use Rattle.std.proofs.Math.Bool.{true, false, cond}
 use Rattle.std.proofs.Math.ListN.{get_or-eq_default}
 use Rattle.std.specs.Bool.{then_some}
 use Rattle.std.specs.Int.Count.{ones, ones_step}
 use Rattle.std.proofs.lemmas.Bool.{lt-leb}
+use Rattle.context.specs.TypeContext.{initialization_of}
+use Rattle.context.specs.declared.types.MetadataInitializationKind.{MetadataInitializationKind}
+use Rattle.context.specs.declared.types.MetadataInitializationKind.TheVariants.{Singleton, Foreign}
 use Rattle.runtime.specs.Reads.{done, run, and_then}
 use Rattle.runtime.proofs.ReadsLaws.{run_bind}
 use Rattle.runtime.specs.Bytes.{bytes_read}
@@ -78,6 +81,47 @@ module _ (k l : BlockKind) (e : k ≡ l) where
 no_row : (n : ℕ) (t : Trailing) → 11 ≤ n → false ≡ (row_at n).there t
 unfolding row_at
 no_row n t h = rw (get_or-eq_default block_table (plain BlockKind.Generic (λ _. false) 0) h)
+
+-- ---- how a metadata is initialized
+
+module _ (n : ℕ) (k : MetadataInitializationKind) (e : k ≡ initialization_of n) where
+  -- by the tests of the number
+  abbrev tested : (a b c : Bool) → MetadataInitializationKind
+  tested a b c = cond a MetadataInitializationKind.None (cond b Singleton (cond c Foreign MetadataInitializationKind.Other))
+
+  pub is_foreign : k ≡ Foreign → true ≡ eqb n 2
+  unfolding initialization_of
+  is_foreign f = go (eqb n 0) (eqb n 1) (eqb n 2) e
+    where
+      go : (a b c : Bool) → k ≡ tested a b c → true ≡ c
+      go false false true q = refl
+      go true b c q = let z : ◌≡◌ {A = ℕ} 0 1 = cc in absurd (omega arith)
+      go false true c q = let z : ◌≡◌ {A = ℕ} 0 1 = cc in absurd (omega arith)
+      go false false false q = let z : ◌≡◌ {A = ℕ} 0 1 = cc in absurd (omega arith)
+
+  pub is_singleton : k ≡ Singleton → true ≡ eqb n 1
+  unfolding initialization_of
+  is_singleton f = go (eqb n 0) (eqb n 1) (eqb n 2) e
+    where
+      go : (a b c : Bool) → k ≡ tested a b c → true ≡ b
+      go false true c q = refl
+      go true b c q = let z : ◌≡◌ {A = ℕ} 0 1 = cc in absurd (omega arith)
+      go false false true q = let z : ◌≡◌ {A = ℕ} 0 1 = cc in absurd (omega arith)
+      go false false false q = let z : ◌≡◌ {A = ℕ} 0 1 = cc in absurd (omega arith)
+
+  pub not_foreign : (k ≡ Foreign → ⊥) → false ≡ eqb n 2
+  unfolding initialization_of
+  not_foreign f = sym (ne_eqb n 2 (λ q. f (at_two q)))
+    where
+      at_two : n ≡ 2 → k ≡ Foreign
+      at_two q = rw q at e
+
+  pub not_singleton : (k ≡ Singleton → ⊥) → false ≡ eqb n 1
+  unfolding initialization_of
+  not_singleton f = sym (ne_eqb n 1 (λ q. f (at_one q)))
+    where
+      at_one : n ≡ 1 → k ≡ Singleton
+      at_one q = rw q at e
 
 -- ---- the kind with a number
 

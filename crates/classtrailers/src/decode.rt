@@ -15,6 +15,7 @@ const DEFAULT_OVERRIDE: u64 = 8;
 const PRESPECIALIZATION: u64 = 8;
 
 // Where something ends, unless that reaches 2^64.
+#[tactic(auto, unfolding(crate::specs::Blocks::below))]
 fn end_of(at: u64, size: u64) -> Option<u64>
     ensures { result ≡ below (at + size) }
 {
@@ -122,7 +123,8 @@ fn invertible_at(rt: &SwiftRuntime, at: u64) -> Option<Ended>
     })
 }
 
-// The block of a kind at an address. The mapping is tried before the segments; a true mapping changes no answer.
+// The block of a kind at an address. The kind chooses the reader: a reader's constants stand in its arm, as they would in a table of kinds.
+// The mapping is tried before the segments; a true mapping changes no answer.
 pub fn block_at(rt: &SwiftRuntime, kind: BlockKind, at: u64) -> Option<Ended>
     ensures { result ≡ run rt.now.image.now (tried rt.now) (block_at (row_at (row_number kind)) at) }
 {
@@ -134,9 +136,9 @@ pub fn block_at(rt: &SwiftRuntime, kind: BlockKind, at: u64) -> Option<Ended>
         BlockKind::VTable => vtable_at(rt, at),
         BlockKind::OverrideTable => entries_at(rt, kind, at, OVERRIDE),
         BlockKind::ObjcResilientClassStub => Some(plain_at(kind, at, 4)),
-        BlockKind::Prespecializations => { entries_at(rt, kind, at, PRESPECIALIZATION) }
+        BlockKind::Prespecializations => entries_at(rt, kind, at, PRESPECIALIZATION),
         BlockKind::InvertibleProtocolSet => invertible_at(rt, at),
         BlockKind::SingletonMetadataPointer => Some(plain_at(kind, at, 4)),
-        BlockKind::DefaultOverrideTable => { entries_at(rt, kind, at, DEFAULT_OVERRIDE) }
+        BlockKind::DefaultOverrideTable => entries_at(rt, kind, at, DEFAULT_OVERRIDE),
     }
 }

@@ -3,9 +3,10 @@ ghost use Rattle.std.specs.Prelude.{◌≡◌};
 ghost use Rattle.classtrailers.specs.Blocks.{row_at, row_number, kind_numbered, kind_there};
 
 use crate::block::BlockKind;
-use context::ContextDescriptorFlags;
+use context::{ContextDescriptorFlags, MetadataInitializationKind};
 
-// What decides it: the flags word, whether it is a class, and the extra class flags (0 if there are none).
+// What decides it: the flags word, whether it is a class, and the extra class flags (0 if there are none). A caller in C hands the three in
+// by themselves and gets them back as they were, so none of them is made from another.
 #[derive(Clone, Copy)]
 pub struct Trailing {
     pub flags: u32,
@@ -36,6 +37,7 @@ pub fn number_of(kind: BlockKind) -> u32
 }
 
 // The kind with a number.
+#[tactic(auto, unfolding(crate::specs::Blocks::kind_numbered))]
 pub fn kind_numbered(number: u32) -> Option<BlockKind>
     ensures { result ≡ kind_numbered number }
 {
@@ -52,8 +54,14 @@ pub fn has_block(trailing: Trailing, kind: BlockKind) -> bool
     match kind {
         BlockKind::Generic => flags.is_generic(),
         BlockKind::ResilientSuperclass => class & types.class_has_resilient_superclass(),
-        BlockKind::ForeignMetadataInit => types.0 % 4 == 2,
-        BlockKind::SingletonMetadataInit => types.0 % 4 == 1,
+        BlockKind::ForeignMetadataInit => matches!(
+            types.metadata_initialization(),
+            MetadataInitializationKind::Foreign
+        ),
+        BlockKind::SingletonMetadataInit => matches!(
+            types.metadata_initialization(),
+            MetadataInitializationKind::Singleton
+        ),
         BlockKind::VTable => class & types.class_has_vtable(),
         BlockKind::OverrideTable => class & types.class_has_override_table(),
         BlockKind::ObjcResilientClassStub => {
@@ -67,6 +75,7 @@ pub fn has_block(trailing: Trailing, kind: BlockKind) -> bool
 }
 
 // The kind with a number, if there is a block of it.
+#[tactic(auto, using(crate::proofs::CallsLaws::kind_kept, crate::proofs::CallsLaws::no_kind_there))]
 pub fn kind_there(trailing: Trailing, number: u32) -> Option<BlockKind>
     ensures { result ≡ kind_there trailing number }
 {

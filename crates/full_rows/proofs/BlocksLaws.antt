@@ -84,6 +84,23 @@ module _ (k : BlockKind) (r o n a : ℕ) (e : r ≡ row_number k) where
   pub other_numbers : (r ≡ 4 → ⊥) → n ∷ (a ∷ (0 ∷ [])) ≡ table_recorded k o n a
   other_numbers f = simp (ne_eqb (row_number k) 4 (λ q. f (e ∙ q)))
 
+-- the same by the kind
+pub table_of_vtable : (k : BlockKind) (o n a : ℕ) → k ≡ BlockKind.VTable → o ∷ (n ∷ (a ∷ [])) ≡ table_recorded k o n a
+table_of_vtable k o n a e = rw e
+
+pub table_of_other : (k : BlockKind) (o n a : ℕ) → (k ≡ BlockKind.VTable → ⊥) → n ∷ (a ∷ (0 ∷ [])) ≡ table_recorded k o n a
+table_of_other BlockKind.VTable o n a e = absurd (e refl)
+table_of_other BlockKind.Generic o n a e = refl
+table_of_other BlockKind.ResilientSuperclass o n a e = refl
+table_of_other BlockKind.ForeignMetadataInit o n a e = refl
+table_of_other BlockKind.SingletonMetadataInit o n a e = refl
+table_of_other BlockKind.OverrideTable o n a e = refl
+table_of_other BlockKind.ObjcResilientClassStub o n a e = refl
+table_of_other BlockKind.Prespecializations o n a e = refl
+table_of_other BlockKind.InvertibleProtocolSet o n a e = refl
+table_of_other BlockKind.SingletonMetadataPointer o n a e = refl
+table_of_other BlockKind.DefaultOverrideTable o n a e = refl
+
 -- if nothing follows, all are 0
 pub none_follow : (image segments : List ℕ) → zeros 44 ≡ block_fours image segments None
 unfolding block_fours

@@ -15,7 +15,7 @@ use typedescriptor::Row;
 // How many numbers a record has.
 pub const RECORD: usize = 58;
 
-// How many records were written, the slot to go on from, and whether all rows are given.
+// How many records were written, the slot to go on from, and whether all rows are given: a caller in C is told the slot also if they are.
 #[derive(Clone, Copy)]
 pub struct Given {
     pub records: usize,
@@ -123,9 +123,6 @@ const KINDS: u32 = 11;
 // The first number of a block that is present.
 const THERE: u64 = 1;
 
-// The number of the kind that has three numbers.
-const VTABLE: u32 = 4;
-
 // The three numbers of what is recorded of a block, 0 for those that its kind does not have.
 #[derive(Clone, Copy)]
 pub struct Recorded {
@@ -138,18 +135,17 @@ pub struct Recorded {
 fn table_numbers(kind: BlockKind, offset: u32, count: u32, entries_va: u64) -> Recorded
     ensures { recorded_of result ≡ table_recorded kind offset count entries_va }
 {
-    if classtrailers::number_of(kind) == VTABLE {
-        Recorded {
+    match kind {
+        BlockKind::VTable => Recorded {
             first: offset as u64,
             second: count as u64,
             third: entries_va,
-        }
-    } else {
-        Recorded {
+        },
+        _ => Recorded {
             first: count as u64,
             second: entries_va,
             third: 0,
-        }
+        },
     }
 }
 

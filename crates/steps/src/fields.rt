@@ -7,6 +7,7 @@ ghost use Rattle.runtime.specs.FieldName.{field_name, field_name_of};
 ghost use Rattle.field.specs.Fields.{field_step, field_step_of};
 ghost use Rattle.field.specs.Records.{record_step, record_step_of};
 
+use crate::bodies::text_at;
 use field::{FieldDescriptor, FieldIter, FieldRecord, FieldRecordIter, FieldRecordStep, FieldStep};
 use refusal::Refusal;
 use runtime::{FieldName, SwiftRuntime, SwiftSection};
@@ -63,9 +64,7 @@ pub fn field_type_name(
 ) -> Result<Option<Place>, Refusal>
     ensures { outcome result ≡ guarded segments.now (answered (text_place image.now segments.now «record».mangled_type_name_va)) }
 {
-    refusal::find_fault(segments)?;
-    let rt = SwiftRuntime::new(image, segments);
-    Ok(field::record_type_name(&rt, record))
+    text_at(image, segments, record.mangled_type_name_va)
 }
 
 pub fn descriptor_type_name(
@@ -75,9 +74,7 @@ pub fn descriptor_type_name(
 ) -> Result<Option<Place>, Refusal>
     ensures { outcome result ≡ guarded segments.now (answered (text_place image.now segments.now descriptor.mangled_type_name_va)) }
 {
-    refusal::find_fault(segments)?;
-    let rt = SwiftRuntime::new(image, segments);
-    Ok(field::mangled_type_name(&rt, descriptor))
+    text_at(image, segments, descriptor.mangled_type_name_va)
 }
 
 pub fn descriptor_superclass_name(
@@ -87,7 +84,5 @@ pub fn descriptor_superclass_name(
 ) -> Result<Option<Place>, Refusal>
     ensures { outcome result ≡ guarded segments.now (answered (text_place image.now segments.now descriptor.superclass_va)) }
 {
-    refusal::find_fault(segments)?;
-    let rt = SwiftRuntime::new(image, segments);
-    Ok(field::superclass_mangled_name(&rt, descriptor))
+    text_at(image, segments, descriptor.superclass_va)
 }

@@ -51,7 +51,8 @@ pub enum TypeBody {
     Enum(EnumBody),
 }
 
-// The words at 4 and 8 of a class's 24 bytes; `slot_va` is the address of the first of them.
+// The words at 4 and 8 of a class's 24 bytes; `slot_va` is the address of the first of them. Which they are is a bit of the flags, and an
+// `if` on it is the plainest way to ask for it.
 fn class_sizes(header: &[u8], slot_va: u64, resilient: bool) -> ClassSizes
     ensures { sizes_of result ≡ sizes_at resilient slot_va header.now }
 {
@@ -158,7 +159,7 @@ pub fn superclass_name(rt: &SwiftRuntime, body: Option<TypeBody>) -> Option<Plac
     ensures { result ≡ superclass_name rt.now.image.now (tried rt.now) (body_of body) }
 {
     match body? {
-        TypeBody::Class(class) => { rt.read_cstr(class.superclass_va) }
+        TypeBody::Class(class) => rt.read_cstr(class.superclass_va),
         TypeBody::Struct(_) | TypeBody::Enum(_) => None,
     }
 }

@@ -1,6 +1,9 @@
 -- `classtrailers::trailing::has_block` meets its contract: each arm is a row of the table.
 use native.Mathlib.Nat.{div-one}
-use Rattle.classtrailers.proofs.CallsLaws.{kind_has}
+use Rattle.std.proofs.Common.{ap, ◌∙◌}
+use Rattle.context.specs.Bits.{low}
+use Rattle.context.specs.TypeContext.{initialization_of}
+use Rattle.classtrailers.proofs.CallsLaws.{kind_has, is_foreign, not_foreign, is_singleton, not_singleton}
 use Rattle.classtrailers.specs.Blocks.{row_at}
 use borrow.Author.Rules.{rules}
 use Rattle.classtrailers.proofs.trailing.has_block.Goals as goal
@@ -16,13 +19,29 @@ pub returns-in-ResilientSuperclass : goal.returns-in-ResilientSuperclass
 unfolding row_at
 returns-in-ResilientSuperclass c = kind_has _ _ c.in-ResilientSuperclass.is _ _ (rw (c.class_has_resilient_superclass.ensures, c.type_flags-types.ensures))
 
-pub returns-in-ForeignMetadataInit : goal.returns-in-ForeignMetadataInit
+pub returns-in-Foreign : goal.returns-in-Foreign
 unfolding row_at
-returns-in-ForeignMetadataInit c = kind_has _ _ c.in-ForeignMetadataInit.is _ _ (rw c.type_flags-types.ensures)
+returns-in-Foreign c =
+    kind_has _ _ c.in-ForeignMetadataInit.is _ _
+    (is_foreign _ _ (c.metadata_initialization.ensures ∙ ap (λ w. initialization_of (low 2 w)) c.type_flags-types.ensures) c.in-Foreign.is)
 
-pub returns-in-SingletonMetadataInit : goal.returns-in-SingletonMetadataInit
+pub returns-in_default : goal.returns-in_default
 unfolding row_at
-returns-in-SingletonMetadataInit c = kind_has _ _ c.in-SingletonMetadataInit.is _ _ (rw c.type_flags-types.ensures)
+returns-in_default c =
+    kind_has _ _ c.in-ForeignMetadataInit.is _ _
+    (not_foreign _ _ (c.metadata_initialization.ensures ∙ ap (λ w. initialization_of (low 2 w)) c.type_flags-types.ensures) c.in_default.not-Foreign)
+
+pub returns-in-Singleton : goal.returns-in-Singleton
+unfolding row_at
+returns-in-Singleton c =
+    kind_has _ _ c.in-SingletonMetadataInit.is _ _
+    (is_singleton _ _ (c.metadata_initialization-in-SingletonMetadataInit.ensures ∙ ap (λ w. initialization_of (low 2 w)) c.type_flags-types.ensures) c.in-Singleton.is)
+
+pub returns-in_default-matches : goal.returns-in_default-matches
+unfolding row_at
+returns-in_default-matches c =
+    kind_has _ _ c.in-SingletonMetadataInit.is _ _
+    (not_singleton _ _ (c.metadata_initialization-in-SingletonMetadataInit.ensures ∙ ap (λ w. initialization_of (low 2 w)) c.type_flags-types.ensures) c.in_default-matches.not-Singleton)
 
 pub returns-in-VTable : goal.returns-in-VTable
 unfolding row_at

@@ -1,10 +1,9 @@
 -- `full_rows::rows::table_numbers` meets its contract.
-use native.Mathlib.Omega.{arith}
-use Rattle.full_rows.proofs.BlocksLaws.{vtable_numbers, other_numbers}
+use Rattle.full_rows.proofs.BlocksLaws.{table_of_vtable, table_of_other}
 use Rattle.full_rows.proofs.rows.table_numbers.Goals as goal
 
-pub returns-then-number_of-eq-VTABLE : goal.returns-then-number_of-eq-VTABLE
-returns-then-number_of-eq-VTABLE c = vtable_numbers c.args.kind _ _ _ _ c.number_of.ensures (omega arith)
+pub returns-in-VTable : goal.returns-in-VTable
+returns-in-VTable c = table_of_vtable c.args.kind _ _ _ c.in-VTable.is
 
-pub returns-else-number_of-eq-VTABLE : goal.returns-else-number_of-eq-VTABLE
-returns-else-number_of-eq-VTABLE c = other_numbers c.args.kind _ c.args.offset _ _ c.number_of.ensures (λ e. omega arith)
+pub returns-in_default : goal.returns-in_default
+returns-in_default c = table_of_other c.args.kind c.args.offset _ _ c.in_default.not-VTable
