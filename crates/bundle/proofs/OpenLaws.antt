@@ -1,5 +1,5 @@
 -- What the tests of the code, one after the other, say about the definitions of `Open`. Assumes nothing.
-use Rattle.std.specs.Prelude.{ℕ, zero, suc, ◌+◌, ◌-◌, ◌%◌, ◌≤◌, ◌<◌, ◌≡◌, refl, List, Bool, true, false, ◌||◌, cond, length, leb, ltb, eqb, Option, Some, None, IsSome}
+use Rattle.std.specs.Prelude.{ℕ, zero, suc, ◌+◌, ◌-◌, ◌≤◌, ◌<◌, ◌≡◌, refl, List, Bool, true, false, ◌||◌, cond, length, leb, ltb, eqb, Option, Some, None, IsSome}
 use Rattle.std.specs.Bool.{then_some}
 use Rattle.std.proofs.Common.{arith, ◌∙◌}
 use Rattle.std.proofs.Math.Path.{sym}
@@ -14,20 +14,6 @@ use Rattle.bundle.specs.Bundle.{body_fits, section_in}
 use Rattle.bundle.specs.Open.{size_at, kind_at, is_at, body_at, taken_at, answer, bundle_most, open_bundle, Within}
 use Rattle.bundle.specs.declared.open.Section.{Section}
 use Rattle.bundle.specs.declared.open.Taken.{Taken}
-
-module _ (kind n : ℕ) where
-  pub fits_segments : kind ≡ 2 → eqb (n % 32) 0 ≡ body_fits kind n
-  unfolding body_fits
-  fits_segments h = simp (eq-eqb kind 2 h)
-
-  module _ (other : kind ≡ 2 → ⊥) where
-    pub fits_image : kind < 3 → true ≡ body_fits kind n
-    unfolding body_fits
-    fits_image h = simp (ne_eqb kind 2 other, lt-ltb kind 3 h)
-
-    pub fits_led : 3 ≤ kind → leb 8 n ≡ body_fits kind n
-    unfolding body_fits
-    fits_led h = simp (ne_eqb kind 2 other, le-ltb kind 3 h)
 
 abbrev pub untaken : ℕ → Taken
 untaken at = record { part = place 0 0; next = at }

@@ -3,4 +3,4 @@
 
 mod open;
 
-pub use open::{BUNDLE_BYTES, Layout, Section, body_fits, open_bundle};
+pub use open::{BUNDLE_BYTES, IMAGE, Layout, SEGMENTS, Section, body_fits, open_bundle};

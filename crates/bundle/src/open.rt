@@ -10,6 +10,17 @@ use util::Place;
 // How many bytes a bundle may have.
 pub const BUNDLE_BYTES: usize = 65536;
 
+// The kinds of its records.
+pub const IMAGE: u16 = 1;
+
+pub const SEGMENTS: u16 = 2;
+
+const TYPES: u16 = 3;
+
+const FIELDS: u16 = 4;
+
+const STRINGS: u16 = 5;
+
 const NO_BYTES: Place = Place { start: 0, size: 0 };
 
 // A section: its address, and its bytes, which follow the address.
@@ -29,7 +40,8 @@ pub struct Layout {
     pub strings: Section,
 }
 
-// The body of a record, and where the next one starts.
+// The body of a record, and where the next one starts. No Option: the definitions have a record that is missing as one of no bytes, as
+// the layout has its part.
 #[derive(Clone, Copy)]
 pub struct Taken {
     pub part: Place,
@@ -37,16 +49,15 @@ pub struct Taken {
 }
 
 // Whether a body of a kind may have `length` bytes.
+#[tactic(auto, unfolding(crate::specs::Bundle::body_fits))]
 pub fn body_fits(kind: u16, length: usize) -> bool
     ensures { result ≡ body_fits kind length }
 {
-    if kind == 2 {
-        return length % 32 == 0;
+    match kind {
+        SEGMENTS => length % 32 == 0,
+        TYPES.. => length >= 8,
+        _ => true,
     }
-    if kind < 3 {
-        return true;
-    }
-    length >= 8
 }
 
 // The body of the record at an offset, if the record is whole, of this kind, and its body fits.
@@ -108,11 +119,11 @@ pub fn open_bundle(bytes: &[u8]) -> Result<Layout, Refusal>
     if BUNDLE_BYTES < bytes.len() {
         return Err(Refusal::LongBundle);
     }
-    let image = take_record(bytes, 0, 1);
-    let segments = take_record(bytes, image.next, 2);
-    let types = take_record(bytes, segments.next, 3);
-    let fields = take_record(bytes, types.next, 4);
-    let strings = take_record(bytes, fields.next, 5);
+    let image = take_record(bytes, 0, IMAGE);
+    let segments = take_record(bytes, image.next, SEGMENTS);
+    let types = take_record(bytes, segments.next, TYPES);
+    let fields = take_record(bytes, types.next, FIELDS);
+    let strings = take_record(bytes, fields.next, STRINGS);
     // No bytes at all are a bundle with nothing in it: an image is required only beside other records.
     if image.part.start == 0 && 0 < bytes.len() {
         return Err(Refusal::BrokenBundle);

@@ -12,6 +12,7 @@ pub fn accept_bundle(bytes: &[u8]) -> Result<Layout, Refusal>
     ensures { outcome result ≡ accept_bundle bytes.now }
 {
     let layout = bundle::open_bundle(bytes)?;
+    // Memory is fixed: room for the numbers of every bundle, and how many of them this one has.
     let mut numbers = [0u64; SEGMENT_NUMBERS];
     let count = segment_numbers(bytes, layout, &mut numbers);
     refusal::find_fault(&numbers[..count])?;

@@ -3,6 +3,7 @@ ghost use Rattle.std.specs.Prelude.{◌≡◌, ◌+◌, ◌≤◌, length};
 ghost use Rattle.util.specs.Buffer.{at_start};
 ghost use Rattle.bundle_parts.specs.Parts.{segment_bytes, segment_in, u64_in, listed_numbers};
 
+use crate::parts::segments_part;
 use bundle::Layout;
 use segment::Segment;
 
@@ -15,13 +16,6 @@ fn u64_in(body: &[u8], at: usize) -> u64
     ensures { result ≡ u64_in body.now at }
 {
     util::read_u64_le_at(body, at).unwrap()
-}
-
-// The bytes of all segments, 32 to a segment.
-fn segments_part(bytes: &[u8], layout: Layout) -> &[u8]
-    ensures { result.now ≡ segment_bytes bytes.now layout }
-{
-    util::part(bytes, layout.segments.start, layout.segments.size)
 }
 
 // The segment with a number; none past the last.

@@ -2,7 +2,8 @@
 ghost use Rattle.std.specs.Prelude.{◌≡◌};
 ghost use Rattle.bundle_rules.specs.Rule.{check_at, broken_rule};
 
-use bundle::{BUNDLE_BYTES, body_fits};
+use bundle::{BUNDLE_BYTES, IMAGE, SEGMENTS, body_fits};
+use std::fmt;
 
 #[derive(Clone, Copy)]
 pub enum Rule {
@@ -18,6 +19,19 @@ pub enum Rule {
     LedBody,
     // There are records, and none is an image.
     NoImage,
+}
+
+impl fmt::Display for Rule {
+    fn fmt<W: fmt::Write>(&self, f: &mut fmt::Formatter<W>) -> fmt::Result {
+        f.write_str(match self {
+            Rule::CutShort => "a record is cut short",
+            Rule::KindRange => "a kind is not 1 to 5",
+            Rule::KindOrder => "a kind does not rise",
+            Rule::SegmentBody => "a segment body is not of whole segments of 32 bytes",
+            Rule::LedBody => "a section body has no room for its address of 8 bytes",
+            Rule::NoImage => "there is no image",
+        })
+    }
 }
 
 // The first rule that a bundle breaks, and the offset of the record that breaks it; for a missing image, the end of the bytes.
@@ -56,7 +70,7 @@ fn check_record(bytes: &[u8], last: u16, at: usize) -> Result<Kept, Rule>
             next: start + size,
         });
     }
-    if kind == 2 {
+    if kind == SEGMENTS {
         Err(Rule::SegmentBody)
     } else {
         Err(Rule::LedBody)
@@ -73,10 +87,11 @@ pub fn broken_rule(bytes: &[u8]) -> Option<Broken>
     let mut image = false;
     let mut last: u16 = 0;
     let mut at: usize = 0;
+    // No `for`: the next record's place is what this one tells.
     while at < bytes.len() {
         match check_record(bytes, last, at) {
             Ok(kept) => {
-                image |= kept.kind == 1;
+                image |= kept.kind == IMAGE;
                 last = kept.kind;
                 at = kept.next;
             }

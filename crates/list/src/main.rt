@@ -15,7 +15,6 @@ mod reason;
 use bundle::{BUNDLE_BYTES, Layout};
 use bundle_lines::{BundleLineIter, LINES};
 use bundle_parts::SEGMENT_NUMBERS;
-use bundle_rules::Rule;
 use reason::say_reason;
 use std::env::{Env, FillError};
 use std::io::{IsTerminal, Read, Stderr, Stdout};
@@ -60,6 +59,7 @@ fn print_lines(out: Stdout, bytes: &[u8], segments: &[u64], first: BundleLineIte
     requires { None ≡ fault segments.now }
     ensures { result.lines ≡ length (taken lines_most bytes.now segments.now (pending_of first)).lines }
 {
+    // Memory is fixed: room for the longest line, of which each step tells the length.
     let mut line = [0u8; LINE_BYTES];
     let mut left = first;
     let mut all = Ok(());
@@ -82,6 +82,7 @@ fn print_lines(out: Stdout, bytes: &[u8], segments: &[u64], first: BundleLineIte
 fn print_listing(out: Stdout, bytes: &[u8]) -> Written
     ensures { result.lines ≡ length (printed bytes.now) }
 {
+    // Memory is fixed: room for the numbers of every bundle, and how many of them this one has.
     let mut numbers = [0u64; SEGMENT_NUMBERS];
     let first = bundle_lines::start(bytes);
     let count = first.segments(bytes, &mut numbers);
@@ -101,22 +102,10 @@ fn fail(err: Stderr, what: &[u8], error: io::Error) {
     say(err, b"\n");
 }
 
-fn rule_text(rule: Rule) -> &'static str {
-    match rule {
-        Rule::CutShort => "a record is cut short",
-        Rule::KindRange => "a kind is not 1 to 5",
-        Rule::KindOrder => "a kind does not rise",
-        Rule::SegmentBody => "a segment body is not of whole segments of 32 bytes",
-        Rule::LedBody => "a section body has no room for its address of 8 bytes",
-        Rule::NoImage => "there is no image",
-    }
-}
-
 // Why a bundle is refused with 2, and at which byte.
 fn say_broken(err: Stderr, bytes: &[u8]) {
     if let Some(broken) = bundle_rules::broken_rule(bytes) {
-        let rule = rule_text(broken.rule);
-        let _ = println!(err; "list: refused 2: {rule}, at byte {}", broken.at);
+        let _ = println!(err; "list: refused 2: {}, at byte {}", broken.rule, broken.at);
     }
 }
 
@@ -138,6 +127,7 @@ fn say_macho(err: Stderr, bytes: &[u8]) {
 
 // Which segment a bundle is refused with 9 for, and its addresses.
 fn say_wrapping(err: Stderr, bytes: &[u8], layout: Layout) {
+    // Memory is fixed: room for the numbers of every bundle, and how many of them this one has.
     let mut numbers = [0u64; SEGMENT_NUMBERS];
     let count = bundle_parts::segment_numbers(bytes, layout, &mut numbers);
     if let Some(number) = refusal::wrapping_segment(&numbers[..count]) {
@@ -186,7 +176,8 @@ fn print_input(out: Stdout, err: Stderr, space: &[u8], count: usize)
     say_refused(err, bytes);
 }
 
-// Reads to the end, or until the space is full; the count of bytes that came.
+// Reads to the end, or until the space is full; the count of bytes that came. std's `read_to_end` needs a heap, and `read_exact` says
+// nothing of an input that is shorter.
 fn read_input<R: Read>(from: &mut R, space: &mut [u8]) -> io::Result<usize>
     ensures count { Came space.new result }
     ensures bytes { CameFrom (R.remaining from.old) (R.remaining from.new) space.new result }
@@ -202,6 +193,7 @@ fn read_input<R: Read>(from: &mut R, space: &mut [u8]) -> io::Result<usize>
 }
 
 fn print_from<R: Read>(out: Stdout, err: Stderr, from: &mut R, name: &[u8]) {
+    // Memory is fixed: room for the longest bundle, and how many bytes came.
     let mut space = [0u8; INPUT_BYTES];
     match read_input(from, &mut space) {
         Ok(count) => print_input(out, err, &space, count),
@@ -269,6 +261,7 @@ fn print_argument(rt: &HostRuntime, word: &[u8]) {
 
 // Whether there is an argument of this number, whatever it is.
 fn is_given(rt: &HostRuntime, number: usize) -> bool {
+    // std's `arg` writes to a buffer and tells the length.
     let mut word = [0u8; 1];
     !matches!(rt.arg(number, &mut word), Err(FillError::NotPresent))
 }
@@ -278,6 +271,7 @@ fn main(rt: HostRuntime) {
         let _ = println!(rt.stderr(); "list: one FILE at most (list --help says more)");
         return;
     }
+    // std's `arg` writes to a buffer and tells the length.
     let mut word = [0u8; WORD_BYTES];
     match rt.arg(1, &mut word) {
         Ok(length) => print_argument(&rt, &word[..length]),

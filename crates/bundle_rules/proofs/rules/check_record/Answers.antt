@@ -61,14 +61,14 @@ returns-then-body_fits c =
     (kind_kept _ _ _ _ c.if-kind-lt1.false c.if-kind-gt5.false c.if-kind-last.false (sym c.body_fits.ensures ∙ c.if-body_fits.true))
     c.if-bytes-start.false
 
-pub returns-then-kind-eq2 : goal.returns-then-kind-eq2
-returns-then-kind-eq2 c =
+pub returns-then-kind-eq-SEGMENTS : goal.returns-then-kind-eq-SEGMENTS
+returns-then-kind-eq-SEGMENTS c =
     check_kind_lem _ _ _ _ _ (known c.read_u32_le_at.ensures (c.ok_or.ensures.ok_part ∙ ap result_ok c.in_ok-size.was)) (known c.read_u16_le_at.ensures (c.ok_or-2.ensures.ok_part ∙ ap result_ok c.in_ok-kind.was))
-    (kind_segments _ _ _ _ c.if-kind-lt1.false c.if-kind-gt5.false c.if-kind-last.false c.if-kind-eq2.true (sym c.body_fits.ensures ∙ c.if-body_fits.false))
+    (kind_segments _ _ _ _ c.if-kind-lt1.false c.if-kind-gt5.false c.if-kind-last.false c.if-kind-eq-SEGMENTS.true (sym c.body_fits.ensures ∙ c.if-body_fits.false))
     c.if-bytes-start.false
 
-pub returns-else-kind-eq2 : goal.returns-else-kind-eq2
-returns-else-kind-eq2 c =
+pub returns-else-kind-eq-SEGMENTS : goal.returns-else-kind-eq-SEGMENTS
+returns-else-kind-eq-SEGMENTS c =
     check_kind_lem _ _ _ _ _ (known c.read_u32_le_at.ensures (c.ok_or.ensures.ok_part ∙ ap result_ok c.in_ok-size.was)) (known c.read_u16_le_at.ensures (c.ok_or-2.ensures.ok_part ∙ ap result_ok c.in_ok-kind.was))
-    (kind_led _ _ _ _ c.if-kind-lt1.false c.if-kind-gt5.false c.if-kind-last.false c.if-kind-eq2.false (sym c.body_fits.ensures ∙ c.if-body_fits.false))
+    (kind_led _ _ _ _ c.if-kind-lt1.false c.if-kind-gt5.false c.if-kind-last.false c.if-kind-eq-SEGMENTS.false (sym c.body_fits.ensures ∙ c.if-body_fits.false))
     c.if-bytes-start.false
