@@ -1,7 +1,8 @@
 // The singleton records at an address.
+ghost use Rattle.std.specs.Prelude.{◌≡◌};
 ghost use Rattle.refusal.specs.Refusal.{answered, mapped};
 ghost use Rattle.runtime.specs.Reads.{run};
-ghost use Rattle.type_body.specs.Singleton.{singleton_init, singleton_pointer};
+ghost use Rattle.type_body.specs.Singleton.{init_of, singleton_init, singleton_pointer};
 ghost use Rattle.refusal.specs.Guarded.{guarded};
 ghost use Rattle.c_rows.specs.Numbers.{Tells, value_numbers};
 ghost use Rattle.c_bodies.specs.Singletons.{init_numbers};
