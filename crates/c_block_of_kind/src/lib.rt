@@ -26,6 +26,7 @@ fn kind_block_numbers(block: Option<Block>) -> [u64; 5]
 }
 
 // The block of the kind with a number, for the descriptor with these flags at an address.
+#[tactic(auto, unfolding(refusal::specs::Guarded::guarded))]
 fn block_numbered(
     image: &[u8],
     segments: &[u64],

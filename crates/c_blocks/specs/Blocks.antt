@@ -2,10 +2,13 @@
 -- three numbers, filled up with zeros.
 use Rattle.std.specs.Prelude.{ℕ, List, [], ◌∷◌, ◌++◌, not, eqb, Option, Some, None}
 use Rattle.runtime.specs.Reads.{and_then, run}
-use Rattle.classtrailers.specs.Blocks.{row_number, kind_numbered, Walk, Step}
+use Rattle.classtrailers.specs.Blocks.{row_number, kind_numbered}
 use Rattle.classtrailers.specs.declared.block.Block.{Block}
+use Rattle.classtrailers.specs.declared.iter.BlockIter.{BlockIter}
+use Rattle.classtrailers.specs.declared.iter.BlockStep.{BlockStep}
 use Rattle.type_body.specs.Body.{body}
-use Rattle.type_body.specs.Items.{Start, trailers}
+use Rattle.type_body.specs.Items.{trailers}
+use Rattle.type_body.specs.declared.trailers.Start.{Start}
 use Rattle.steps.specs.Blocks.{kind_from}
 use Rattle.c_numbers.specs.Flags.{flag_number}
 use Rattle.full_rows.specs.FullRows.{recorded_numbers}
@@ -20,7 +23,7 @@ start_numbers None = 0 ∷ (0 ∷ (0 ∷ (0 ∷ [])))
 start_numbers (Some s) = 1 ∷ (flag_number s.trailing.is_class ∷ (s.trailing.extra ∷ (s.start ∷ [])))
 
 -- a walk from its numbers; any number but 0 means a class
-abbrev pub walk_at : ℕ → ℕ → ℕ → ℕ → ℕ → Walk
+abbrev pub walk_at : ℕ → ℕ → ℕ → ℕ → ℕ → BlockIter
 walk_at flags class extra row address =
     record { trailing = record { flags = flags; is_class = not (eqb class 0); extra = extra }; row = row; address = address }
 
@@ -28,7 +31,7 @@ abbrev pub block_numbers : Block → List ℕ
 block_numbers b = row_number b.kind ∷ recorded_numbers b
 
 -- a step: the block, and the walk's row and address from there on
-abbrev pub block_step_numbers : Option Step → List ℕ
+abbrev pub block_step_numbers : Option BlockStep → List ℕ
 block_step_numbers None = 0 ∷ (0 ∷ (0 ∷ (0 ∷ (0 ∷ (0 ∷ (0 ∷ []))))))
 block_step_numbers (Some s) = 1 ∷ (block_numbers s.block ++ (s.next.row ∷ (s.next.address ∷ [])))
 

@@ -4,15 +4,15 @@
 #![tactic(auto)]
 
 ghost use Rattle.std.specs.Prelude.{◌≡◌};
-ghost use Rattle.refusal.specs.Refusal.{answered, mapped};
+ghost use Rattle.refusal.specs.Refusal.{answered, mapped, outcome};
 ghost use Rattle.classtrailers.specs.Blocks.{next_block};
-ghost use Rattle.type_body.specs.Items.{trailers_of};
 ghost use Rattle.refusal.specs.Guarded.{guarded};
 ghost use Rattle.c_rows.specs.Numbers.{Tells};
 ghost use Rattle.c_blocks.specs.Blocks.{start_at, start_numbers, walk_at, block_numbers, block_step_numbers};
 
 use c_rows::THERE;
 use classtrailers::{Block, BlockIter, BlockStep, Trailing};
+use refusal::Refusal;
 use type_body::Start;
 
 fn start_numbers(start: Option<Start>) -> [u64; 4]
@@ -67,6 +67,19 @@ fn block_step_numbers(step: Option<BlockStep>) -> [u64; 7]
     }
 }
 
+#[tactic(auto, unfolding(refusal::specs::Guarded::guarded))]
+fn start_at(
+    image: &[u8],
+    segments: &[u64],
+    address: u64,
+    flags: u32,
+) -> Result<Option<Start>, Refusal>
+    ensures { outcome result ≡ guarded segments.now (answered (start_at image.now segments.now address flags)) }
+{
+    let body = steps::row_body(image, segments, address, flags)?;
+    Ok(type_body::trailing(address, flags, body))
+}
+
 // Where the walk over a descriptor's blocks starts: 1, whether it is a class, the extra class flags (0 if there are none), and the
 // address of the first block. A walk starts at row 0.
 pub fn hodrupec_first_block(
@@ -78,8 +91,7 @@ pub fn hodrupec_first_block(
 ) -> u64
     ensures { Tells (mapped start_numbers (guarded segments.now (answered (start_at image.now segments.now address flags)))) out.old result out.new }
 {
-    let body = steps::row_body(image, segments, address, flags);
-    let start = body.map(|body| type_body::trailing(address, flags, body));
+    let start = start_at(image, segments, address, flags);
     c_rows::tell(start.map(start_numbers), out)
 }
 
