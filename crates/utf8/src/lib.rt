@@ -8,7 +8,7 @@ ghost use Rattle.utf8.specs.Table.{table};
 ghost use Rattle.utf8.specs.ScanAt.{ScanAt, RowOf};
 ghost use Rattle.utf8.specs.Text.{text_length, following, leads};
 
-// What a lead byte requires of the bytes after it.
+// What a lead byte requires of the bytes after it. Three cases, so no `Option`.
 #[derive(Clone, Copy)]
 pub enum Lead {
     // Nothing: the byte is a sequence by itself.
@@ -168,17 +168,12 @@ fn blocks(s: &[u8], at: usize) -> usize
     if s.len() <= at {
         return at;
     }
-    let b = s[at];
-    if b < 0x80 {
-        return at + plain_prefix(&s[at..]);
+    match s[at] {
+        0..=0x7f => at + plain_prefix(&s[at..]),
+        0x80..=0xdf => row_blocks(s, at, 0xc2, 0xdf, 0x80, 0),
+        0xe0..=0xef => row_blocks(s, at, 0xe1, 0xec, 0x80, 1),
+        0xf0..=0xff => row_blocks(s, at, 0xf0, 0xf0, 0x90, 2),
     }
-    if b < 0xe0 {
-        return row_blocks(s, at, 0xc2, 0xdf, 0x80, 0);
-    }
-    if b < 0xf0 {
-        return row_blocks(s, at, 0xe1, 0xec, 0x80, 1);
-    }
-    row_blocks(s, at, 0xf0, 0xf0, 0x90, 2)
 }
 
 // Where the next 16 bytes end, or all.

@@ -23,8 +23,8 @@ overflow_add-result c =
     let within = rest_within c.args.s.now c.args.at _ c.plain_prefix.ensures.0 in
     omega arith
 
-pub returns-then-b-lt128 : goal.returns-then-b-lt128
-returns-then-b-lt128 c =
+pub returns-in-0-to-127 : goal.returns-in-0-to-127
+returns-in-0-to-127 c =
     let p = c.plain_prefix.ensures in
     let within = rest_within c.args.s.now c.args.at _ p.0 in
     (omega arith, omega arith, rest_walk c.args.s.now c.args.at _ p.0 p.1 c.requires.1)
@@ -32,8 +32,8 @@ returns-then-b-lt128 c =
 pub row_blocks-requires : goal.row_blocks-requires
 row_blocks-requires c = let pre = c.requires in (pre.0, two_bytes, pre.1)
 
-pub row_blocks-requires-then-b-lt240 : goal.row_blocks-requires-then-b-lt240
-row_blocks-requires-then-b-lt240 c = let pre = c.requires in (pre.0, three-bytes, pre.1)
+pub row_blocks-requires-in-224-to-239 : goal.row_blocks-requires-in-224-to-239
+row_blocks-requires-in-224-to-239 c = let pre = c.requires in (pre.0, three-bytes, pre.1)
 
-pub row_blocks-requires-2 : goal.row_blocks-requires-2
-row_blocks-requires-2 c = let pre = c.requires in (pre.0, four_bytes, pre.1)
+pub row_blocks-requires-in-240-to-255 : goal.row_blocks-requires-in-240-to-255
+row_blocks-requires-in-240-to-255 c = let pre = c.requires in (pre.0, four_bytes, pre.1)
