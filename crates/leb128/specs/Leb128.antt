@@ -2,8 +2,7 @@
 use Rattle.std.specs.Prelude.{ℕ, zero, suc, ◌+◌, ◌*◌, ◌/◌, ◌%◌, ◌^◌, min, List, [], ◌∷◌, cond, ◌&&◌, length, get_or, ℤ, leb, ltb, eqb, Option, Some, None, option_map}
 use Rattle.util.specs.LittleEndian.{twos_complement}
 use Rattle.util.specs.Pointer.{modulo}
-use Rattle.leb128.specs.declared.leb128.Uleb128.{Uleb128}
-use Rattle.leb128.specs.declared.leb128.Sleb128.{Sleb128}
+use Rattle.leb128.specs.declared.leb128.Leb128.{Leb128}
 
 -- the bytes of the first number: up to and including the first byte whose high bit is clear
 unfoldable pub encoding : List ℕ → Option (List ℕ)
@@ -56,8 +55,6 @@ sleb_of e =
 abbrev pub sleb128 : List ℕ → Option (ℤ × ℕ)
 sleb128 bytes = of_encoding sleb_of (encoding bytes)
 
-abbrev pub uleb_value : Option Uleb128 → Option (ℕ × ℕ)
-uleb_value o = option_map (λ (u : Uleb128). (u.value, u.consumed)) o
-
-abbrev pub sleb_value : Option Sleb128 → Option (ℤ × ℕ)
-sleb_value o = option_map (λ (z : Sleb128). (z.value, z.consumed)) o
+-- a number that was read, and how many bytes it has
+abbrev pub read_value : {A : Type 0} → Option (Leb128 A) → Option (A × ℕ)
+read_value o = option_map (λ n. (n.value, n.consumed)) o

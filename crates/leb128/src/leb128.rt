@@ -1,20 +1,18 @@
 // Numbers of seven bits to a byte, the lowest first, whose high bit says that another byte follows.
 ghost use Rattle.std.specs.Prelude.{◌≡◌};
-ghost use Rattle.leb128.specs.Leb128.{uleb128, sleb128, uleb_value, sleb_value, sign_bits};
+ghost use Rattle.leb128.specs.Leb128.{uleb128, sleb128, read_value, sign_bits};
 ghost use Rattle.leb128.specs.Leb128Walk.{Running, Chunked};
 
 // The number and how many bytes it has.
 #[derive(Clone, Copy)]
-pub struct Uleb128 {
-    pub value: u64,
+pub struct Leb128<T> {
+    pub value: T,
     pub consumed: usize,
 }
 
-#[derive(Clone, Copy)]
-pub struct Sleb128 {
-    pub value: i64,
-    pub consumed: usize,
-}
+pub type Uleb128 = Leb128<u64>;
+
+pub type Sleb128 = Leb128<i64>;
 
 // What the bytes of a number hold, up to eleven of them: the low 64 bits, the weight of the bit after the last (0 if it is past them),
 // the last byte, and how many bytes there are.
@@ -85,7 +83,7 @@ fn read_chunks(bytes: &[u8]) -> Option<Chunks>
 
 // The unsigned number at the start of the bytes. Bits past the 64th are dropped, as in the Rust, but an eleventh byte must be 0.
 pub fn read_uleb128(bytes: &[u8]) -> Option<Uleb128>
-    ensures { uleb_value result ≡ uleb128 bytes.now }
+    ensures { read_value result ≡ uleb128 bytes.now }
 {
     let Chunks {
         bits,
@@ -96,7 +94,7 @@ pub fn read_uleb128(bytes: &[u8]) -> Option<Uleb128>
     if count == 11 && last != 0 {
         return None;
     }
-    Some(Uleb128 {
+    Some(Leb128 {
         value: bits,
         consumed: count,
     })
@@ -112,7 +110,7 @@ fn sign_bits(n: u64) -> u64
 // The signed number at the start of the bytes. Up to nine bytes are filled up with their sign; with more, the bits past the 64th are
 // dropped, but an eleventh byte must repeat the sign.
 pub fn read_sleb128(bytes: &[u8]) -> Option<Sleb128>
-    ensures { sleb_value result ≡ sleb128 bytes.now }
+    ensures { read_value result ≡ sleb128 bytes.now }
 {
     let Chunks {
         bits,
@@ -128,7 +126,7 @@ pub fn read_sleb128(bytes: &[u8]) -> Option<Sleb128>
     } else {
         bits
     };
-    Some(Sleb128 {
+    Some(Leb128 {
         value: filled.cast_signed(),
         consumed: count,
     })

@@ -3,4 +3,4 @@
 
 mod leb128;
 
-pub use leb128::{Sleb128, Uleb128, read_sleb128, read_uleb128};
+pub use leb128::{Leb128, Sleb128, Uleb128, read_sleb128, read_uleb128};

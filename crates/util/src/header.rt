@@ -1,4 +1,5 @@
-// Numbers in a header that the caller has read whole, so no call needs an answer for a short one: a number that would run past the end is 0.
+// Numbers in a header that the caller has read whole, so no call needs an answer for a short one: a number that would run past the end is 0. A
+// line for each width: one function for all would need a trait of the readers, and would be longer.
 ghost use Rattle.std.specs.Prelude.{◌≡◌};
 ghost use Rattle.util.specs.LittleEndian.{unsigned_in, signed_in};
 ghost use Rattle.util.specs.Pointer.{relative_address, relative_pointer};

@@ -2,13 +2,13 @@
 use Rattle.std.proofs.Common.{◌≡◌, ◌<◌, ◌^◌, ap, ◌∙◌, arith, to_z-of_z, w64}
 use Rattle.util.specs.LittleEndian.{twos_complement}
 use Rattle.util.proofs.Signed.{signed_bits}
-use Rattle.leb128.specs.Leb128.{sleb_value, sign_bits}
+use Rattle.leb128.specs.Leb128.{read_value, sign_bits}
 use Rattle.leb128.proofs.Leb128Laws.{sleb_longer, sign_room, sleb_negative, sleb_kept, sleb_refused}
 use Rattle.leb128.proofs.leb128.read_sleb128.Goals as goal
 use Rattle.leb128.proofs.leb128.read_sleb128.Goals.{else-count-eq11-via-then-count-eq11+else-last-sign_bits, else-count-eq11-via-else-count-eq11, then-count-lt10+then-last-ge64, else-count-lt10, else-count-lt10-via-then-count-lt10+else-last-ge64, else-count-lt10-via-else-count-lt10}
 
 pub returns-in_err-bits : goal.returns-in_err-bits
-returns-in_err-bits c = ap sleb_value c.from_residual.ensures ∙ sleb_longer _ c.in_err-bits.ensures
+returns-in_err-bits c = ap read_value c.from_residual.ensures ∙ sleb_longer _ c.in_err-bits.ensures
 
 pub returns-then-last-sign_bits : goal.returns-then-last-sign_bits
 returns-then-last-sign_bits c =
