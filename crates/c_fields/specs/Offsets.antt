@@ -1,6 +1,6 @@
 -- docs/SPECIFICATION.md, "Calls for C". Where field offsets lie, as numbers.
 use Rattle.std.specs.Prelude.{ℕ, List, [], ◌∷◌, Option, Some, None}
-use Rattle.field_offsets.specs.Offsets.{FieldOffsets}
+use Rattle.field_offsets.specs.declared.offsets.FieldOffsets.{FieldOffsets}
 
 abbrev pub offsets_numbers : Option FieldOffsets → List ℕ
 offsets_numbers None = 0 ∷ (0 ∷ (0 ∷ []))

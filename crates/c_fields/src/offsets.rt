@@ -43,7 +43,10 @@ pub extern "C" fn hodrupec_field_offsets(
     ensures { Tells (mapped offsets_numbers (guarded segments.now (answered (offsets_place image.now segments.now (run image.now segments.now (body address flags)) metadata_va)))) out.old result out.new }
 {
     let body = type_body::decode_body(&SwiftRuntime::new(image, segments), address, flags);
-    tell_offsets(steps::field_offsets(image, segments, body, metadata_va), out)
+    tell_offsets(
+        steps::field_offsets(image, segments, body, metadata_va),
+        out,
+    )
 }
 
 // The same for the metadata that the descriptor's singleton pointer refers to.
@@ -57,7 +60,10 @@ pub extern "C" fn hodrupec_static_field_offsets(
 ) -> u64
     ensures { Tells (mapped offsets_numbers (guarded segments.now (answered (static_place image.now segments.now address flags)))) out.old result out.new }
 {
-    tell_offsets(steps::static_field_offsets(image, segments, address, flags), out)
+    tell_offsets(
+        steps::static_field_offsets(image, segments, address, flags),
+        out,
+    )
 }
 
 // 1 and the offset of the field with this number, out of `count` offsets that start at a place of the image. It takes no segments, and
