@@ -48,7 +48,8 @@ pub struct Taken {
     pub next: usize,
 }
 
-// Whether a body of a kind may have `length` bytes.
+// Whether a body of a kind may have `length` bytes. A kind is a number: an enum would be made from each number that is read and turned back
+// to be compared, which is no plainer.
 #[tactic(auto, unfolding(crate::specs::Bundle::body_fits))]
 pub fn body_fits(kind: u16, length: usize) -> bool
     ensures { result ≡ body_fits kind length }

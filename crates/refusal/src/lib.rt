@@ -7,33 +7,27 @@ ghost use Rattle.refusal.specs.Refusal.{refusal_number};
 ghost use Rattle.segment.specs.Segments.{segment_from, segments_of};
 ghost use Rattle.refusal.specs.Guarded.{wrapping, fault, fault_of, first_wrapping};
 
+// The refusals by their numbers.
 #[derive(Clone, Copy)]
 pub enum Refusal {
     // A count of segment numbers that is not a multiple of four.
-    RaggedSegments,
+    RaggedSegments = 1,
     // A bundle that breaks a rule of its format.
-    BrokenBundle,
+    BrokenBundle = 2,
     // A joined name that is longer than the caller's buffer.
-    LongName,
+    LongName = 3,
     // The joined name of a type around which a 257th context can be read.
-    DeepContexts,
+    DeepContexts = 4,
     // A bundle of more than 65,536 bytes.
-    LongBundle,
+    LongBundle = 5,
     // A segment with vmaddr + vmsize of 2^64 or more.
-    WrappingSegment,
+    WrappingSegment = 9,
 }
 
 pub fn number(refusal: Refusal) -> u64
     ensures { result ≡ refusal_number refusal }
 {
-    match refusal {
-        Refusal::RaggedSegments => 1,
-        Refusal::BrokenBundle => 2,
-        Refusal::LongName => 3,
-        Refusal::DeepContexts => 4,
-        Refusal::LongBundle => 5,
-        Refusal::WrappingSegment => 9,
-    }
+    refusal as u64
 }
 
 impl From<Refusal> for u64 {

@@ -18,7 +18,8 @@ fn turned(segment: Segment) -> Segment
     }
 }
 
-// The address of a file offset. A last piece of fewer than four numbers is not a segment.
+// The address of a file offset. A last piece of fewer than four numbers is not a segment. One expression, as `vm_to_file_offset_in` is: a
+// function of both would take a closure, and is no plainer.
 pub fn file_offset_to_vm_in(segments: &[u64], offset: u64) -> Option<u64>
     ensures { result ≡ vm_address (segments_of segments.now) offset }
 {
