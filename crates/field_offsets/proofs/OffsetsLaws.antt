@@ -122,6 +122,13 @@ module _ (image : List ℕ) (p n k : ℕ) where
   unfolding offset_in
   not_whole h l = simp (lt-ltb k n h, lt-leb (p + 4 * n) (length image) l)
 
+  pub no_offset : (k < n → p + 4 * n ≤ length image → ⊥) → None ≡ offset_in image (offsets p n) k
+  no_offset h =
+      elim (dec_lt k n) [
+        | no l ↦ no_number (omega arith)
+        | yes l ↦ elim (dec_lt (length image) (p + 4 * n)) [ yes m ↦ not_whole l m | no m ↦ absurd (h l (omega arith)) ]
+      ]
+
   pub number_at : k < n → p + 4 * n ≤ length image → (x : Option ℕ) → x ≡ little_at 4 image (p + 4 * k) → x ≡ offset_in image (offsets p n) k
   unfolding offset_in
   number_at h l x e = simp (lt-ltb k n h, le-leb (p + 4 * n) (length image) l) e

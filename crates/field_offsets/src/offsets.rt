@@ -25,13 +25,7 @@ fn struct_offsets(
 ) -> Option<FieldOffsets>
     ensures { result ≡ offsets_place rt.now.image.now (tried rt.now) (Some (of_struct count word)) metadata_va }
 {
-    if count == 0 {
-        return None;
-    }
-    if word == 0 {
-        return None;
-    }
-    if metadata_va == 0 {
+    if count == 0 || word == 0 || metadata_va == 0 {
         return None;
     }
     let distance = 8 * (word as u64);
@@ -65,13 +59,7 @@ fn offset_at(image: &[u8], offsets: FieldOffsets, number: u32) -> Option<u32>
     ensures { result ≡ offset_in image.now offsets number }
 {
     let FieldOffsets { place, count } = offsets;
-    if count <= number {
-        return None;
-    }
-    if image.len() < place {
-        return None;
-    }
-    if image.len() - place < 4 * (count as usize) {
+    if count <= number || image.len() < place || image.len() - place < 4 * (count as usize) {
         return None;
     }
     util::read_u32_le_at(image, place + 4 * (number as usize))

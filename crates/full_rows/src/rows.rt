@@ -32,7 +32,7 @@ fn put(numbers: &[u64], buffer: &mut [u64], at: usize)
     buffer[at..end].copy_from_slice(numbers);
 }
 
-// Puts `count` zeros.
+// Puts `count` zeros: `fill`, with the promise that each of its callers needs.
 fn put_zeros(count: usize, buffer: &mut [u64], at: usize)
     requires { at + count ≤ length buffer.old }
     ensures { buffer.new ≡ pasted buffer.old at (replicate count 0) }
@@ -228,7 +228,8 @@ fn put_record(rt: &SwiftRuntime, slot: usize, row: Row, buffer: &mut [u64], at: 
     }
 }
 
-// The records of the rows from a slot on, as many as the list holds. The mapping around one descriptor finds the next, unless that lies elsewhere.
+// The records of the rows from a slot on, as many as the list holds. The listing in one call has such a loop too, whose records end where
+// their names do: one walk for both would be a trait with laws for what is put of a row, which is longer than the two loops. The mapping around one descriptor finds the next, unless that lies elsewhere.
 pub fn put_rows(rt: &SwiftRuntime, types: SwiftSection, start: usize, buffer: &mut [u64]) -> Given
     ensures value { result ≡ given_of (full_rows_in rt.now.image.now rt.now.segments.now types.entry.body.now types.entry.vmaddr start (length buffer.old)) }
     ensures buffer_after { buffer.new ≡ at_start (numbers_of (full_rows_in rt.now.image.now rt.now.segments.now types.entry.body.now types.entry.vmaddr start (length buffer.old))) buffer.old }

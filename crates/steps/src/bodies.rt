@@ -24,7 +24,7 @@ pub fn row_body(
     Ok(type_body::decode_body(&rt, address, flags))
 }
 
-// The name of a class's superclass; there is none for any other body.
+// The name of a class's superclass; there is none for any other body. Only a class has an address for `text_at`.
 pub fn superclass_name(
     image: &[u8],
     segments: &[u64],

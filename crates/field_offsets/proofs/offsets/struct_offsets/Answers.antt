@@ -5,13 +5,7 @@ use Rattle.field_offsets.proofs.OffsetsLaws.{no_offsets, offsets_placed}
 use Rattle.field_offsets.proofs.offsets.struct_offsets.Goals as goal
 
 pub returns-then-count-eq0 : goal.returns-then-count-eq0
-returns-then-count-eq0 c = no_offsets _ _ _ _ _ (λ w. omega (arith, w.count))
-
-pub returns-then-word-eq0 : goal.returns-then-word-eq0
-returns-then-word-eq0 c = no_offsets _ _ _ _ _ (λ w. omega (arith, w.word))
-
-pub returns-then-metadata_va-eq0 : goal.returns-then-metadata_va-eq0
-returns-then-metadata_va-eq0 c = no_offsets _ _ _ _ _ (λ w. omega (arith, w.metadata))
+returns-then-count-eq0 c = no_offsets _ _ _ _ _ (λ w. omega (arith, w.count, w.word, w.metadata, c.then-count-eq0.either))
 
 pub returns-in_err-vector_va : goal.returns-in_err-vector_va
 returns-in_err-vector_va c = c.from_residual.ensures ∙ no_offsets _ _ _ _ _ (λ w. omega (arith, w.below, c.in_err-vector_va.ensures))
