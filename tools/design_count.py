@@ -4,8 +4,8 @@
 Without COMMIT the work tree is read. For each point it prints the places as `file: name: what`, and how many there are; --brief prints them by
 crate, as the page does. A place is a type, a function, a group of twins, or an answer that three proofs or more repeat.
 --against prints for each place of that older commit whether it is changed, kept or still as it was, and the page's table. tools/design_kept.txt
-names the places that are kept, a line `POINT CRATE PLACE | REASON | LINE` each: LINE stands in a comment of the crate, which is looked up, and
-REASON is one of the four. For a place that is still as it was the comment lines beside it that are new are printed too.
+names the places that are kept, a line `POINT CRATE PLACE | REASON | LINE` each: LINE stands in a comment of the crate, or of the crate that it
+begins with in brackets, which is looked up, and REASON is one of the four. For a place that is still as it was the comment lines beside it that are new are printed too.
 --other counts in the other way: by the arms of `match`, and by the goals that the proofs' folders name.
 A place that no pattern finds stands in TABLE below, by its name and a pattern that its text has as long as it has the old form. Names of the
 table that the older commit doesn't have are reported as stale.
@@ -100,10 +100,11 @@ CONVERT = re.compile(
     r"(?:^|::)(of|from_bits|number|number_of|kind_numbered|\w+_number|same|signed\d*|flag|bits|as_address|digit|digit_of"
     r"|hex_digits|pair|put_digit|put_decimal|put_kind|say_rule|entry_kind|parse_number|relative_pointer|is_type|has_name)$")
 # Of these names, ones that only print or pass on.
+OLD = {("test_replay_full", "kind_number"): "- 256", ("test_replay_full", "entry_kind"): r"\d =>", ("test_lines", "digit"): "if b", ("test_lines", "parse_number"): "while"}
 PASSES_ON = {("list", "say_number"), ("test_refusals", "number"), ("test_vectors", "relative_pointer"), ("parent", "has_name")}
 
 # Functions that are a method of the library.
-METHOD = re.compile(r"(?:^|::)(lower|higher|least|at_most_two|at_most_shown|saturating_add|stretch|find|has_nul|put_zeros)$")
+METHOD = re.compile(r"(?:^|::)(lower|higher|least|at_most_two|at_most_shown|saturating_add|stretch)$")
 
 # Parameters that travel together: point 5.
 TOGETHER = [
@@ -140,11 +141,11 @@ TABLE = [
      r"-> u64", "a call's status is a number"),
     (1, "c_blocks", "hodrupec_first_block hodrupec_next_block", r"-> u64", "a call's status is a number"),
     (2, "util", "read_u16_le_at read_u32_le_at read_u64_le_at read_u32_be_at read_u64_be_at", r"data\.len\(\)|match", "a number of 2, 4 or 8 bytes at an offset, by byte order"),
-    (2, "util", "u16_at u32_at i32_at", r"match|unwrap_or", "a number in a header, or 0"),
+    (2, "util", "u16_at u32_at i32_at", r"match", "a number in a header, or 0"),
     (2, "util", "byte16 byte32", r"b as u", "a byte as a wider number (and `byte64` of leb128)"),
     (2, "c_numbers", "half wide size", r"as u64", "a number as a wider one"),
     (2, "leb128", "Uleb128 Sleb128", r"value: ", "a number and its bytes, unsigned and signed"),
-    (2, "segment", "vm_to_file_offset_in file_offset_to_vm_in", r"look_up", "the first segment that answers"),
+    (2, "segment", "vm_to_file_offset_in file_offset_to_vm_in", r"while", "the first segment that answers"),
     (2, "bundle_parts", "image_part types_part fields_part strings_part", r"util::part", "the bytes of a part"),
     (2, "bundle", "Part", r"start: usize", "a place and a length, as `Text::At` of util, `Bytes` and `FieldOffsets::At`"),
     (2, "context", "ContextDescriptorFlags::is_unique ContextDescriptorFlags::is_generic MethodDescriptorFlags::is_instance FieldRecordFlags::is_var "
@@ -153,7 +154,7 @@ TABLE = [
     (2, "entry_tables", "methods overrides default_overrides prespecializations", r"table\(", "a whole table, by three constants"),
     (2, "entry_tables", "Words", r"third: u64", "three numbers, as `Recorded` of full_rows"),
     (2, "steps", "next_entry next_method", r"find_fault", "a step over a table"),
-    (2, "steps", "text_at superclass_name field_type_name descriptor_type_name descriptor_superclass_name", r"TextAnswer|Place", "a text after the test of the segments"),
+    (2, "steps", "text_at field_type_name descriptor_type_name descriptor_superclass_name", r"find_fault", "a text after the test of the segments"),
     (2, "full_rows", "put_two put_four", r"buffer\[at", "numbers at a place (and `put_three` of named_records)"),
     (2, "named_records", "put_text put_field_name", r"put_three|put", "the numbers of a name, as `text_numbers` and `field_name_numbers` of c_rows"),
     (2, "full_rows", "put_rows", r"slot_row_moving", "a walk over slots (and `put_rows` of c_listing)"),
@@ -175,10 +176,10 @@ TABLE = [
     (7, "entry_tables", "first_word", r"if numbered", "a flag for which word to read"),
     (7, "entry_tables", "window_at", r"if alone", "a flag for which window to find"),
     (7, "type_body", "class_sizes", r"if resilient", "a flag for which numbers to read"),
-    (7, "utf8", "blocks", r"row_blocks", "a switch on which blocks to try"),
-    (7, "list", "print_argument", r"--help", "a word for which step to run"),
+    (7, "utf8", "blocks", r"if b <", "a switch on which blocks to try"),
+    (7, "list", "print_argument", r"else if word", "a word for which step to run"),
     (7, "test_vectors", "number_call address_call part_call answer", r"same\(name", "a name for which call to make"),
-    (7, "test_refusals", "last_word", r"match kind", "a switch on which word to print"),
+    (7, "test_refusals", "last_word", r"number\(out", "a switch on which word to print"),
     (7, "test_replay_full", "words detail_lines", r"match kind", "a switch on what to print"),
     (7, "bundle_lines", "BundleLineIter::segments BundleLineIter::next_line", r"match self", "a switch on what is left"),
 ]
@@ -257,9 +258,9 @@ def count(files):
         loops = len(re.findall(r"^\s*(?:'\w+: )?(?:while|loop)\b", code, re.M))
         if loops:
             found.add(3, it.file, it.name, f"{loops} loop{'s' if loops > 1 else ''} by hand")
-        if METHOD.search(it.name) and it.crate != "util":
+        if METHOD.search(it.name) and it.crate != "util" and re.search(r"\bif\b", code):
             found.add(3, it.file, it.name, "a method of the library by hand")
-        if CONVERT.search(it.name) and (it.crate, it.name) not in PASSES_ON and re.search(r"\b(?:match|if|while|for)\b|[%/] ", code):
+        if CONVERT.search(it.name) and (it.crate, it.name) not in PASSES_ON and re.search(OLD.get((it.crate, it.name), r"\b(?:match|if|while|for)\b|[%/] "), code):
             found.add(4, it.file, it.name, "a conversion, comparison or print by hand")
         buffers = re.findall(r"let mut (\w+) = \[\d\w*; [\w ]+\]", code)
         if buffers:
@@ -406,6 +407,12 @@ def main():
             print(f"\n## {point} {TITLES[point]}")
             for (crate, name), (file, what, members) in old.of[point].items():
                 now = found.of[point].get((crate, name))
+                if now is None and point == 5:
+                    now = next((p for (_, n), p in found.of[5].items() if n == name), None)
+                    if now is None:
+                        changed += 1
+                        print(f"changed  {file}: {name}")
+                        continue
                 if now is None:
                     names = {m for (c, _), (_, _, ms) in found.of[point].items() if c == crate for m in ms}
                     if not (set(members) & names):
@@ -413,10 +420,12 @@ def main():
                         print(f"changed  {file}: {name}")
                         continue
                     now = (file, what, sorted(set(members) & names))
+                what = now[1] if point == 5 else what
                 key = (str(point), crate, name)
                 if key in kept_so:
                     reason, line = kept_so.pop(key)
-                    if squeeze(line) in comments.get(crate, ""):
+                    m = re.match(r"\((\w+)\) (.*)", line)
+                    if squeeze(m[2] if m else line) in comments.get(m[1] if m else crate, ""):
                         kept += 1
                         print(f"kept     {file}: {name}: {reason}: {line}")
                         continue
