@@ -7,6 +7,7 @@ use Rattle.std.proofs.Math.Path.{◌≡◌, refl, sym, ap}
 use Rattle.std.specs.Prelude.{List, [], ◌∷◌, map, Bool, length, eqb, Option, Some, None, SomeIff, option_map, slice_get}
 use Rattle.std.proofs.Math.Bool.{true, false, cond}
 use Rattle.std.proofs.Math.ListN.{get_or-eq_default}
+use Rattle.std.proofs.lemmas.Option.{slice_get_past}
 use Rattle.std.specs.Bool.{then_some}
 use Rattle.std.specs.Int.Count.{ones, ones_step}
 use Rattle.std.proofs.lemmas.Bool.{lt-leb}
@@ -78,6 +79,17 @@ module _ (k l : BlockKind) (e : k ≡ l) where
   pub kind_listed : (image segments : List ℕ) (n a : ℕ) (x : Option Ended) → x ≡ run image segments (block_at (listed k (λ _. false) n) a) → x ≡ run image segments (block_at (listed l (λ _. false) n) a)
   kind_listed image segments n a x h = rw (← e) h
 
+-- a number that is not among the first `k`
+abbrev pub Past : ℕ → ℕ → Type 0
+Past zero n = Unit {0}
+Past (suc k) n = Past k n × (n ≡ k → ⊥)
+
+pub past : (k n : ℕ) → Past k n → k ≤ n
+past zero n h = omega arith
+past (suc k) n h =
+    let l : k ≤ n = past k n h.0 in
+    elim (dec_le n k) [ yes g ↦ absurd (h.1 (omega arith)) | no g ↦ omega arith ]
+
 no_row : (n : ℕ) (t : Trailing) → 11 ≤ n → false ≡ (row_at n).there t
 unfolding row_at
 no_row n t h = rw (get_or-eq_default block_table (plain BlockKind.Generic (λ _. false) 0) h)
@@ -124,6 +136,13 @@ module _ (n : ℕ) (k : MetadataInitializationKind) (e : k ≡ initialization_of
       at_one q = rw q at e
 
 -- ---- the kind with a number
+
+pub kind_as : (n k : ℕ) (x : Option BlockKind) → n ≡ k → x ≡ kind_numbered k → x ≡ kind_numbered n
+kind_as n k x e f = rw e f
+
+pub no_kind : (n : ℕ) → 11 ≤ n → None ≡ kind_numbered n
+unfolding kind_numbered
+no_kind n h = sym (slice_get_past (map (λ (r : BlockRow). r.kind) block_table) n h)
 
 none_past : (n : ℕ) → None ≡ kind_numbered n → 11 ≤ n
 unfolding kind_numbered
