@@ -1,11 +1,11 @@
 #!/usr/bin/env python3
-"""Counts the places of docs/DESIGN-PASS.md. usage: tools/design_count.py [COMMIT] [--against COMMIT] [--other] [--brief]
+"""Counts the places of docs/DESIGN-PASS.md. usage: tools/design_count.py [COMMIT] [--against COMMIT [--write]] [--other] [--brief]
 
 Without COMMIT the work tree is read. For each point it prints the places as `file: name: what`, and how many there are; --brief prints them by
 crate, as the page does. A place is a type, a function, a group of twins, or an answer that three proofs or more repeat.
 --against prints for each place of that older commit whether it is changed, kept or still as it was, and the page's table. tools/design_kept.txt
 names the places that are kept, a line `POINT CRATE PLACE | REASON | LINE` each: LINE stands in a comment of the crate, or of the crate that it
-begins with in brackets, which is looked up, and REASON is one of the four. For a place that is still as it was the comment lines beside it that are new are printed too.
+begins with in brackets, which is looked up, and REASON is one of the four; --write puts these and the table into the page. For a place that is still as it was the comment lines beside it that are new are printed too.
 --other counts in the other way: by the arms of `match`, and by the goals that the proofs' folders name.
 A place that no pattern finds stands in TABLE below, by its name and a pattern that its text has as long as it has the old form. Names of the
 table that the older commit doesn't have are reported as stale.
@@ -185,6 +185,10 @@ TABLE = [
 ]
 
 
+# Places that stand under another name now.
+MOVED = {(6, "bundle_parts", "with_segments"): "accept_bundle", (6, "test_refusals", "try_line"): "line_length"}
+
+
 class Places:
     def __init__(self):
         self.of = OrderedDict((k, OrderedDict()) for k in range(1, 9))
@@ -262,7 +266,7 @@ def count(files):
             found.add(3, it.file, it.name, "a method of the library by hand")
         if CONVERT.search(it.name) and (it.crate, it.name) not in PASSES_ON and re.search(OLD.get((it.crate, it.name), r"\b(?:match|if|while|for)\b|[%/] "), code):
             found.add(4, it.file, it.name, "a conversion, comparison or print by hand")
-        buffers = re.findall(r"let mut (\w+) = \[\d\w*; [\w ]+\]", code)
+        buffers = re.findall(r"let mut (\w+) = \[[^;\]]+; [\w ]+\]", code)
         if buffers:
             found.add(6, it.file, it.name, "buffers with a length beside: " + ", ".join(buffers))
         params = signature(it)
@@ -362,6 +366,26 @@ def squeeze(text):
     return re.sub(r"\s+", "", text)
 
 
+def write_page(said_kept, table):
+    """Puts what is kept, and the table, into the page in place of what stood there."""
+    page = "docs/DESIGN-PASS.md"
+    with open(page, encoding="utf-8") as f:
+        text = f.read()
+    by_line = OrderedDict()
+    for point, crate, name, reason, line in said_kept:
+        by_line.setdefault((point, reason, line), []).append(f"`{crate}` " + ", ".join(f"`{n}`" for n in name.split(", ")))
+    rows = "".join(f"- {point}. {'; '.join(where)} ({reason}): {line}\n" for (point, reason, line), where in by_line.items())
+    start, end = text.index("## Kept\n"), text.index("\n## Signatures")
+    intro = ("## Kept\n\nEach place that stayed, by point, with which of the four reasons it is, and the words that stand beside it in the source.\n\n")
+    text = text[:start] + intro + rows + text[end:]
+    start = text.index("## What is left\n") + len("## What is left\n")
+    end = text.index("\n## ", start) if "\n## " in text[start:] else len(text)
+    after = re.sub(r"\A\s*\| point.*?(?:\n(?!\|)|\Z)", "", text[start:end], flags=re.S)
+    text = text[:start] + "\n" + table + after + text[end:]
+    with open(page, "w", encoding="utf-8") as f:
+        f.write(text)
+
+
 def said_answers(found):
     crates = Counter(f.split("/")[1] for f in found.answers)
     return (f"{len(found.answers)} files of answers with {sum(found.answers.values())} answers: "
@@ -401,12 +425,12 @@ def main():
                 if row:
                     where, reason, line = row.split(" | ")
                     kept_so[tuple(where.split(" ", 2))] = (reason, line)
-        rows = []
+        rows, said_kept = [], []
         for point in range(1, 9):
             kept = changed = still = 0
             print(f"\n## {point} {TITLES[point]}")
             for (crate, name), (file, what, members) in old.of[point].items():
-                now = found.of[point].get((crate, name))
+                now = found.of[point].get((crate, MOVED.get((point, crate, name), name)))
                 if now is None and point == 5:
                     now = next((p for (_, n), p in found.of[5].items() if n == name), None)
                     if now is None:
@@ -428,6 +452,7 @@ def main():
                     if squeeze(m[2] if m else line) in comments.get(m[1] if m else crate, ""):
                         kept += 1
                         print(f"kept     {file}: {name}: {reason}: {line}")
+                        said_kept.append((point, crate, name, reason, line))
                         continue
                     print(f"not in a comment of {crate}: {line}", file=sys.stderr)
                 new = []
@@ -441,9 +466,11 @@ def main():
         for key in kept_so:
             print(f"in design_kept.txt, and no such place is left: {' '.join(key)}", file=sys.stderr)
         print(f"\n{said_answers(old)}\nthen {said_answers(found)}\ngone: {len(gone)}: {', '.join(gone)}")
-        print("\n| point | found | changed | kept with a reason | still to do |\n|---|---|---|---|---|")
-        for r in rows:
-            print("| " + " | ".join(map(str, r)) + " |")
+        table = "| point | found | changed | kept with a reason | still to do |\n|---|---|---|---|---|\n"
+        table += "".join("| " + " | ".join(map(str, r)) + " |\n" for r in rows)
+        print("\n" + table)
+        if "--write" in flags:
+            write_page(said_kept, table)
         return
     for s in stale:
         print(f"not found by TABLE: {s}", file=sys.stderr)
