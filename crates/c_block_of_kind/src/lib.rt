@@ -1,6 +1,6 @@
 // The block of a kind, for programs in C or Rust, by the rules of the crate `c_rows`, in an archive of its own: it needs the readers of the
 // body and of the walk over blocks, which are compiled into their calls where those are the only users. A kind is its number in the order in
-// which blocks follow each other, and a block's three numbers are those of a full row.
+// which blocks follow each other, and a block's three numbers are those of a full row. What a call for C takes stands one by one.
 #![tactic(auto)]
 
 ghost use Rattle.std.specs.Prelude.{◌≡◌};

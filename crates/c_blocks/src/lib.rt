@@ -1,6 +1,7 @@
 // The walk over the blocks that trail a descriptor, for programs in C or Rust, by the rules of the crate `c_rows`, in an archive of its
 // own (`c_blocks_c`): a reader that only one call uses is compiled into that call. A kind is its number in the order in which blocks follow
-// each other, and a block's three numbers are those of a full row.
+// each other, and a block's three numbers are those of a full row. A call's status is a number, and what it takes stands one by one, since
+// programs in C pass and read both.
 #![tactic(auto)]
 
 ghost use Rattle.std.specs.Prelude.{◌≡◌};

@@ -1,5 +1,6 @@
 // All rows of a types section, in as many calls as the buffer's size needs, for programs in C or Rust, by the rules of the crate `c_rows`,
-// in an archive of its own: a reader that only one loop uses is compiled into that loop.
+// in an archive of its own: a reader that only one loop uses is compiled into that loop. What a call for C takes stands one by one; the
+// buffer and the place in it are two parameters, as the theorems on `util::put` have them.
 #![tactic(auto)]
 
 ghost use Rattle.std.specs.Prelude.{◌+◌, ◌≤◌, ◌≡◌, length};
@@ -86,7 +87,7 @@ fn put_record(rt: &SwiftRuntime, slot: usize, row: Row, buffer: &mut [u8], at: u
 }
 
 // Puts the records of the rows from a slot on at the buffer's start, as long as they fit, and returns the three numbers of the call below. The mapping
-// around one descriptor finds the next, unless that lies elsewhere.
+// around one descriptor finds the next, unless that lies elsewhere: so the runtime is made anew for each row.
 fn put_rows(
     image: &[u8],
     segments: &[u64],

@@ -1,4 +1,5 @@
 // Methods for programs in C or Rust, one at a time and as whole tables, by the rules of the crates `c_rows` and `c_tables`.
+// Each archive has both calls of its kind: the C interface names them, and takes what a walk is made of one by one.
 #![tactic(auto)]
 
 ghost use Rattle.std.specs.Prelude.{◌≡◌};

@@ -1,5 +1,6 @@
 // The flag words, each accessor's answer as a number, which the comparison compares with the Rust's. A kind is its place in the
-// enumeration, or 256 plus its number if no kind has it. The first number is always 1: every word has an answer.
+// enumeration, or 256 plus its number if no kind has it. The first number is always 1: every word has an answer. A call's status is a
+// number, since programs in C read it.
 ghost use Rattle.std.specs.Prelude.{◌≡◌};
 ghost use Rattle.c_numbers.specs.Flags.{kind_number, initialization_number, reference_number, field_kind_number, method_number, context_flag_numbers, type_flag_numbers, class_flag_numbers, conformance_flag_numbers, field_kind_numbers, field_flag_numbers, method_flag_numbers};
 
@@ -10,7 +11,7 @@ use context::{
     TypeContextDescriptorFlags, TypeReferenceKind,
 };
 
-// The numbers of the kinds are functions and not `From`: only the crate of the kinds, which the calls for C are none of, may write that.
+// The numbers of the kinds are functions and not `From`: Rust lets only the crate of the kinds write that, and the numbers are these calls' own.
 fn kind_number(kind: ContextDescriptorKind) -> u64
     ensures { result ≡ kind_number kind }
 {

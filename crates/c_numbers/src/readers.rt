@@ -1,4 +1,4 @@
-// The readers of darwinscope's src/util.rs that no other call reaches.
+// The readers of darwinscope's src/util.rs that no other call reaches. A call's status is a number, since programs in C read it.
 ghost use Rattle.std.specs.Prelude.{◌≡◌};
 ghost use Rattle.leb128.specs.Leb128.{uleb128, sleb128};
 ghost use Rattle.util.specs.BigEndian.{big_at};
