@@ -1,7 +1,7 @@
 -- What the code finds of a table is `tableFrom`: where an entry lies (`no_place`, `a-place`), its numbers in the list (`set-put`,
 -- `set_more`), the entries of a run (`Ran`), and run after run (`Going`, for any numbers of an entry: `tableBy`). The table is the entries
 -- that stepping gives, as numbers (`table-listed`); its counts do not depend on those numbers (`same-counts`).
-use Rattle.std.specs.Prelude.{◌≡◌, ℕ, zero, suc, ◌+◌, ◌-◌, ◌*◌, ◌/◌, ◌%◌, ◌^◌, ◌<◌, ◌≤◌, min, List, [], ◌∷◌, ◌++◌, length, replicate, take, drop, ◌≢◌, slice_set, Option, Some, None, Result, Ok, Err, ⊤}
+use Rattle.std.specs.Prelude.{◌≡◌, ℕ, zero, suc, ◌+◌, ◌-◌, ◌*◌, ◌/◌, ◌%◌, ◌^◌, ◌<◌, ◌≤◌, min, List, [], ◌∷◌, ◌++◌, length, take, drop, ◌≢◌, slice_set, Option, Some, None, Result, Ok, Err, ⊤}
 use Rattle.std.proofs.Common.{mul-le-mul_left, mul-zero, mul-suc, mul-add, mod-eq_of_lt, le_antisymm, le_trans, div-le_self, zero-add, add-one, subst, ◌∙◌, append_assoc, append-nil, length-append, take-append-drop, take_at, drop_at, drop-drop, length-take-le, le-leb, lt-ltb, le-ltb}
 use Rattle.std.proofs.Math.Nat.{mul-div-le, div-eq_of_lt, div-eq-sub-div}
 use Rattle.std.proofs.Math.Decide.{dec_le, dec_lt}
@@ -9,18 +9,18 @@ use native.Mathlib.Omega.{arith}
 use Rattle.std.proofs.Math.Path.{refl, sym, ap}
 use Rattle.std.proofs.lemmas.List.{set_split, length-replicate}
 use Rattle.std.proofs.lemmas.Bool.{lt-leb}
-use Rattle.util.specs.Buffer.{pasted, at_start, overwritten, Put}
+use Rattle.util.specs.Buffer.{pasted, at_start, Put}
 use Rattle.util.proofs.BufferLaws.{put_none, put_then, put_length}
 use Rattle.segment.specs.Segments.{segments_of, file_offset}
 use Rattle.segment.specs.Mapping.{Located, Has}
 use Rattle.segment.specs.declared.segment.Mapping.{Mapping}
-use Rattle.refusal.specs.Refusal.{Guarded, answered, refused, mapped, answer_of}
+use Rattle.refusal.specs.Refusal.{Guarded, answered, mapped}
 use Rattle.refusal.specs.declared.Refusal.{Refusal}
 use Rattle.refusal.specs.Guarded.{fault, fault_of, guarded}
 use Rattle.refusal.proofs.GuardedLaws.{refused_list, accepted_list}
 use Rattle.runtime.specs.Reads.{bytes_place, run}
 use Rattle.runtime.proofs.CallsLaws.{bytes_at_lem, bytes_past, bytes_nowhere, bytes_within}
-use Rattle.vtable.specs.Entries.{Layout, packed, shape_words, table_entry, Entry, entry_size, entry_of, entry_address, entry_at, Step, entry_step, words_from}
+use Rattle.vtable.specs.Entries.{Layout, Entry, entry_size, entry_of, entry_address, entry_at, Step, entry_step, words_from}
 use Rattle.vtable.proofs.EntriesLaws.{step_end, step_gives}
 use Rattle.vtable.specs.Listed.{listed_entries}
 use Rattle.vtable.proofs.ListLaws.{iter_at}
@@ -161,14 +161,6 @@ below_word a x more last e h =
     let f : a ≡ x = e ∙ mod-eq_of_lt (omega arith) in
     omega arith
 
--- an entry's words are those that its value holds
-words_are : (w : Word) (more a : ℕ) (h : List ℕ) → more ≤ 2
-    → words_in more (table_entry (record { address = a; words = words_from (w ∷ replicate more pointer) a 0 h })) ≡ words_from (w ∷ replicate more pointer) a 0 h
-words_are w zero a h m = refl
-words_are w (suc zero) a h m = refl
-words_are w (suc (suc zero)) a h m = refl
-words_are w (suc (suc (suc n))) a h m = absurd (omega arith)
-
 -- ---- its numbers in the list
 
 pub set_put : (b : List ℕ) (at x : ℕ) → at < length b → Put b at (x ∷ []) (at + 1) (slice_set b at x)
@@ -200,16 +192,6 @@ module _ (b : List ℕ) (at : ℕ) (w : TableEntry) where
 
     pub put_three : more ≡ 2 → slice_set (slice_set (slice_set (slice_set b at w.address) (at + 1) w.first) (at + 2) w.second) (at + 3) w.third ≡ pasted b at (w.address ∷ words_in more w)
     put_three e = rw e (three (omega arith)).holds
-
--- an entry's numbers are those of its words
-pub put_words : (b b' bytes s : List ℕ) (at a n o : ℕ) (x : Shape) (e : TableEntry) → x.more ≤ 2 → n ≡ 4 + 4 * x.more → b' ≡ pasted b at (e.address ∷ words_in x.more e)
-    → e ≡ table_entry (entry_of (packed (shape_words x)) a bytes) → bytes ≡ take (o + n - o) (drop o s)
-    → b' ≡ pasted b at (entry_numbers (entry_of (shape_layout x 0) a (take (4 + 4 * x.more) (drop o s))))
-put_words b b' bytes s at a n o x e small en eb ee ep =
-    let len : o + n - o ≡ 4 + 4 * x.more = omega arith in
-    let same : bytes ≡ take (4 + 4 * x.more) (drop o s) = ep ∙ ap (λ (j : ℕ). take j (drop o s)) len in
-    eb ∙ ap (λ (y : TableEntry). pasted b at (y.address ∷ words_in x.more y)) ee ∙ ap (λ (ws : List ℕ). pasted b at (a ∷ ws)) (words_are x.first x.more a bytes small)
-    ∙ ap (λ (h : List ℕ). pasted b at (entry_numbers (entry_of (shape_layout x 0) a h))) same
 
 -- ---- the entries of a run
 
@@ -597,16 +579,6 @@ module _ (image segments : List ℕ) (s : Shape) (stride base count : ℕ) (b₀
           (omega arith)
 
 -- ---- the calls
-
--- a call that lists into a buffer: its answer, and the numbers at the buffer's start
-module _ {A B : Type 0} (tell : A → B) (say : A → List ℕ) (segments : List ℕ) (r : A) (b : List ℕ) where
-  pub listed_refused : {n : ℕ} → Some n ≡ fault segments
-      → (refused n ≡ mapped tell (guarded segments (answered r))) × (b ≡ overwritten b (answer_of (mapped say (guarded segments (answered r)))))
-  listed_refused h = rw (sym (refused_list segments (answered r) h)) (refl, refl)
-
-  pub listed_accepted : (x : B) (b' : List ℕ) → (x ≡ tell r) × (b' ≡ at_start (say r) b) → None ≡ fault segments
-      → (answered x ≡ mapped tell (guarded segments (answered r))) × (b' ≡ overwritten b (answer_of (mapped say (guarded segments (answered r)))))
-  listed_accepted x b' e h = rw (sym (accepted_list segments (answered r) h)) (ap answered e.0, e.1)
 
 module _ (segments : List ℕ) (t₀ : WholeTable) (b : List ℕ) where
   abbrev G : Guarded WholeTable

@@ -1,6 +1,6 @@
--- What the code finds of a table of records with names is `namedTable`: a record's numbers in the list (`numbers_are`), what a step says
--- (`step-ended`, `step-found`), and that a true mapping changes none of it (`named-mapped`).
-use Rattle.std.specs.Prelude.{ℕ, suc, ◌+◌, ◌*◌, ◌/◌, ◌≤◌, ◌<◌, ◌≡◌, refl, List, [], ◌∷◌, ◌++◌, length, get_or, Option, Some, None}
+-- What the code finds of a table of records with names is `named_table`: what a step says (`step_ended`, `step_found`), that a true mapping
+-- changes none of it (`named_mapped`), and record after record (`Naming`).
+use Rattle.std.specs.Prelude.{ℕ, suc, ◌+◌, ◌*◌, ◌/◌, ◌≤◌, ◌<◌, ◌≡◌, refl, List, length, Option, Some, None}
 use Rattle.std.proofs.Math.Decide.{dec_lt}
 use Rattle.std.proofs.Common.{arith, sym, ap, subst, ◌∙◌, length-append}
 use Rattle.util.specs.Buffer.{pasted}
@@ -17,7 +17,7 @@ use Rattle.field.specs.declared.record.FieldRecordIter.{FieldRecordIter}
 use Rattle.field.specs.Records.{record_layout, RecordStep, record_step, of_record}
 use Rattle.field.proofs.RecordsLaws.{record_end, record_gives, record_mapped}
 use Rattle.entry_tables.specs.declared.list.Stop.{Stop}
-use Rattle.entry_tables.specs.Tables.{entry_numbers, stop_number, stop_at, Lists}
+use Rattle.entry_tables.specs.Tables.{stop_number, stop_at, Lists}
 use Rattle.entry_tables.proofs.TablesLaws.{Going, start_going, stops_end, stops_full, stops_none, goes_on_lem}
 use Rattle.entry_tables.proofs.PastedLaws.{pasted_as}
 use Rattle.named_records.specs.NamedRecords.{named_numbers, named_in}
@@ -33,18 +33,6 @@ name_long None = refl
 name_long (Some (in_image p)) = refl
 name_long (Some (in_strings p)) = refl
 
-side_by_side : (r : FieldRecord) (x : Option Place) (y : Option NamePlace)
-    → r.address ∷ (r.flags ∷ (r.mangled_type_name_va ∷ (r.field_name_va
-    ∷ (get_or (text_numbers x) 0 0 ∷ (get_or (text_numbers x) 1 0 ∷ (get_or (text_numbers x) 2 0
-    ∷ (get_or (field_numbers y) 0 0 ∷ (get_or (field_numbers y) 1 0 ∷ (get_or (field_numbers y) 2 0 ∷ [])))))))))
-    ≡ entry_numbers (of_record r) ++ (text_numbers x ++ field_numbers y)
-side_by_side r None None = refl
-side_by_side r None (Some (in_image p)) = refl
-side_by_side r None (Some (in_strings p)) = refl
-side_by_side r (Some t) None = refl
-side_by_side r (Some t) (Some (in_image p)) = refl
-side_by_side r (Some t) (Some (in_strings p)) = refl
-
 module _ (image segments strings : List ℕ) (start : ℕ) where
   abbrev numbers : Entry → List ℕ
   numbers = named_numbers image segments strings start
@@ -55,13 +43,6 @@ module _ (image segments strings : List ℕ) (start : ℕ) where
       let n : Option NamePlace = field_name image segments strings start r.field_name_va in
       let six : length (text_numbers t) + length (field_numbers n) ≡ 6 = omega (arith, text_long t, name_long n) in
       ap (λ (j : ℕ). suc (suc (suc (suc j)))) (length-append (text_numbers t) (field_numbers n) ∙ six)
-
-  -- as the code puts them side by side
-  pub numbers_are : (r : FieldRecord) (t n : List ℕ) → t ≡ text_numbers (text_place image segments r.mangled_type_name_va)
-      → n ≡ field_numbers (field_name image segments strings start r.field_name_va)
-      → r.address ∷ (r.flags ∷ (r.mangled_type_name_va ∷ (r.field_name_va
-      ∷ (get_or t 0 0 ∷ (get_or t 1 0 ∷ (get_or t 2 0 ∷ (get_or n 0 0 ∷ (get_or n 1 0 ∷ (get_or n 2 0 ∷ []))))))))) ≡ numbers (of_record r)
-  numbers_are r t n et en = rw (et, en) (side_by_side r (text_place image segments r.mangled_type_name_va) (field_name image segments strings start r.field_name_va))
 
   -- a true mapping changes none
   pub named_mapped : (m : Mapping) → TrueMapping segments m → (e : Entry) → named_numbers image (with_mapping m segments) strings start e ≡ numbers e
