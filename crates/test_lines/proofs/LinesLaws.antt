@@ -4,13 +4,13 @@ use Rattle.std.proofs.Common.{Bor, inl, inr, zero-add, add-one, sym, ◌∙◌, 
 use Rattle.std.proofs.Math.Decide.{dec_le, dec_lt, ℕ_discrete}
 use native.Mathlib.Omega.{arith}
 use Rattle.std.specs.Slice.{IsGetRangeResult}
-use Rattle.std.specs.List.{list_all as all_of}
+use Rattle.std.specs.List.{position_or_len, list_all as all_of}
 use lib.Pointwise.{pointwise}
 use Rattle.std.specs.Prelude.{◌≡◌, refl, unwrap_or, List, [], ◌∷◌, ◌++◌, true, false, cond, ◌&&◌, take, get_or, set, leb, ltb, eqb, Option, Some, None, option_map}
 use Rattle.std.proofs.Math.Path.{ap}
 use Rattle.std.proofs.Math.Bool.{and-false, and-eq-true_iff}
 use Rattle.std.proofs.Math.ListN.{length, drop, length-drop, drop_of_length-le}
-use Rattle.std.proofs.Math.Seq.{drop-cons, drop-drop, paste-suc, take-length}
+use Rattle.std.proofs.Math.Seq.{drop-cons, drop-drop, paste-suc, take-length, take_all}
 use borrow.Author.Tests.{le-leb, lt-leb, lt-ltb, le-ltb, ltb-true, eq-eqb, ne_eqb, eqb-true}
 use Rattle.test_lines.specs.Lines.{span, find_from, line_at_offset, after_line, field_of, first_of, equals, digit_of, all_digits, hex_value, hex_number, digit_pairs, hex_bytes, fitting, numbers_of_fields, list_numbers, list_count}
 use Rattle.util.specs.Buffer.{overwritten}
@@ -24,6 +24,30 @@ span_most stop (b ∷ s) =
       | no n ↦ rw (ne_eqb b stop n) (omega (arith, span_most stop s))
     ]
 
+-- `position` of a byte, as std says it
+position_span : (stop : ℕ) (s : List ℕ) → position_or_len (λ b. eqb b stop) s ≡ span stop s
+unfolding span
+position_span stop [] = refl
+position_span stop (b ∷ s) =
+    elim (ℕ_discrete b stop) [
+      | yes e ↦ rw (eq-eqb b stop e)
+      | no n ↦ rw (ne_eqb b stop n) (omega (arith, position_span stop s))
+    ]
+
+pub found_span : (stop : ℕ) (s : List ℕ) (o : Option ℕ) → o ≡ cond (ltb (position_or_len (λ b. eqb b stop) s) (length s)) (Some (position_or_len (λ b. eqb b stop) s)) None → unwrap_or o (length s) ≡ span stop s
+found_span stop s o e =
+    ap (λ (x : Option ℕ). unwrap_or x (length s)) e
+    ∙ rw (position_span stop s) (elim (dec_lt (span stop s) (length s)) [
+      | yes l ↦ rw (lt-ltb (span stop s) (length s) l)
+      | no l ↦ rw (le-ltb (span stop s) (length s) (omega arith)) (omega (arith, span_most stop s))
+    ])
+
+-- the bytes from a place on, as `get` and `unwrap_or` give them
+pub rest_got : (s : List ℕ) (at : ℕ) (o : Option (Bor (List ℕ))) (none : Bor (List ℕ)) → none.now ≡ [] → IsGetRangeResult s at (length s) o → (unwrap_or o none).now ≡ drop at s
+rest_got s at (Some part) none e got = got.0.2 ∙ take_all (length s - at) (drop at s) (rw length-drop (omega arith))
+rest_got s at None none e got =
+    e ∙ sym (drop_of_length-le s {i = at} (elim got.0 [ inl l ↦ omega arith | inr l ↦ absurd (omega arith) ]))
+
 module _ (s : List ℕ) (i stop : ℕ) where
   pub find_here : i < length s → get_or s i 0 ≡ stop → i ≡ find_from s i stop
   unfolding find_from span
@@ -36,6 +60,10 @@ module _ (s : List ℕ) (i stop : ℕ) where
   pub find_end : length s ≤ i → i ≡ find_from s i stop
   unfolding find_from span
   find_end h = rw (drop_of_length-le s {i = i} h) (omega arith)
+
+  pub find_at : (n : ℕ) → n ≡ span stop (drop i s) → i + n ≡ find_from s i stop
+  unfolding find_from
+  find_at n e = ap (λ (k : ℕ). i + k) e
 
   -- what is found lies between the place and the end
   pub find_bounds : (e : ℕ) → e ≡ find_from s i stop → i ≤ length s → (i ≤ e) × (e ≤ length s)

@@ -5,7 +5,8 @@ ghost use Rattle.util.specs.Buffer.{overwritten};
 
 use crate::line::field;
 
-// The value of a digit, or 16.
+// The value of a digit, or 16. No `Option`: `digit_of` is a number for each byte, and `write_pairs` has no case for what is no digit. Not std's
+// `to_digit`, which takes capitals too.
 pub fn digit(b: u8) -> u64
     ensures { result ≡ digit_of b }
 {
@@ -16,7 +17,7 @@ pub fn digit(b: u8) -> u64
     }
 }
 
-// A number below 2^64.
+// A number below 2^64. Not std's `from_str_radix`, which takes capitals and a sign too.
 pub fn parse_number(s: &[u8]) -> Option<u64>
     ensures { result ≡ hex_number s.now }
 {

@@ -6,12 +6,8 @@ ghost use Rattle.test_lines.specs.Lines.{find_from, line_at_offset, after_line, 
 pub fn find(s: &[u8], at: usize, stop: u8) -> usize
     ensures { result ≡ find_from s.now at stop }
 {
-    for i in at..s.len() {
-        if s[i] == stop {
-            return i;
-        }
-    }
-    at.max(s.len())
+    let rest = s.get(at..).unwrap_or(&[]);
+    at + rest.iter().position(|b| *b == stop).unwrap_or(rest.len())
 }
 
 // The line that starts at `at`, without its newline: empty where `at` is past the end.

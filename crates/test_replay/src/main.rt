@@ -23,22 +23,13 @@ use parent::{ParentChain, ParentContext, ParentStep};
 use refusal::Refusal;
 use runtime::{FieldName, SwiftRuntime, SwiftSection};
 use std::io::Stdout;
+use test_lines::{bad_line, count, write};
 use typedescriptor::{Row, TypeIter, TypeStep};
 use util::Place;
 
 // Parts of lines.
 
-// What could not be written is missing where the output is compared.
-fn write(out: Stdout, text: &[u8]) {
-    let _ = out.write_all(text);
-}
-
-// A line that is never expected: for an input line that cannot be read, or an answer that no call may give.
-fn bad_line(out: Stdout) {
-    write(out, b"bad line\n");
-}
-
-// A space and a number.
+// A space and a number. Each test program has its own form of one.
 fn number_field(out: Stdout, n: u64) {
     let _ = print!(out; " {n:x}");
 }
@@ -81,13 +72,13 @@ fn name_line(out: Stdout, name: &[u8]) {
 // The rows.
 
 // The joined name, and once more into a buffer that is one byte too short for it.
-fn name_lines(out: Stdout, image: &[u8], segments: &[u64], row: Row, buffer: &mut [u8]) {
-    match steps::joined_name(image, segments, row, buffer) {
+fn name_lines(out: Stdout, rt: &SwiftRuntime, row: Row, buffer: &mut [u8]) {
+    match steps::joined_name(rt.image, rt.segments, row, buffer) {
         Ok(0) => name_line(out, b""),
         Ok(length) => {
             name_line(out, util::part(buffer, 0, length));
             match buffer.get_mut(..length - 1) {
-                Some(shorter) => match steps::joined_name(image, segments, row, shorter) {
+                Some(shorter) => match steps::joined_name(rt.image, rt.segments, row, shorter) {
                     Ok(_) => bad_line(out),
                     Err(refusal) => refused(out, refusal),
                 },
@@ -121,10 +112,10 @@ fn depth_line(out: Stdout, depth: u64) {
 }
 
 // The contexts from a row's parent on. A walk gives at most 256, and then its end.
-fn context_lines(out: Stdout, image: &[u8], segments: &[u64], parent: u64) {
+fn context_lines(out: Stdout, rt: &SwiftRuntime, parent: u64) {
     let mut walk = ParentChain::starting_at(parent);
     for depth in 0..257 {
-        match steps::next_context(image, segments, walk) {
+        match steps::next_context(rt.image, rt.segments, walk) {
             Ok(Some(ParentStep { context, next })) => {
                 shown(out, depth, context);
                 walk = next;
@@ -145,11 +136,11 @@ fn row_line(out: Stdout, slot: usize, row: Row) {
     place_end(out, row.name);
 }
 
-fn row_lines(out: Stdout, image: &[u8], segments: &[u64], slot: usize, row: Row) {
+fn row_lines(out: Stdout, rt: &SwiftRuntime, slot: usize, row: Row) {
     let mut buffer = [0u8; 1024];
     row_line(out, slot, row);
-    context_lines(out, image, segments, row.parent);
-    name_lines(out, image, segments, row, &mut buffer);
+    context_lines(out, rt, row.parent);
+    name_lines(out, rt, row, &mut buffer);
 }
 
 fn end_line(out: Stdout, rows: u64) {
@@ -158,12 +149,12 @@ fn end_line(out: Stdout, rows: u64) {
 }
 
 // The rows of a types section of fewer than 4,096 slots.
-fn all_rows(out: Stdout, image: &[u8], segments: &[u64], types: &[u8], vmaddr: u64) {
+fn all_rows(out: Stdout, rt: &SwiftRuntime, types: SwiftSection) {
     let mut walk = TypeIter::new();
     for rows in 0..4096 {
-        match steps::next_row(image, segments, types, vmaddr, walk) {
+        match steps::next_row(rt.image, rt.segments, types.body, types.vmaddr, walk) {
             Ok(Some(TypeStep { slot, row, next })) => {
-                row_lines(out, image, segments, slot, row);
+                row_lines(out, rt, slot, row);
                 walk = next;
             }
             Ok(None) => return end_line(out, rows),
@@ -184,10 +175,10 @@ fn offset_line(out: Stdout, segments: &[u64], address: u64) {
     }
 }
 
-fn field_line(out: Stdout, runtime: SwiftRuntime, strings: SwiftSection, address: u64) {
+fn field_line(out: Stdout, rt: &SwiftRuntime, strings: SwiftSection, address: u64) {
     write(out, b"field");
     number_field(out, address);
-    match runtime.lookup_field_name(strings, address) {
+    match rt.lookup_field_name(strings, address) {
         Some(FieldName::Image(place)) => {
             number_field(out, 1);
             place_end(out, place);
@@ -218,27 +209,16 @@ fn offset_by(image: &[u8], address: u64) -> usize {
     }
 }
 
-fn all_addresses(out: Stdout, runtime: SwiftRuntime, strings: SwiftSection, addresses: &[u64]) {
+fn all_addresses(out: Stdout, rt: &SwiftRuntime, strings: SwiftSection, addresses: &[u64]) {
     for address in addresses {
         let address = *address;
-        offset_line(out, runtime.segments, address);
-        field_line(out, runtime, strings, address);
-        text_line(out, runtime.image, offset_by(runtime.image, address));
+        offset_line(out, rt.segments, address);
+        field_line(out, rt, strings, address);
+        text_line(out, rt.image, offset_by(rt.image, address));
     }
 }
 
 // From a line to its answers.
-
-// How many bytes or numbers a field has; if it cannot be read, 0, and a line that no expected answer has.
-fn count(out: Stdout, read: Option<usize>) -> usize {
-    match read {
-        Some(n) => n,
-        None => {
-            bad_line(out);
-            0
-        }
-    }
-}
 
 // The line's three pieces of bytes and two lists, and all its answers.
 fn run_line(out: Stdout, line: &[u8], types_va: u64, strings_va: u64) {
@@ -262,18 +242,20 @@ fn run_line(out: Stdout, line: &[u8], types_va: u64, strings_va: u64) {
     let numbers = count(out, test_lines::parse_list(line, 6, &mut segments));
     let next = numbers.wrapping_add(7);
     let given = count(out, test_lines::parse_list(line, next, &mut addresses));
-    let whole = util::part(&image, 0, bytes);
-    let list = test_lines::first(&segments, numbers);
-    all_rows(out, whole, list, util::part(&types, 0, slots), types_va);
-    all_addresses(
-        out,
-        SwiftRuntime::new(whole, list),
-        SwiftSection {
-            body: util::part(&strings, 0, names),
-            vmaddr: strings_va,
-        },
-        test_lines::first(&addresses, given),
+    let rt = SwiftRuntime::new(
+        util::part(&image, 0, bytes),
+        test_lines::first(&segments, numbers),
     );
+    let types = SwiftSection {
+        body: util::part(&types, 0, slots),
+        vmaddr: types_va,
+    };
+    let strings = SwiftSection {
+        body: util::part(&strings, 0, names),
+        vmaddr: strings_va,
+    };
+    all_rows(out, &rt, types);
+    all_addresses(out, &rt, strings, test_lines::first(&addresses, given));
 }
 
 fn answer_line(out: Stdout, line: &[u8]) {

@@ -2,16 +2,15 @@
 ghost use Rattle.std.specs.Prelude.{◌≡◌};
 ghost use Rattle.test_replay_full.specs.Shown.{walk_end};
 
-use crate::{
-    SHOWN, after_shown, bad_line, done, nothing, number_field, one, text_line, three, word,
-};
+use crate::{SHOWN, after_shown, done, nothing, number_field, one, text_line, three};
 use context::FieldDescriptorKind;
 use field::{FieldDescriptor, FieldIter, FieldRecord, FieldRecordStep, FieldStep};
 use runtime::{FieldName, SwiftRuntime, SwiftSection};
 use std::io::Stdout;
+use test_lines::{bad_line, write};
 use util::Place;
 
-// The kind's number. The call for C adds 256 to the number of a kind that has no name.
+// The kind's number. The call for C adds 256 to the number of a kind that has no name. No `From`: only the crate of the kind may write that.
 fn kind_number(kind: FieldDescriptorKind) -> u64 {
     match kind {
         FieldDescriptorKind::Other(number) => u64::from(number),
@@ -20,7 +19,7 @@ fn kind_number(kind: FieldDescriptorKind) -> u64 {
 }
 
 fn unreadable(out: Stdout) {
-    word(out, b"unreadable\n");
+    write(out, b"unreadable\n");
 }
 
 // Records.
@@ -31,7 +30,7 @@ fn name_place(out: Stdout, section: u64, place: Place) {
 }
 
 fn name_line(out: Stdout, rt: &SwiftRuntime, strings: SwiftSection, record: FieldRecord) {
-    word(out, b"name");
+    write(out, b"name");
     match field::field_name(rt, strings, record) {
         Some(FieldName::Image(place)) => name_place(out, 1, place),
         Some(FieldName::Strings(place)) => name_place(out, 2, place),
@@ -40,7 +39,7 @@ fn name_line(out: Stdout, rt: &SwiftRuntime, strings: SwiftSection, record: Fiel
 }
 
 fn record_lines(out: Stdout, rt: &SwiftRuntime, strings: SwiftSection, record: FieldRecord) {
-    word(out, b"record");
+    write(out, b"record");
     one(out, u64::from(record.flags));
     text_line(out, b"type", field::record_type_name(rt, record));
     name_line(out, rt, strings, record);
@@ -72,7 +71,7 @@ fn records(out: Stdout, rt: &SwiftRuntime, strings: SwiftSection, descriptor: Fi
 // Descriptors.
 
 fn descriptor_line(out: Stdout, descriptor: FieldDescriptor) {
-    word(out, b"descriptor");
+    write(out, b"descriptor");
     number_field(out, descriptor.address);
     three(
         out,
@@ -96,7 +95,7 @@ fn descriptor_lines(
 }
 
 fn end_line(out: Stdout) {
-    word(out, b"end\n");
+    write(out, b"end\n");
 }
 
 // The descriptors up to the end of the walk, from there on.

@@ -44,6 +44,7 @@ use crate::rows::all_rows;
 use refusal::Refusal;
 use runtime::{SwiftRuntime, SwiftSection};
 use std::io::Stdout;
+use test_lines::{bad_line, count, write};
 use util::Place;
 
 // Parts of lines, here for all modules.
@@ -51,23 +52,18 @@ use util::Place;
 // How many entries of a table, records of a descriptor and offsets of a struct are written.
 const SHOWN: u32 = 12;
 
-// What could not be written is missing where the output is compared.
-fn word(out: Stdout, text: &[u8]) {
-    let _ = out.write_all(text);
-}
-
 // A space and a number.
 fn number_field(out: Stdout, n: u64) {
     let _ = print!(out; " {n:x}");
 }
 
 fn newline(out: Stdout) {
-    word(out, b"\n");
+    write(out, b"\n");
 }
 
 // The rest of a line for an answer that is nothing.
 fn nothing(out: Stdout) {
-    word(out, b" nothing\n");
+    write(out, b" nothing\n");
 }
 
 // The rest of a line of one, two or three numbers.
@@ -87,13 +83,13 @@ fn three(out: Stdout, a: u64, b: u64, c: u64) {
 }
 
 fn refused(out: Stdout, refusal: Refusal) {
-    word(out, b"refused");
+    write(out, b"refused");
     one(out, refusal::number(refusal));
 }
 
 // A text of the image.
 fn text_line(out: Stdout, name: &[u8], text: Option<Place>) {
-    word(out, name);
+    write(out, name);
     match text {
         Some(place) => two(out, place.start as u64, place.size as u64),
         None => nothing(out),
@@ -101,35 +97,19 @@ fn text_line(out: Stdout, name: &[u8], text: Option<Place>) {
 }
 
 fn done(out: Stdout) {
-    word(out, b"done\n");
+    write(out, b"done\n");
 }
 
 // The line after the entries that are shown of a table of `count`.
 fn after_shown(out: Stdout, count: u32) {
     if count > SHOWN {
-        word(out, b"more\n");
+        write(out, b"more\n");
     } else {
         done(out);
     }
 }
 
 // Lines of the input.
-
-// A line that is never expected: for an input line that cannot be read, or an answer that no call may give.
-fn bad_line(out: Stdout) {
-    word(out, b"bad line\n");
-}
-
-// How many bytes or numbers a field has; if it cannot be read, 0, and a bad line.
-fn count(out: Stdout, read: Option<usize>) -> usize {
-    match read {
-        Some(n) => n,
-        None => {
-            bad_line(out);
-            0
-        }
-    }
-}
 
 // The line's image, segments and sections, and all its answers.
 fn run_line(out: Stdout, line: &[u8], types_va: u64, fields_va: u64, strings_va: u64) {
@@ -155,21 +135,24 @@ fn run_line(out: Stdout, line: &[u8], types_va: u64, fields_va: u64, strings_va:
         test_lines::parse_bytes(test_lines::field(line, 7), &mut strings),
     );
     let numbers = count(out, test_lines::parse_list(line, 8, &mut segments));
-    let whole = util::part(&image, 0, bytes);
-    let list = test_lines::first(&segments, numbers);
-    all_rows(out, whole, list, util::part(&types, 0, slots), types_va);
-    all_fields(
-        out,
-        &SwiftRuntime::new(whole, list),
-        SwiftSection {
-            body: util::part(&fields, 0, headers),
-            vmaddr: fields_va,
-        },
-        SwiftSection {
-            body: util::part(&strings, 0, names),
-            vmaddr: strings_va,
-        },
+    let rt = SwiftRuntime::new(
+        util::part(&image, 0, bytes),
+        test_lines::first(&segments, numbers),
     );
+    let types = SwiftSection {
+        body: util::part(&types, 0, slots),
+        vmaddr: types_va,
+    };
+    let fields = SwiftSection {
+        body: util::part(&fields, 0, headers),
+        vmaddr: fields_va,
+    };
+    let strings = SwiftSection {
+        body: util::part(&strings, 0, names),
+        vmaddr: strings_va,
+    };
+    all_rows(out, &rt, types);
+    all_fields(out, &rt, fields, strings);
 }
 
 fn answer_line(out: Stdout, line: &[u8]) {

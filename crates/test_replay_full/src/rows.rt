@@ -3,13 +3,12 @@ ghost use Rattle.std.specs.Prelude.{◌≡◌};
 ghost use Rattle.test_replay_full.specs.Shown.{rows_shown};
 
 use crate::entries::{at_row, entries};
-use crate::{
-    SHOWN, bad_line, newline, nothing, number_field, one, refused, text_line, three, two, word,
-};
+use crate::{SHOWN, newline, nothing, number_field, one, refused, text_line, three, two};
 use classtrailers::{Block, BlockBody, BlockKind, BlockStep};
 use field_offsets::FieldOffsets;
-use runtime::SwiftRuntime;
+use runtime::{SwiftRuntime, SwiftSection};
 use std::io::Stdout;
+use test_lines::{bad_line, write};
 use type_body::{ClassBody, ClassSizes, SingletonMetadataInit, TypeBody};
 use typedescriptor::{Row, TypeIter, TypeStep};
 use vtable::EntryKind;
@@ -22,7 +21,7 @@ fn class_line(out: Stdout, class: ClassBody) {
             negative_words,
             positive_words,
         } => {
-            word(out, b"fixed");
+            write(out, b"fixed");
             number_field(out, u64::from(negative_words));
             number_field(out, u64::from(positive_words));
         }
@@ -30,7 +29,7 @@ fn class_line(out: Stdout, class: ClassBody) {
             bounds_va,
             extra_class_flags,
         } => {
-            word(out, b"resilient");
+            write(out, b"resilient");
             number_field(out, bounds_va);
             number_field(out, u64::from(extra_class_flags));
         }
@@ -43,21 +42,21 @@ fn class_line(out: Stdout, class: ClassBody) {
     );
 }
 
-fn superclass_line(out: Stdout, image: &[u8], segments: &[u64], body: Option<TypeBody>) {
-    match steps::superclass_name(image, segments, body) {
+fn superclass_line(out: Stdout, rt: &SwiftRuntime, body: Option<TypeBody>) {
+    match steps::superclass_name(rt.image, rt.segments, body) {
         Ok(text) => text_line(out, b"superclass", text),
         Err(refusal) => refused(out, refusal),
     }
 }
 
-fn body_lines(out: Stdout, image: &[u8], segments: &[u64], body: Option<TypeBody>) {
+fn body_lines(out: Stdout, rt: &SwiftRuntime, body: Option<TypeBody>) {
     match body {
         Some(TypeBody::Class(class)) => {
             class_line(out, class);
-            superclass_line(out, image, segments, body);
+            superclass_line(out, rt, body);
         }
         Some(TypeBody::Struct(fields)) => {
-            word(out, b"struct");
+            write(out, b"struct");
             two(
                 out,
                 u64::from(fields.num_fields),
@@ -65,7 +64,7 @@ fn body_lines(out: Stdout, image: &[u8], segments: &[u64], body: Option<TypeBody
             );
         }
         Some(TypeBody::Enum(cases)) => {
-            word(out, b"enum");
+            write(out, b"enum");
             three(
                 out,
                 u64::from(cases.num_payload_cases),
@@ -73,7 +72,7 @@ fn body_lines(out: Stdout, image: &[u8], segments: &[u64], body: Option<TypeBody
                 u64::from(cases.num_empty_cases),
             );
         }
-        None => word(out, b"bodiless\n"),
+        None => write(out, b"bodiless\n"),
     }
 }
 
@@ -101,9 +100,9 @@ fn block_end(out: Stdout, block: Block) {
     }
 }
 
-fn init_line(out: Stdout, image: &[u8], segments: &[u64], address: u64) {
-    word(out, b"init");
-    match steps::singleton_init(image, segments, address) {
+fn init_line(out: Stdout, rt: &SwiftRuntime, address: u64) {
+    write(out, b"init");
+    match steps::singleton_init(rt.image, rt.segments, address) {
         Ok(
             Some(
                 SingletonMetadataInit {
@@ -123,9 +122,9 @@ fn init_line(out: Stdout, image: &[u8], segments: &[u64], address: u64) {
     }
 }
 
-fn pointer_line(out: Stdout, image: &[u8], segments: &[u64], address: u64) {
-    word(out, b"pointer");
-    match steps::singleton_pointer(image, segments, address) {
+fn pointer_line(out: Stdout, rt: &SwiftRuntime, address: u64) {
+    write(out, b"pointer");
+    match steps::singleton_pointer(rt.image, rt.segments, address) {
         Ok(Some(metadata_va)) => one(out, metadata_va),
         Ok(None) => nothing(out),
         Err(refusal) => refused(out, refusal),
@@ -133,11 +132,11 @@ fn pointer_line(out: Stdout, image: &[u8], segments: &[u64], address: u64) {
 }
 
 // What lies at a block: its record or its entries.
-fn detail_lines(out: Stdout, image: &[u8], segments: &[u64], block: Block) {
+fn detail_lines(out: Stdout, rt: &SwiftRuntime, block: Block) {
     match block.body {
         BlockBody::At(address) => match block.kind {
-            BlockKind::SingletonMetadataInit => init_line(out, image, segments, address),
-            BlockKind::SingletonMetadataPointer => pointer_line(out, image, segments, address),
+            BlockKind::SingletonMetadataInit => init_line(out, rt, address),
+            BlockKind::SingletonMetadataPointer => pointer_line(out, rt, address),
             _ => {}
         },
         BlockBody::Table {
@@ -146,7 +145,7 @@ fn detail_lines(out: Stdout, image: &[u8], segments: &[u64], block: Block) {
             entries_va,
         } => {
             let kind = entry_kind(block.kind);
-            entries(out, image, segments, kind, entries_va, count);
+            entries(out, rt, kind, entries_va, count);
         }
         BlockBody::Set {
             bits: _,
@@ -155,7 +154,7 @@ fn detail_lines(out: Stdout, image: &[u8], segments: &[u64], block: Block) {
     }
 }
 
-// The kind of a table's entries.
+// The kind of a table's entries. No `From`: only the crates of the kinds may write that.
 fn entry_kind(table: BlockKind) -> EntryKind {
     match table {
         BlockKind::VTable => EntryKind::Method,
@@ -165,19 +164,19 @@ fn entry_kind(table: BlockKind) -> EntryKind {
     }
 }
 
-fn block_line(out: Stdout, image: &[u8], segments: &[u64], block: Block) {
-    word(out, b"block");
+fn block_line(out: Stdout, rt: &SwiftRuntime, block: Block) {
+    write(out, b"block");
     block_end(out, block);
-    detail_lines(out, image, segments, block);
+    detail_lines(out, rt, block);
 }
 
 // There are at most 11 blocks, and then the end.
-fn block_lines(out: Stdout, image: &[u8], segments: &[u64], row: Row, body: Option<TypeBody>) {
+fn block_lines(out: Stdout, rt: &SwiftRuntime, row: Row, body: Option<TypeBody>) {
     let mut walk = steps::block_walk(row.address, row.flags, body);
     for _ in 0..12 {
-        match steps::next_block(image, segments, walk) {
+        match steps::next_block(rt.image, rt.segments, walk) {
             Ok(Some(BlockStep { block, next })) => {
-                block_line(out, image, segments, block);
+                block_line(out, rt, block);
                 walk = next;
             }
             Ok(None) => return,
@@ -187,17 +186,10 @@ fn block_lines(out: Stdout, image: &[u8], segments: &[u64], row: Row, body: Opti
     bad_line(out);
 }
 
-fn kind_line(
-    out: Stdout,
-    image: &[u8],
-    segments: &[u64],
-    row: Row,
-    body: Option<TypeBody>,
-    kind: BlockKind,
-) {
-    match steps::block_of_kind(image, segments, row.address, row.flags, body, kind) {
+fn kind_line(out: Stdout, rt: &SwiftRuntime, row: Row, body: Option<TypeBody>, kind: BlockKind) {
+    match steps::block_of_kind(rt.image, rt.segments, row.address, row.flags, body, kind) {
         Ok(Some(block)) => {
-            word(out, b"kind");
+            write(out, b"kind");
             block_end(out, block);
         }
         Ok(None) => {}
@@ -206,10 +198,10 @@ fn kind_line(
 }
 
 // The block of each of the 11 kinds.
-fn kind_lines(out: Stdout, image: &[u8], segments: &[u64], row: Row, body: Option<TypeBody>) {
+fn kind_lines(out: Stdout, rt: &SwiftRuntime, row: Row, body: Option<TypeBody>) {
     for number in 0..11 {
         match classtrailers::kind_numbered(number) {
-            Some(kind) => kind_line(out, image, segments, row, body, kind),
+            Some(kind) => kind_line(out, rt, row, body, kind),
             None => bad_line(out),
         }
     }
@@ -224,14 +216,13 @@ fn offset_field(out: Stdout, image: &[u8], offsets: FieldOffsets, number: u32) {
     }
 }
 
-fn offsets_line(out: Stdout, image: &[u8], segments: &[u64], row: Row) {
-    word(out, b"offsets");
-    let rt = SwiftRuntime::new(image, segments);
-    match field_offsets::static_field_offsets(&rt, row.address, row.flags) {
+fn offsets_line(out: Stdout, rt: &SwiftRuntime, row: Row) {
+    write(out, b"offsets");
+    match field_offsets::static_field_offsets(rt, row.address, row.flags) {
         Some(offsets) => {
             number_field(out, u64::from(offsets.count));
             for number in 0..offsets.count.min(SHOWN) {
-                offset_field(out, image, offsets, number);
+                offset_field(out, rt.image, offsets, number);
             }
             newline(out);
         }
@@ -242,41 +233,41 @@ fn offsets_line(out: Stdout, image: &[u8], segments: &[u64], row: Row) {
 // Rows.
 
 fn row_line(out: Stdout, slot: usize, row: Row) {
-    word(out, b"row");
+    write(out, b"row");
     number_field(out, slot as u64);
     number_field(out, row.address);
     number_field(out, u64::from(row.flags));
     three(out, row.parent, row.name.start as u64, row.name.size as u64);
 }
 
-fn row_lines(out: Stdout, image: &[u8], segments: &[u64], slot: usize, row: Row) {
+fn row_lines(out: Stdout, rt: &SwiftRuntime, slot: usize, row: Row) {
     row_line(out, slot, row);
-    match steps::row_body(image, segments, row.address, row.flags) {
+    match steps::row_body(rt.image, rt.segments, row.address, row.flags) {
         Ok(body) => {
-            body_lines(out, image, segments, body);
-            block_lines(out, image, segments, row, body);
-            kind_lines(out, image, segments, row, body);
+            body_lines(out, rt, body);
+            block_lines(out, rt, row, body);
+            kind_lines(out, rt, row, body);
         }
         Err(refusal) => refused(out, refusal),
     }
-    offsets_line(out, image, segments, row);
-    at_row(out, image, segments, row.address);
+    offsets_line(out, rt, row);
+    at_row(out, rt, row.address);
 }
 
 fn rows_line(out: Stdout, rows: u64) {
-    word(out, b"rows");
+    write(out, b"rows");
     one(out, rows);
 }
 
 // Writes the first 4,096 rows of a types section, and returns how many there are.
-pub fn all_rows(out: Stdout, image: &[u8], segments: &[u64], types: &[u8], vmaddr: u64) -> u64
-    ensures { result ≡ rows_shown image.now segments.now types.now vmaddr }
+pub fn all_rows(out: Stdout, rt: &SwiftRuntime, types: SwiftSection) -> u64
+    ensures { result ≡ rows_shown rt.now.image.now rt.now.segments.now types.entry.body.now types.entry.vmaddr }
 {
     let mut walk = TypeIter::new();
     for rows in 0..4096 {
-        match steps::next_row(image, segments, types, vmaddr, walk) {
+        match steps::next_row(rt.image, rt.segments, types.body, types.vmaddr, walk) {
             Ok(Some(TypeStep { slot, row, next })) => {
-                row_lines(out, image, segments, slot, row);
+                row_lines(out, rt, slot, row);
                 walk = next;
             }
             Ok(None) => {

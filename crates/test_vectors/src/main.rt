@@ -8,6 +8,7 @@
 use bundle::{Layout, Section};
 use runtime::{FieldName, SwiftRuntime, SwiftSection};
 use std::io::Stdout;
+use test_lines::{bad_line, count, write};
 use util::Place;
 
 // The numbers from the sixth field to the line's end.
@@ -24,11 +25,6 @@ fn parse_numbers(line: &[u8], out: &mut [u64]) -> Option<usize> {
 }
 
 // A call each, and its whole answer on a line.
-
-// What could not be written is missing where the output is compared.
-fn write(out: Stdout, text: &[u8]) {
-    let _ = out.write_all(text);
-}
 
 fn nothing(out: Stdout) {
     write(out, b"nothing\n");
@@ -248,21 +244,6 @@ fn answer<'a>(
     number_call(out, name, a, runtime.image)
         || address_call(out, name, a, b, runtime)
         || bundle_call(out, name, runtime.image)
-}
-
-fn bad_line(out: Stdout) {
-    write(out, b"bad line\n");
-}
-
-// How many bytes or numbers a field has; if it cannot be read, 0, and a bad line.
-fn count(out: Stdout, read: Option<usize>) -> usize {
-    match read {
-        Some(n) => n,
-        None => {
-            bad_line(out);
-            0
-        }
-    }
 }
 
 fn run_line(out: Stdout, line: &[u8], a: u64, b: u64) {

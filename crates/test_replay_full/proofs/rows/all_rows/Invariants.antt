@@ -4,4 +4,4 @@ use Rattle.test_replay_full.proofs.rows.all_rows.Given as goal
 
 abbrev pub invariant-loop-rows : goal.invariant-loop-rows
 invariant-loop-rows l =
-    Showing l.image l.segments l.types l.vmaddr l.rows l.walk.slot × (0 < l.rows → Whole l.image l.segments l.types l.vmaddr)
+    Showing l.rt.image.now l.rt.segments.now l.types.body.now l.types.vmaddr l.rows l.walk.slot × (0 < l.rows → Whole l.rt.image.now l.rt.segments.now l.types.body.now l.types.vmaddr)
