@@ -1,7 +1,7 @@
 -- What the segments that a walk passes, and the one that decides, say about the addresses around one.
-use Rattle.std.specs.Prelude.{ℕ, ◌+◌, ◌-◌, ◌^◌, ◌≤◌, ◌<◌, min, max, ◌≡◌, refl, List, [], ◌∷◌, map, length, drop, get_or, Option, Some, None}
+use Rattle.std.specs.Prelude.{ℕ, ◌+◌, ◌-◌, ◌^◌, ◌≤◌, ◌<◌, min, max, ◌≡◌, refl, true, false, ltb, List, [], ◌∷◌, map, length, drop, get_or, Option, Some, None}
 use Rattle.std.proofs.Math.Decide.{dec_lt}
-use Rattle.std.proofs.Common.{add-one, drop-cons, drop_of_length-le, arith, sym, ap, ◌∙◌, subst, eq-eqb, ne_eqb}
+use Rattle.std.proofs.Common.{add-one, drop-cons, drop_of_length-le, arith, sym, ap, ◌∙◌, subst, ltb-true, eq-eqb, ne_eqb}
 use Rattle.segment.specs.Segments.{Segment, segment_from, segments_of, file_offset, decides, in_file}
 use Rattle.segment.proofs.SegmentsLaws.{below, above, empty, held, past_file, offset_wraps, in_file_lem, told, left}
 use Rattle.segment.specs.Mapping.{LocatedNear, with_mapping, as_segment, TrueMapping, Has, Exact, Located, Covered, Part, Clipped}
@@ -63,6 +63,40 @@ module _ (low high : ℕ) (s : Segment) (v : ℕ) (w : Covered low high s v) whe
 
   pub clip_wraps : v - s.vmaddr < s.filesize → 2 ^ 64 ≤ s.fileoff + (v - s.vmaddr) → Some None ≡ decides s v
   clip_wraps h o = decided_none (offset_wraps s _ h o)
+
+  under : v < high
+  under = elim (dec_lt high (2 ^ 64 - 1)) [ yes g ↦ w.to.0 g | no g ↦ omega (arith, w.to.1, w.ends) ]
+
+  pub clip_one : v - s.vmaddr < s.filesize → s.fileoff + (v - s.vmaddr) < 2 ^ 64 → Part low high s v (record { vmaddr = v; size = 1; fileoff = s.fileoff + (v - s.vmaddr) })
+  clip_one h o = record {
+    fits = omega arith;
+    has = record { from = omega arith; to = omega arith };
+    from = w.from;
+    to = (omega (arith, under), omega (arith, w.to.1), omega (arith, w.from.1));
+    offset = omega (arith, w.from.1);
+  }
+
+  -- a part of the segment, from `start` up to `end`
+  module _ (i : v - s.vmaddr < s.filesize) (start end size : ℕ) (es : start ≡ max low s.vmaddr) (ee : end ≡ min high (s.vmaddr + size))
+      (ez : size ≡ min s.vmsize s.filesize) where
+    clip_has : (start ≤ v) × (v < end)
+    clip_has = (omega (arith, w.from), omega (arith, w.to.1, under, w.from))
+
+    pub clip_order : start ≤ end
+    clip_order = omega (arith, clip_has)
+
+    pub clip_part : s.fileoff + s.filesize < 2 ^ 64 → Part low high s v (record { vmaddr = start; size = end - start; fileoff = s.fileoff + (start - s.vmaddr) })
+    clip_part h = go (omega (arith, es)) (omega (arith, ee)) (omega (arith, ez))
+      where
+        go : (low ≤ start) × (s.vmaddr ≤ start) → (end ≤ high) × (end ≤ s.vmaddr + size) → (size ≤ s.vmsize) × (size ≤ s.filesize)
+            → Part low high s v (record { vmaddr = start; size = end - start; fileoff = s.fileoff + (start - s.vmaddr) })
+        go f t z = record {
+          fits = omega (arith, clip_has);
+          has = record { from = clip_has.0; to = omega (arith, clip_has) };
+          from = f;
+          to = (omega (arith, clip_has), omega (arith, clip_has), omega (arith, clip_has));
+          offset = omega (arith, clip_has);
+        }
 
 -- where a walk that looks for `a` stands: of `a`, and of all addresses from `low` up to `high`, the segments that are left say what all say
 pub record Passed (all rest : List Segment) (a low high : ℕ) : Type 0 where
@@ -147,6 +181,17 @@ located_nowhere segments v (Some m) e w =
     absurd (omega arith)
 
 -- ---- the mapping that a walk goes on with
+
+module _ (m : Mapping) (v : ℕ) where
+  pub has_none : ◌≡◌ false true → Has m v
+  has_none e = let z : ◌≡◌ {A = ℕ} 0 1 = cc in absurd (omega arith)
+
+  pub has_within : m.vmaddr ≤ v → ltb (v - m.vmaddr) m.size ≡ true → Has m v
+  has_within h e = record { from = h; to = omega (arith, ltb-true (v - m.vmaddr) m.size e) }
+
+pub near_found : (segments : List ℕ) (m : Mapping) (v : ℕ) (r : Option Mapping) → Located segments v r → LocatedNear segments m v r
+near_found segments m v (Some r) l = (λ w. l.0, l.1)
+near_found segments m v None l = l
 
 pub near_mapped : (segments : List ℕ) (m : Mapping) (v : ℕ) (r : Option Mapping) (n : Mapping) → r ≡ Some n → LocatedNear segments m v r → TrueMapping segments m → TrueMapping segments n
 near_mapped segments m v r n e l = (subst (LocatedNear segments m v) e l).0

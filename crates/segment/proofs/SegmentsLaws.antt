@@ -1,6 +1,7 @@
 -- What the tests of a segment, one after the other, say about `decides`.
-use Rattle.std.specs.Prelude.{ℕ, ◌+◌, ◌-◌, ◌^◌, ◌≤◌, ◌<◌, ◌≡◌, suc, ◌/◌, refl, List, [], ◌∷◌, map, length, Option, Some, None, SomeIff}
-use Rattle.std.proofs.Common.{arith, ap, ◌∙◌}
+use Rattle.std.specs.Prelude.{ℕ, ◌+◌, ◌-◌, ◌^◌, ◌≤◌, ◌<◌, ◌≡◌, suc, ◌/◌, refl, List, [], ◌∷◌, map, length, drop, get_or, Option, Some, None, SomeIff}
+use Rattle.std.proofs.Common.{add-zero, arith, sym, ap, ◌∙◌, drop-drop, get_or-drop}
+use Rattle.std.proofs.Math.ListN.{length-drop}
 use Rattle.std.proofs.Math.Decide.{dec_lt}
 use Rattle.std.specs.Simd.{first_chunks}
 use borrow.Author.Tests.{le-leb, lt-leb, lt-ltb, le-ltb}
@@ -88,3 +89,47 @@ module _ (s : Segment) (ss : List Segment) (v : ℕ) where
   pub left : None ≡ decides s v → file_offset (s ∷ ss) v ≡ file_offset ss v
   unfolding file_offset
   left e = rw (← e)
+
+-- the four numbers from `i` on
+abbrev pub segment_at : List ℕ → ℕ → Segment
+segment_at l i = record { vmaddr = get_or l i 0; vmsize = get_or l (i + 1) 0; fileoff = get_or l (i + 2) 0; filesize = get_or l (i + 3) 0 }
+
+segments_first : (l : List ℕ) → 4 ≤ length l → segments_of l ≡ segment_at l 0 ∷ segments_of (drop 4 l)
+unfolding segments_of
+segments_first [] h = absurd (omega arith)
+segments_first (a ∷ []) h = absurd (omega arith)
+segments_first (a ∷ (b ∷ [])) h = absurd (omega arith)
+segments_first (a ∷ (b ∷ (c ∷ []))) h = absurd (omega arith)
+segments_first (a ∷ (b ∷ (c ∷ (d ∷ rest)))) h = refl
+
+-- fewer than four numbers are no segment
+pub segments_end : (l : List ℕ) → length l < 4 → segments_of l ≡ []
+unfolding segments_of
+segments_end [] h = refl
+segments_end (a ∷ []) h = refl
+segments_end (a ∷ (b ∷ [])) h = refl
+segments_end (a ∷ (b ∷ (c ∷ []))) h = refl
+segments_end (a ∷ (b ∷ (c ∷ (d ∷ rest)))) h = absurd (omega arith)
+
+-- a turn of the walk over the list, from its `i`th number
+module _ (l : List ℕ) (i v : ℕ) where
+  pub segments_step : i + 4 ≤ length l → segments_of (drop i l) ≡ segment_at l i ∷ segments_of (drop (i + 4) l)
+  segments_step h =
+      let long : 4 ≤ length (drop i l) = simp length-drop (omega arith) in
+      segments_first (drop i l) long ∙ simp (drop-drop, get_or-drop, add-zero)
+
+  -- `x`, what the numbers from `i` on say, is what the segment there says, or what those after it say
+  module _ (x : Option ℕ) (inv : x ≡ file_offset (segments_of (drop i l)) v) where
+    pub lookup_answer : (r : Option (Option ℕ)) (o : Option ℕ) → r ≡ decides (segment_at l i) v → r ≡ Some o → i + 4 ≤ length l → o ≡ x
+    lookup_answer r o e t h =
+        told (segment_at l i) (segments_of (drop (i + 4) l)) v o (sym t ∙ e) ∙ sym (inv ∙ ap (λ (ss : List Segment). file_offset ss v) (segments_step h))
+
+    pub lookup_next : (r : Option (Option ℕ)) → r ≡ decides (segment_at l i) v → r ≡ None → i + 4 ≤ length l → x ≡ file_offset (segments_of (drop (i + 4) l)) v
+    lookup_next r e t h =
+        inv ∙ ap (λ (ss : List Segment). file_offset ss v) (segments_step h) ∙ left (segment_at l i) (segments_of (drop (i + 4) l)) v (sym t ∙ e)
+
+    pub lookup_end : length l < i + 4 → None ≡ x
+    unfolding file_offset
+    lookup_end h =
+        let short : length (drop i l) < 4 = simp length-drop (omega arith) in
+        rw (inv, segments_end (drop i l) short)

@@ -1,10 +1,32 @@
--- For which segments an offset leads back to the address that it came from.
-use Rattle.std.specs.Prelude.{ℕ, ◌+◌, ◌-◌, ◌^◌, ◌≤◌, ◌<◌, min, ◌≡◌, refl, List, [], ◌∷◌, Option, Some, None, unwrap_or}
+-- A turn of the walk over the segments, and for which segments an offset leads back to the address that it came from.
+use Rattle.std.specs.Prelude.{ℕ, ◌+◌, ◌-◌, ◌^◌, ◌≤◌, ◌<◌, min, ◌≡◌, refl, List, [], ◌∷◌, length, drop, Option, Some, None, unwrap_or}
 use Rattle.std.proofs.Math.Decide.{dec_lt}
-use Rattle.std.proofs.Common.{arith, ap}
+use Rattle.std.proofs.Common.{arith, ◌∙◌, ap}
+use Rattle.std.proofs.Math.ListN.{length-drop}
 use Rattle.segment.specs.Segments.{Segment, segments_of, file_offset, decides, in_file}
-use Rattle.segment.proofs.SegmentsLaws.{wraps, below, above, no_bytes, held, past_file, offset_wraps, in_file_lem}
+use Rattle.segment.proofs.SegmentsLaws.{wraps, below, above, no_bytes, held, past_file, offset_wraps, in_file_lem, segment_at, segments_step, segments_end}
 use Rattle.segment.specs.VmAddress.{turned, vm_address}
+
+-- what a segment that is turned round by hand says, with its `m` bytes in both
+pub by_hand : (s : Segment) (o m : ℕ) (y : Option (Option ℕ)) → m ≡ min s.vmsize s.filesize
+    → y ≡ decides (record { vmaddr = s.fileoff; vmsize = m; fileoff = s.vmaddr; filesize = m }) o → y ≡ decides (turned s) o
+by_hand s o m y e d = rw e at d
+
+-- `x`, what the numbers from `i` on say, is what the segment there says, or what those after it say
+module _ (l : List ℕ) (i o : ℕ) (x : Option ℕ) (inv : x ≡ vm_address (segments_of (drop i l)) o) where
+  pub turn_answer : (r : Option (Option ℕ)) (a y : Option ℕ) → r ≡ decides (turned (segment_at l i)) o → r ≡ Some a → y ≡ a → i + 4 ≤ length l → y ≡ x
+  unfolding vm_address file_offset
+  turn_answer r a y e t v h = v ∙ rw (inv, segments_step l i o h, ← e, t)
+
+  pub turn_next : (r : Option (Option ℕ)) → r ≡ decides (turned (segment_at l i)) o → r ≡ None → i + 4 ≤ length l → x ≡ vm_address (segments_of (drop (i + 4) l)) o
+  unfolding vm_address file_offset
+  turn_next r e t h = inv ∙ rw (segments_step l i o h, ← e, t)
+
+  pub turn_end : length l < i + 4 → None ≡ x
+  unfolding vm_address file_offset
+  turn_end h =
+      let short : length (drop i l) < 4 = simp length-drop (omega arith) in
+      rw (inv, segments_end (drop i l) short)
 
 -- the offsets of a segment's file bytes that have an address
 pub record Holds (s : Segment) (o : ℕ) : Type 0 where
