@@ -1,8 +1,8 @@
 -- What the tests of the code, one after the other, say about the definitions of `Open`. Assumes nothing.
-use Rattle.std.specs.Prelude.{ℕ, zero, suc, ◌+◌, ◌-◌, ◌≤◌, ◌<◌, ◌≡◌, refl, List, Bool, true, false, ◌||◌, cond, length, leb, ltb, eqb, Option, Some, None, IsSome}
+use Rattle.std.specs.Prelude.{ℕ, zero, suc, ◌+◌, ◌-◌, ◌%◌, ◌≤◌, ◌<◌, ◌≡◌, refl, List, Bool, true, false, ◌||◌, cond, length, leb, ltb, eqb, Option, Some, None, IsSome}
 use Rattle.std.specs.Bool.{then_some}
 use Rattle.std.proofs.Common.{arith, ◌∙◌}
-use Rattle.std.proofs.Math.Path.{sym}
+use Rattle.std.proofs.Math.Path.{sym, ap}
 use Rattle.std.proofs.Math.Bool.{and-false, and-eq-true_iff}
 use borrow.Author.Tests.{le-leb, lt-leb, lt-ltb, le-ltb, eq-eqb, ne_eqb, leb-true}
 use Rattle.refusal.specs.Refusal.{answered, refused}
@@ -14,6 +14,21 @@ use Rattle.bundle.specs.Bundle.{body_fits, section_in}
 use Rattle.bundle.specs.Open.{size_at, kind_at, is_at, body_at, taken_at, answer, bundle_most, open_bundle, Within}
 use Rattle.bundle.specs.declared.open.Section.{Section}
 use Rattle.bundle.specs.declared.open.Taken.{Taken}
+
+-- how long the body of a kind may be: the three cases
+module _ (kind n : ℕ) where
+  pub fits_segments : kind ≡ 2 → eqb (n % 32) 0 ≡ body_fits kind n
+  unfolding body_fits
+  fits_segments h = simp (eq-eqb kind 2 h)
+
+  module _ (other : kind ≡ 2 → ⊥) where
+    pub fits_image : kind < 3 → true ≡ body_fits kind n
+    unfolding body_fits
+    fits_image h = simp (ne_eqb kind 2 other, lt-ltb kind 3 h)
+
+    pub fits_led : 3 ≤ kind → leb 8 n ≡ body_fits kind n
+    unfolding body_fits
+    fits_led h = simp (ne_eqb kind 2 other, le-ltb kind 3 h)
 
 abbrev pub untaken : ℕ → Taken
 untaken at = record { part = place 0 0; next = at }
@@ -69,6 +84,25 @@ module _ (kind : ℕ) (s : List ℕ) (at : ℕ) where
         go : (b : Bool) → then_some b (place (at + 6) n) ≡ cond b (Some (place (at + 6) n)) None
         go true = refl
         go false = refl
+
+    -- and what is taken by them
+    pub take_cut : length s - (at + 6) < n → untaken at ≡ taken_at kind s at
+    unfolding is_at
+    take_cut h = take_none (rw (lt-leb (at + 6 + size_at s at) (length s) (omega (arith, size_is, whole))))
+
+    pub take_other : (k ≡ kind → ⊥) → untaken at ≡ taken_at kind s at
+    unfolding is_at
+    take_other h = take_none (rw (ne_eqb (kind_at s at) kind (λ e. h (kind_is ∙ e)), and-false))
+
+    pub take_unfit : body_fits kind n ≡ false → untaken at ≡ taken_at kind s at
+    unfolding is_at
+    take_unfit h = take_none (rw (← size_is, h, and-false, and-false))
+
+    pub take_there : body_fits kind n ≡ true → k ≡ kind → n ≤ length s - (at + 6) → taken_of at n ≡ taken_at kind s at
+    unfolding is_at
+    take_there b e h =
+        ap (taken_of at) size_is
+        ∙ take_some (rw (← size_is, ← kind_is, le-leb (at + 6 + n) (length s) (omega (arith, whole)), eq-eqb k kind e, b))
 
   -- a record's body and the next record's place, by that body
   pub taken_there : (p : Place) → Some p ≡ body_at kind s at → record { part = p; next = p.start + p.size } ≡ taken_at kind s at
