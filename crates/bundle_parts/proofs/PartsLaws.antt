@@ -2,7 +2,7 @@
 -- in the list of all. Assumes nothing.
 use Rattle.std.specs.Prelude.{ℕ, zero, suc, ◌+◌, ◌*◌, ◌/◌, ◌%◌, ◌≤◌, ◌<◌, min, ◌≡◌, refl, List, [], ◌∷◌, ◌++◌, length, take, drop, get_or, set, Some, None, slice_get}
 use Rattle.std.proofs.Math.Decide.{dec_le}
-use Rattle.std.proofs.Common.{add-one, arith, sym, ◌∙◌, ap, append_assoc, length-append, length-drop, take_at, drop-drop, drop-cons, length-take-le, le-leb}
+use Rattle.std.proofs.Common.{add-one, arith, sym, ◌∙◌, ap, append_assoc, length-set, length-append, length-drop, take_at, drop-drop, drop-cons, length-take-le, le-leb}
 use Rattle.std.proofs.lemmas.List.{set_at}
 use Rattle.std.proofs.lemmas.Bool.{lt-leb}
 use Rattle.util.specs.LittleEndian.{little_endian}
@@ -23,6 +23,37 @@ module _ (body : List ℕ) (k : ℕ) where
   pub segment_past : length body < 32 * k + 32 → None ≡ segment_in body k
   unfolding segment_in
   segment_past h = rw (lt-leb (32 * k + 32) (length body) h)
+
+  -- what a segment that was read says
+  pub record Read (g : Segment) : Type 0 where
+    pub within : 32 * k + 32 ≤ length body
+    pub vmaddr : g.vmaddr ≡ u64_in body (32 * k)
+    pub vmsize : g.vmsize ≡ u64_in body (32 * k + 8)
+    pub fileoff : g.fileoff ≡ u64_in body (32 * k + 16)
+    pub filesize : g.filesize ≡ u64_in body (32 * k + 24)
+
+  pub segment_read : (g : Segment) → Some g ≡ segment_in body k → Read g
+  segment_read g e =
+      elim (dec_le (32 * k + 32) (length body)) [
+        | yes h ↦
+            let same : Some g ≡ Some _ = e ∙ sym (segment_there _ _ _ _ refl refl refl refl h) in
+            let is : g ≡ record { vmaddr = u64_in body (32 * k); vmsize = u64_in body (32 * k + 8); fileoff = u64_in body (32 * k + 16); filesize = u64_in body (32 * k + 24) } = cc in
+            record { within = h; vmaddr = ap (λ (x : Segment). x.vmaddr) is; vmsize = ap (λ (x : Segment). x.vmsize) is; fileoff = ap (λ (x : Segment). x.fileoff) is; filesize = ap (λ (x : Segment). x.filesize) is }
+        | no h ↦
+            let f = segment_past (omega arith) in
+            let z : ◌≡◌ {A = ℕ} 0 1 = cc in
+            absurd (omega arith)
+      ]
+
+  pub segment_beyond : None ≡ segment_in body k → length body < 32 * k + 32
+  segment_beyond e =
+      elim (dec_le (32 * k + 32) (length body)) [
+        | yes h ↦
+            let f = segment_there _ _ _ _ refl refl refl refl h in
+            let z : ◌≡◌ {A = ℕ} 0 1 = cc in
+            absurd (omega arith)
+        | no h ↦ omega arith
+      ]
 
 -- ---- the numbers
 
@@ -59,6 +90,57 @@ filled_more body list list' i n holds inside e =
     (set_at (numbers i body) (get_or list i 0) (drop (suc i) list) (u64_in body (8 * i)) i (numbers_length i body)
     ∙ sym (append_assoc (numbers i body) (u64_in body (8 * i) ∷ []) (drop (suc i) list))
     ∙ ap (λ (l : List ℕ). l ++ drop (suc i) list) (sym (numbers_snoc i body)))
+
+-- some segments are already in the list
+pub record Started (body list list' : List ℕ) (k : ℕ) : Type 0 where
+  pub bound : 4 * k ≤ segment_numbers_most
+  pub within : 32 * k ≤ length body
+  pub size : segment_numbers_most ≤ length list
+  pub long : length list' ≡ length list
+  pub holds : list' ≡ numbers (4 * k) body ++ drop (4 * k) list
+
+pub started_none : (body list : List ℕ) → segment_numbers_most ≤ length list → Started body list list 0
+unfolding numbers
+started_none body list h = record { bound = omega arith; within = omega arith; size = h; long = refl; holds = refl }
+
+-- one number more, wherever it lies
+put_number : (body list list' : List ℕ) (i j o n : ℕ) → list' ≡ numbers i body ++ drop i list → i < length list → j ≡ i + 1 → o ≡ 8 * i → n ≡ u64_in body o → set list' i n ≡ numbers j body ++ drop j list
+put_number body list list' i j o n holds inside next at e =
+    rw (next, add-one, holds, drop-cons list i 0 inside, e, at)
+    (set_at (numbers i body) (get_or list i 0) (drop (suc i) list) (u64_in body (8 * i)) i (numbers_length i body)
+    ∙ sym (append_assoc (numbers i body) (u64_in body (8 * i) ∷ []) (drop (suc i) list))
+    ∙ ap (λ (l : List ℕ). l ++ drop (suc i) list) (sym (numbers_snoc i body)))
+
+pub started_more : (body list list' : List ℕ) (k : ℕ) (g : Segment) → Started body list list' k → Some g ≡ segment_in body k → k < segment_numbers_most / 4
+    → Started body list (set (set (set (set list' (4 * k) g.vmaddr) (4 * k + 1) g.vmsize) (4 * k + 2) g.fileoff) (4 * k + 3) g.filesize) (k + 1)
+started_more body list list' k g f e h =
+    let r : Read body k g = segment_read body k g e in
+    let inside : 4 * k + 3 < length list = omega (arith, f.size) in
+    let one = put_number body list list' (4 * k) (4 * k + 1) (32 * k) g.vmaddr f.holds (omega arith) refl (omega arith) r.vmaddr in
+    let two = put_number body list _ (4 * k + 1) (4 * k + 2) (32 * k + 8) g.vmsize one (omega arith) (omega arith) (omega arith) r.vmsize in
+    let three = put_number body list _ (4 * k + 2) (4 * k + 3) (32 * k + 16) g.fileoff two (omega arith) (omega arith) (omega arith) r.fileoff in
+    record {
+      bound = omega arith;
+      within = omega (arith, r.within);
+      size = f.size;
+      long = simp length-set f.long;
+      holds = put_number body list _ (4 * k + 3) (4 * (k + 1)) (32 * k + 24) g.filesize three (omega arith) (omega arith) (omega arith) r.filesize;
+    }
+
+-- when the walk ends, the list has all that it can hold
+module _ (s : List ℕ) (l : Layout) (list list' : List ℕ) (k : ℕ) (f : Started (segment_bytes s l) list list' k) where
+  walk_filled : 4 * k ≡ min segment_numbers_most (4 * (length (segment_bytes s l) / 32))
+      → (4 * k ≡ length (listed_numbers s l)) × (list' ≡ at_start (listed_numbers s l) list)
+  walk_filled e =
+      let same : numbers (4 * k) (segment_bytes s l) ≡ listed_numbers s l = ap (λ (n : ℕ). numbers n (segment_bytes s l)) e in
+      let size : 4 * k ≡ length (listed_numbers s l) = sym (numbers_length (4 * k) (segment_bytes s l)) ∙ ap length same in
+      (size, f.holds ∙ ap (λ (ns : List ℕ). ns ++ drop (4 * k) list) same ∙ ap (λ (n : ℕ). listed_numbers s l ++ drop n list) size)
+
+  pub filled_all : None ≡ segment_in (segment_bytes s l) k → (4 * k ≡ length (listed_numbers s l)) × (list' ≡ at_start (listed_numbers s l) list)
+  filled_all e = walk_filled (omega (arith, segment_beyond (segment_bytes s l) k e, f.bound, f.within))
+
+  pub filled_full : segment_numbers_most / 4 ≤ k → (4 * k ≡ length (listed_numbers s l)) × (list' ≡ at_start (listed_numbers s l) list)
+  filled_full h = walk_filled (omega (arith, f.bound, f.within))
 
 -- ---- a layout's segments
 
