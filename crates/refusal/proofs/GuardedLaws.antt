@@ -1,19 +1,19 @@
 -- The test of a call's segments.
-use Prim.Native.Nat.{ℕ, zero, suc, ◌+◌, ◌/◌, ◌%◌, ◌^◌, ◌≤◌, ◌<◌}
+use Prim.Native.Nat.{ℕ, zero, suc, ◌+◌, ◌*◌, ◌/◌, ◌%◌, ◌^◌, ◌≤◌, ◌<◌}
 use native.Mathlib.Omega.{arith}
 use Rattle.std.proofs.Math.Numerals.{unary_clauses}
-use Rattle.std.specs.Prelude.{◌≡◌, List, [], ◌∷◌, map, cond, Bool, false, ◌||◌, leb, Option, Some, None, Result, Ok, Err, ⊤}
+use Rattle.std.specs.Prelude.{◌≡◌, List, [], ◌∷◌, map, cond, Bool, false, ◌||◌, leb, drop, Option, Some, None, Result, Ok, Err, ⊤}
 use Rattle.std.proofs.Math.Path.{refl, sym, ap}
 use Rattle.std.proofs.Common.{◌∙◌}
 use Rattle.std.proofs.Math.Bool.{true}
 use Rattle.std.proofs.Math.Dec.{ltb}
-use Rattle.std.proofs.Math.ListN.{length, get_or}
+use Rattle.std.proofs.Math.ListN.{length, get_or, length-drop}
 use borrow.Author.Tests.{eq-eqb, ne_eqb, le-leb, lt-leb, lt-ltb}
 use Rattle.std.proofs.lemmas.List.Sums.{sum_by-cons}
 use Rattle.std.specs.Simd.{first_chunks}
 use Rattle.std.specs.List.{count_by, position_from}
 use Rattle.segment.specs.Segments.{Segment, segment_from, segments_of}
-use Rattle.segment.proofs.SegmentsLaws.{segments_chunks}
+use Rattle.segment.proofs.SegmentsLaws.{segments_chunks, segments_step, segments_end}
 use Rattle.refusal.specs.Refusal.{Guarded, answered, refused, mapped, refusal_number}
 use Rattle.refusal.specs.declared.Refusal.{Refusal}
 use Rattle.refusal.specs.Guarded.{wrapping, any_wrapping, fault, fault_of, first_wrapping, refused_by, guarded}
@@ -59,24 +59,52 @@ one_more : (b : Bool) (n : ℕ) → b || ltb 0 n ≡ ltb 0 (cond b 1 0 + n)
 one_more true n = sym (lt-ltb 0 (1 + n) (omega arith))
 one_more false n = let e : n ≡ 0 + n = omega arith in ap (λ (m : ℕ). ltb 0 m) e
 
-pub counted : (cs : List (List ℕ)) → any_wrapping (map segment_from cs) ≡ ltb 0 (count_by wrapping_piece cs)
+pub pieces_counted : (cs : List (List ℕ)) → any_wrapping (map segment_from cs) ≡ ltb 0 (count_by wrapping_piece cs)
 unfolding any_wrapping
-counted [] = refl
-counted (c ∷ cs) =
-    ap (λ (b : Bool). wrapping_piece c || b) (counted cs)
+pieces_counted [] = refl
+pieces_counted (c ∷ cs) =
+    ap (λ (b : Bool). wrapping_piece c || b) (pieces_counted cs)
     ∙ one_more (wrapping_piece c) (count_by wrapping_piece cs)
     ∙ ap (λ (n : ℕ). ltb 0 n) (sym (sum_by-cons (λ x. cond (wrapping_piece x) 1 0) c cs))
 
 -- what the code counts, of a list that it has cut into pieces of four
 module _ (l : List ℕ) (cs : List (List ℕ)) (n : ℕ) (e : cs ≡ first_chunks 4 (length l / 4) l) (c : n ≡ count_by wrapping_piece cs) where
   any_counted : any_wrapping (segments_of l) ≡ ltb 0 n
-  any_counted = ap any_wrapping (sym (ap (map segment_from) e ∙ segments_chunks l)) ∙ counted cs ∙ ap (λ (n : ℕ). ltb 0 n) (sym c)
+  any_counted = ap any_wrapping (sym (ap (map segment_from) e ∙ segments_chunks l)) ∙ pieces_counted cs ∙ ap (λ (n : ℕ). ltb 0 n) (sym c)
 
   pub some_counted : length l % 4 ≡ 0 → (n ≡ 0 → ⊥) → Some 9 ≡ fault l
   some_counted h w = wrapped l h (any_counted ∙ lt-ltb 0 n (omega arith))
 
   pub none_counted : length l % 4 ≡ 0 → n ≡ 0 → None ≡ fault l
   none_counted h w = none_wrapping l h (any_counted ∙ ap (λ (n : ℕ). ltb 0 n) w)
+
+-- ---- a turn of the walk over the list, from its `i`th number, `n` segments before it being found to wrap
+
+module _ (l : List ℕ) (i : ℕ) where
+  -- whether one of the segments counted, or one from `i` on, wraps
+  abbrev pub wraps_from : ℕ → Bool
+  wraps_from n = ltb 0 n || any_wrapping (segments_of (drop i l))
+
+module _ (l : List ℕ) (i n : ℕ) (x : Bool) (inv : x ≡ wraps_from l i n) where
+  module _ (h : i + 4 ≤ length l) where
+    pub counted : 2 ^ 64 ≤ get_or l i 0 + get_or l (i + 1) 0 → x ≡ wraps_from l (i + 4) (n + 1)
+    unfolding any_wrapping
+    counted w =
+        let one : ltb 0 (n + 1) ≡ true = lt-ltb 0 (n + 1) (omega arith) in
+        inv ∙ rw (segments_step l i 0 h, le-leb (2 ^ 64) (get_or l i 0 + get_or l (i + 1) 0) w, one) (or_true (ltb 0 n))
+
+    pub passed : get_or l i 0 + get_or l (i + 1) 0 < 2 ^ 64 → x ≡ wraps_from l (i + 4) n
+    unfolding any_wrapping
+    passed w = inv ∙ rw (segments_step l i 0 h, lt-leb (2 ^ 64) (get_or l i 0 + get_or l (i + 1) 0) w) refl
+
+  pub all_passed : length l < i + 4 → n ≡ 0 → x ≡ false
+  unfolding any_wrapping
+  all_passed h z =
+      let short : length (drop i l) < 4 = simp length-drop (omega arith) in
+      inv ∙ rw (z, segments_end (drop i l) short) refl
+
+  pub one_wraps : 0 < n → x ≡ true
+  one_wraps p = inv ∙ rw (lt-ltb 0 n p) refl
 
 -- ---- a segment at any place of a list
 
@@ -137,6 +165,29 @@ first_piece k [] = refl
 first_piece k (c ∷ cs) =
     let next : k + 1 ≡ suc k = omega arith in
     ap (λ (o : Option ℕ). cond (wrapping_piece c) (Some k) o) (ap (λ (n : ℕ). position_from wrapping_piece n cs) next ∙ first_piece (suc k) cs)
+
+-- a turn of the walk over the list, from the segment with number `k` on
+module _ (l : List ℕ) (k : ℕ) (x : Option ℕ) (inv : x ≡ first_wrapping k (segments_of (drop (4 * k) l))) where
+  module _ (h : 4 * k + 4 ≤ length l) where
+    pub first_here : 2 ^ 64 ≤ get_or l (4 * k) 0 + get_or l (4 * k + 1) 0 → Some k ≡ x
+    unfolding first_wrapping
+    first_here w = sym (inv ∙ rw (segments_step l (4 * k) 0 h, le-leb (2 ^ 64) (get_or l (4 * k) 0 + get_or l (4 * k + 1) 0) w) refl)
+
+    pub first_passed : get_or l (4 * k) 0 + get_or l (4 * k + 1) 0 < 2 ^ 64 → x ≡ first_wrapping (k + 1) (segments_of (drop (4 * (k + 1)) l))
+    unfolding first_wrapping
+    first_passed w =
+        let place : 4 * k + 4 ≡ 4 * (k + 1) = omega arith in
+        let one : suc k ≡ k + 1 = omega arith in
+        inv
+        ∙ rw (segments_step l (4 * k) 0 h, lt-leb (2 ^ 64) (get_or l (4 * k) 0 + get_or l (4 * k + 1) 0) w) refl
+        ∙ ap (λ (n : ℕ). first_wrapping (suc k) (segments_of (drop n l))) place
+        ∙ ap (λ (n : ℕ). first_wrapping n (segments_of (drop (4 * (k + 1)) l))) one
+
+  pub first_nowhere : length l < 4 * k + 4 → None ≡ x
+  unfolding first_wrapping
+  first_nowhere h =
+      let short : length (drop (4 * k) l) < 4 = simp length-drop (omega arith) in
+      sym (inv ∙ rw (segments_end (drop (4 * k) l) short) refl)
 
 -- ---- a call's answer
 
