@@ -234,6 +234,13 @@ module _ (s : List ℕ) (bits weight last count : ℕ) (r : Chunk s bits weight 
   pub uleb_read : (count ≡ 11 → last ≡ 0) → Some (bits, count) ≡ uleb128 s
   uleb_read h = uleb_found (eleventh_is 0 h)
 
+  -- so a number of up to ten bytes is read, and one of eleven whose last byte is 0
+  pub uleb_short : (count ≡ 11 → ⊥) → Some (bits, count) ≡ uleb128 s
+  uleb_short h = uleb_read (λ c. absurd (h c))
+
+  pub uleb_eleven : count ≡ 11 → last ≡ 0 → Some (bits, 11) ≡ uleb128 s
+  uleb_eleven c e = ap (λ (n : ℕ). Some (bits, n)) (sym c) ∙ uleb_read (λ f. e)
+
   pub uleb_refused : count ≡ 11 → (last ≡ 0 → ⊥) → None ≡ uleb128 s
   unfolding uleb_of
   uleb_refused c n = rw (r.is, short, eleventh 0 (omega arith), ne_eqb last 0 n)
@@ -287,7 +294,7 @@ module _ (s : List ℕ) (bits weight last count : ℕ) (r : Chunk s bits weight 
     halved : 2 ^ (min 64 (7 * count) - 1) ≡ 64 * 128 ^ k
     halved = ap (λ (n : ℕ). 2 ^ n) (omega (arith, r.within)) ∙ half k
 
-    sleb_positive : (z : ℤ) → last < 64 → z ≡ twos_complement 64 bits → Some (z, count) ≡ sleb128 s
+    pub sleb_positive : (z : ℤ) → last < 64 → z ≡ twos_complement 64 bits → Some (z, count) ≡ sleb128 s
     sleb_positive z l e =
         let m : 128 ^ k * last ≤ 128 ^ k * 63 = mul-le-mul_left (128 ^ k) (omega arith) in
         let b : bits < 64 * 128 ^ k = omega (arith, bits_are, below) in
@@ -314,3 +321,15 @@ module _ (s : List ℕ) (bits weight last count : ℕ) (r : Chunk s bits weight 
             let m : min 64 (7 * count) ≡ 64 = omega arith in
             sleb_found z (eleventh_is (sign_bits bits) h) (rw m e)
       ]
+
+  pub sleb_ten : (z : ℤ) → count ≡ 10 → z ≡ twos_complement 64 bits → Some (z, 10) ≡ sleb128 s
+  sleb_ten z c e =
+      ap (λ (n : ℕ). Some (z, n)) (sym c) ∙ sleb_kept z (λ d. absurd (omega arith)) (λ d. absurd (omega arith)) e
+
+  module _ (g : 9 < count) (n : count ≡ 10 → ⊥) where
+    eleven : count ≡ 11
+    eleven = elim (dec_lt count 11) [ yes l ↦ absurd (n (omega arith)) | no l ↦ omega (arith, r.within) ]
+
+    pub sleb_eleven : (z : ℤ) (b : ℕ) → b ≡ sign_bits bits → last ≡ b → z ≡ twos_complement 64 bits → Some (z, 11) ≡ sleb128 s
+    sleb_eleven z b f e d =
+        ap (λ (k : ℕ). Some (z, k)) (sym eleven) ∙ sleb_kept z (λ c. e ∙ f) (λ c. absurd (omega arith)) d
