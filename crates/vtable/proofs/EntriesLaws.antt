@@ -1,5 +1,5 @@
 -- What the calls' tests say about the definitions, once for every layout: the bytes of an entry (`small`, `wraps`, `below`), what they say
--- (`no_entry`, `an_entry`), a step's answers (`step_end`, `step_gives`, `step-moves`), and that a true mapping changes none
+-- (`entry_of_lem`, `no_entry`, `an_entry`), a step's answers (`step_end`, `step_gives`, `step-moves`), and that a true mapping changes none
 -- (`step-mapped`); and the same for a step over the entries of a kind (`kind-end`, `kind-unreadable`, `kind-entry`), whose answer has the
 -- entry's words (`words-in`).
 use Rattle.std.specs.Prelude.{◌≡◌, ℕ, ◌+◌, ◌-◌, ◌*◌, ◌%◌, ◌^◌, ◌<◌, ◌≤◌, List, [], ◌∷◌, length, take, ◌≢◌, refl, Option, Some, None}
@@ -9,6 +9,8 @@ use Rattle.std.proofs.Math.Decide.{dec_le}
 use Rattle.std.proofs.lemmas.List.{length-replicate}
 use native.Mathlib.Omega.{arith}
 use borrow.Author.Tests.{le-leb, lt-leb, lt-ltb, le-ltb}
+use Rattle.util.specs.LittleEndian.{signed_in}
+use Rattle.util.specs.Pointer.{relative_address}
 use Rattle.segment.specs.Mapping.{with_mapping, TrueMapping}
 use Rattle.segment.specs.declared.segment.Mapping.{Mapping}
 use Rattle.runtime.specs.Reads.{Reads, bytes_place, run, done}
@@ -19,7 +21,7 @@ use Rattle.vtable.specs.declared.entry.TableEntry.{TableEntry}
 use Rattle.vtable.specs.declared.shape.Shape.{Shape}
 use Rattle.vtable.specs.declared.iter.EntryIter.{EntryIter}
 use Rattle.vtable.specs.declared.iter.EntryStep.{EntryStep}
-use Rattle.vtable.specs.Entries.{Word, pointer, Layout, packed, words_of, shape_words, kind_layout, entry_size, Entry, entry_of, entry_address, entry_at, moved, entry_step, entry_bytes, table_entry, step_answer}
+use Rattle.vtable.specs.Entries.{Word, pointer, Layout, packed, words_of, shape_words, kind_layout, entry_size, word_at, words_from, Entry, entry_of, entry_address, entry_at, moved, entry_step, entry_bytes, table_entry, step_answer}
 
 -- two numbers of 32 bits have a product of 64
 pub product : {a b : ℕ} → a < 2 ^ 32 → b < 2 ^ 32 → a * b < 2 ^ 64
@@ -56,6 +58,27 @@ module _ (image segments : List ℕ) (size stride base k : ℕ) where
   pub below_at : (a : ℕ) (r : List ℕ) → 4 ≤ size → a ≡ base + stride * k → a + (size - 4) < 2 ^ 64 → r ≡ bytes_read image segments a size
       → r ≡ entry_bytes image segments size stride base k
   below_at a r h ea w e = below r h (rw ea at w) (rw ea at e)
+
+-- ---- what its words say
+
+abbrev pub Says : List Word → ℕ → ℕ → List ℕ → List ℕ → Type 0
+Says [] a o h [] = Unit {0}
+Says [] a o h (x ∷ xs) = ⊥
+Says (w ∷ ws) a o h [] = ⊥
+Says (w ∷ ws) a o h (x ∷ xs) = (x ≡ word_at w a o h) × Says ws a (o + 4) h xs
+
+words_from_lem : (ws : List Word) (a o : ℕ) (h xs : List ℕ) → Says ws a o h xs → xs ≡ words_from ws a o h
+words_from_lem [] a o h [] e = refl
+words_from_lem [] a o h (x ∷ xs) e = absurd e
+words_from_lem (w ∷ ws) a o h [] e = absurd e
+words_from_lem (w ∷ ws) a o h (x ∷ xs) e = cc (e.0, words_from_lem ws a (o + 4) h xs e.1)
+
+pub entry_of_lem : (layout : Layout) (a : ℕ) (h xs : List ℕ) → Says layout.words a 0 h xs → record { address = a; words = xs } ≡ entry_of layout a h
+entry_of_lem layout a h xs e = ap (λ (l : List ℕ). record { address = a; words = l }) (words_from_lem layout.words a 0 h xs e)
+
+-- a pointer that is an entry's first word
+pub first_word : (a x : ℕ) (h : List ℕ) → x ≡ relative_address a (signed_in 4 h 0) → x ≡ word_at pointer a 0 h
+first_word a x h e = e ∙ ap (λ (n : ℕ). relative_address n (signed_in 4 h 0)) (omega arith)
 
 -- ---- an entry's bytes
 
@@ -145,6 +168,10 @@ words_in_lem EntryKind.Method a h = refl
 words_in_lem EntryKind.Override a h = refl
 words_in_lem EntryKind.DefaultOverride a h = refl
 words_in_lem EntryKind.Prespecialization a h = refl
+
+-- what the words of an entry of a kind say
+pub told_words : (kind k : EntryKind) (a : ℕ) (h xs : List ℕ) → kind ≡ k → Says (words_of k) a 0 h xs → table_entry (record { address = a; words = xs }) ≡ table_entry (entry_of (kind_layout kind) a h)
+told_words kind k a h xs e s = ap table_entry (entry_of_lem (kind_layout k) a h xs s ∙ ap (λ (j : EntryKind). entry_of (kind_layout j) a h) (sym e))
 
 -- a kind and its shape
 module _ (kind : EntryKind) (s : Shape) (e : shape_words s ≡ words_of kind) where
