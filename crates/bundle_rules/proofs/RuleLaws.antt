@@ -182,6 +182,14 @@ module _ (s : List ℕ) (image : Bool) (last at : ℕ) where
   pub walked_missing : RulesWalked s image last at → length s ≤ at → image ≡ false → (length s ≡ 0 → ⊥) → broken Rule.NoImage (length s) ≡ broken_rule s
   walked_missing w h e bytes = sym (rw (e, ne_eqb (length s) 0 bytes)) ∙ walked_ended w h
 
+-- the same in its two cases: the record is an image, and is none
+module _ (s : List ℕ) (image : Bool) (k n : ℕ) where
+  pub seen_image : k ≡ 1 → RulesWalked s (eqb k 1 || image) k n → RulesWalked s (eqb k 1) k n
+  seen_image e w = subst (λ (b : Bool). RulesWalked s b k n) (rw (eq-eqb k 1 e)) w
+
+  pub seen_other : (k ≡ 1 → ⊥) → RulesWalked s (eqb k 1 || image) k n → RulesWalked s image k n
+  seen_other e w = subst (λ (b : Bool). RulesWalked s b k n) (rw (ne_eqb k 1 e)) w
+
 -- ---- whole exactly if it is not refused for a rule
 
 abbrev is_whole : Option Broken → Bool
