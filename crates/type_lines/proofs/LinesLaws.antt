@@ -151,7 +151,7 @@ module _ (l l₁ l₂ ds : List ℕ) (a r₁ r₂ : ℕ) (ed : ds ≡ hex 16 a) 
       subst (λ (h : List ℕ). Put l 0 (h ++ space) r₂ l₂) ed
       (put_more l ds space l₁ l₂ 0 r₁ r₂ (put_fits l ds l₁ 0 r₁ e₁ m₁ (omega arith)) e₂ m₂ (omega arith))
 
-  head_room : r₂ + 6 ≤ length l₂
+  pub head_room : r₂ + 6 ≤ length l₂
   head_room =
       let u = head_address in
       let size : length (hex 16 a ++ space) ≡ 17 = length-append (hex 16 a) space ∙ omega (arith, hex_length a) in
