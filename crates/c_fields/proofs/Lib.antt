@@ -1,1 +1,2 @@
+pub mod CertainLaws
 pub mod NamesLaws
