@@ -7,16 +7,32 @@ use native.Mathlib.Omega.{arith}
 use Rattle.std.proofs.Math.Path.{refl, sym}
 use Rattle.std.proofs.Common.{ap, ◌∙◌}
 use borrow.Author.Tests.{le-leb, lt-leb, lt-ltb, le-ltb}
-use Rattle.util.specs.LittleEndian.{unsigned_in}
+use Rattle.util.specs.LittleEndian.{unsigned_in, signed_in}
 use Rattle.util.specs.Cstr.{place, part_of}
 use Rattle.util.specs.CstrLaws.{part_in}
 use Rattle.runtime.specs.Reads.{and_then, run}
+use Rattle.util.specs.Pointer.{relative_address}
+use Rattle.context.specs.Field.{field_kind}
+use Rattle.context.specs.declared.field.FieldDescriptorKind.{FieldDescriptorKind}
 use Rattle.field.specs.declared.iter.FieldDescriptor.{FieldDescriptor}
 use Rattle.field.specs.Fields.{field_descriptor_of, header_bytes, records_end, header_descriptor, Step, field_step, descriptor_from, given, descriptor_at}
 
 -- ---- a header
 
 module _ (a : ℕ) (h : List ℕ) where
+  pub descriptor_of_lem : (name super size count : ℕ) (kind : FieldDescriptorKind) → name ≡ relative_address a (signed_in 4 h 0)
+      → super ≡ relative_address (a + 4) (signed_in 4 h 4) → kind ≡ field_kind (unsigned_in 2 h 8) → size ≡ unsigned_in 2 h 10
+      → count ≡ unsigned_in 4 h 12
+      → record {
+        address = a;
+        mangled_type_name_va = name;
+        superclass_va = super;
+        kind = kind;
+        field_record_size = size;
+        num_fields = count;
+      } ≡ field_descriptor_of a h
+  descriptor_of_lem name super size count kind en es ek ez ec = cc
+
   pub not_headed : 2 ^ 64 ≤ a + 4 → None ≡ header_descriptor a h
   not_headed w = simp (le-leb (2 ^ 64) (a + 4) w)
 

@@ -1,11 +1,12 @@
 -- Records are entries, and the laws of their steps are those of entries (crate `vtable`): the step after `k` steps gives what the program
 -- of record `k` gives, as long as no earlier record is unreadable (`stepped-record`); and the list of a caller who steps up to an
 -- unreadable record or the end has the records whose programs answer, in order, and no others (`records-listed-all`).
-use Rattle.std.specs.Prelude.{◌≡◌, ℕ, zero, suc, ◌+◌, ◌<◌, ◌≤◌, List, [], ◌∷◌, Option, Some, None, option_map, slice_get}
+use Rattle.std.specs.Prelude.{◌≡◌, ℕ, zero, suc, ◌+◌, ◌^◌, ◌<◌, ◌≤◌, List, [], ◌∷◌, Option, Some, None, option_map, slice_get}
 use Rattle.std.proofs.Math.Path.{refl, ap}
 use Rattle.std.proofs.Common.{sym, ◌∙◌}
 use Rattle.segment.specs.Mapping.{with_mapping, TrueMapping}
 use Rattle.segment.specs.declared.segment.Mapping.{Mapping}
+use borrow.Author.Tests.{le-leb, lt-leb}
 use Rattle.runtime.specs.Reads.{run}
 use Rattle.runtime.proofs.ReadsLaws.{run_bind}
 use Rattle.vtable.specs.declared.iter.EntryIter.{EntryIter}
@@ -17,6 +18,16 @@ use Rattle.field.specs.declared.iter.FieldDescriptor.{FieldDescriptor}
 use Rattle.field.specs.declared.record.FieldRecordIter.{FieldRecordIter}
 use Rattle.field.specs.Fields.{descriptor_at}
 use Rattle.field.specs.Records.{record_layout, field_record, records_base, records_of, descriptor_record, entries_of, records_from, RecordStep, sized, record_step}
+
+pub base_wraps : (a : ℕ) → 2 ^ 64 ≤ a + 16 → 0 ≡ records_base a
+base_wraps a w = simp (le-leb (2 ^ 64) (a + 16) w)
+
+pub base_below : (a : ℕ) → a + 16 < 2 ^ 64 → a + 16 ≡ records_base a
+base_below a w = simp (lt-leb (2 ^ 64) (a + 16) w)
+
+pub records_of_lem : (d : FieldDescriptor) (b : ℕ) → b ≡ records_base d.address
+    → record { base_va = b; count = d.num_fields; entry_size = d.field_record_size; cursor = 0 } ≡ records_of d
+records_of_lem d b e = rw e
 
 -- ---- a step
 
