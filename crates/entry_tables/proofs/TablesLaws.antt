@@ -1,7 +1,7 @@
 -- What the code finds of a table is `tableFrom`: where an entry lies (`no_place`, `a-place`), its numbers in the list (`set-put`,
 -- `set_more`), the entries of a run (`Ran`), and run after run (`Going`, for any numbers of an entry: `tableBy`). The table is the entries
 -- that stepping gives, as numbers (`table-listed`); its counts do not depend on those numbers (`same-counts`).
-use Rattle.std.specs.Prelude.{◌≡◌, ℕ, zero, suc, ◌+◌, ◌-◌, ◌*◌, ◌/◌, ◌%◌, ◌^◌, ◌<◌, ◌≤◌, min, List, [], ◌∷◌, ◌++◌, length, take, drop, ◌≢◌, slice_set, Option, Some, None, Result, Ok, Err, ⊤}
+use Rattle.std.specs.Prelude.{◌≡◌, ℕ, zero, suc, ◌+◌, ◌-◌, ◌*◌, ◌/◌, ◌%◌, ◌^◌, ◌<◌, ◌≤◌, min, List, [], ◌∷◌, ◌++◌, length, replicate, take, drop, ◌≢◌, slice_set, Option, Some, None, Result, Ok, Err, ⊤}
 use Rattle.std.proofs.Common.{mul-le-mul_left, mul-zero, mul-suc, mul-add, mod-eq_of_lt, le_antisymm, le_trans, div-le_self, zero-add, add-one, subst, ◌∙◌, append_assoc, append-nil, length-append, take-append-drop, take_at, drop_at, drop-drop, length-take-le, le-leb, lt-ltb, le-ltb}
 use Rattle.std.proofs.Math.Nat.{mul-div-le, div-eq_of_lt, div-eq-sub-div}
 use Rattle.std.proofs.Math.Decide.{dec_le, dec_lt}
@@ -9,18 +9,20 @@ use native.Mathlib.Omega.{arith}
 use Rattle.std.proofs.Math.Path.{refl, sym, ap}
 use Rattle.std.proofs.lemmas.List.{set_split, length-replicate}
 use Rattle.std.proofs.lemmas.Bool.{lt-leb}
-use Rattle.util.specs.Buffer.{pasted, at_start, Put}
+use Rattle.util.specs.LittleEndian.{signed_in}
+use Rattle.util.specs.Pointer.{relative_address}
+use Rattle.util.specs.Buffer.{pasted, at_start, overwritten, Put}
 use Rattle.util.proofs.BufferLaws.{put_none, put_then, put_length}
 use Rattle.segment.specs.Segments.{segments_of, file_offset}
 use Rattle.segment.specs.Mapping.{Located, Has}
 use Rattle.segment.specs.declared.segment.Mapping.{Mapping}
-use Rattle.refusal.specs.Refusal.{Guarded, answered, mapped}
+use Rattle.refusal.specs.Refusal.{Guarded, answered, refused, mapped, answer_of}
 use Rattle.refusal.specs.declared.Refusal.{Refusal}
 use Rattle.refusal.specs.Guarded.{fault, fault_of, guarded}
 use Rattle.refusal.proofs.GuardedLaws.{refused_list, accepted_list}
 use Rattle.runtime.specs.Reads.{bytes_place, run}
 use Rattle.runtime.proofs.CallsLaws.{bytes_at_lem, bytes_past, bytes_nowhere, bytes_within}
-use Rattle.vtable.specs.Entries.{Layout, Entry, entry_size, entry_of, entry_address, entry_at, Step, entry_step, words_from}
+use Rattle.vtable.specs.Entries.{Layout, Entry, entry_size, entry_of, entry_address, entry_at, Step, entry_step, word_at, words_from}
 use Rattle.vtable.proofs.EntriesLaws.{step_end, step_gives}
 use Rattle.vtable.specs.Listed.{listed_entries}
 use Rattle.vtable.proofs.ListLaws.{iter_at}
@@ -28,11 +30,11 @@ use Rattle.vtable.specs.declared.iter.EntryIter.{EntryIter}
 use Rattle.vtable.specs.declared.entry.TableEntry.{TableEntry}
 use Rattle.vtable.specs.declared.shape.Shape.{Shape}
 use Rattle.vtable.specs.declared.shape.Word.{Word}
-use Rattle.vtable.specs.declared.shape.Word.TheVariants.{Pointer as pointer}
+use Rattle.vtable.specs.declared.shape.Word.TheVariants.{Number as number, Pointer as pointer}
 use Rattle.entry_tables.specs.declared.list.Listed.{Listed}
 use Rattle.entry_tables.specs.declared.list.Stop.{Stop}
 use Rattle.entry_tables.specs.declared.window.Window.{Window}
-use Rattle.entry_tables.specs.Tables.{entry_numbers, WholeTable, Counts, empty_table, stop_number, stop_at, entry_then, table_by, table_from, width, counts, table_numbers, buffer_with, GivesTable, shape_layout, entry_place, Opens, words_in, run_numbers, PutRun, Lists}
+use Rattle.entry_tables.specs.Tables.{entry_numbers, WholeTable, Counts, empty_table, stop_number, stop_at, entry_then, table_by, table_from, table_in, width, counts, table_numbers, buffer_with, GivesTable, shape_layout, entry_place, Opens, words_in, run_numbers, PutRun, Lists}
 
 -- ---- where an entry lies
 
@@ -151,6 +153,28 @@ module _ (s : Shape) (stride : ℕ) where
   shape_width : width (shape_layout s stride) ≡ 2 + s.more
   shape_width = omega (arith, length-replicate s.more pointer)
 
+-- a shape by its first word and a number: one word, and up to two pointers more
+abbrev pub shape : Word → ℕ → ℕ → Layout
+shape f zero stride = record { words = f ∷ []; stride = stride }
+shape f (suc zero) stride = record { words = f ∷ pointer ∷ []; stride = stride }
+shape f (suc (suc n)) stride = record { words = f ∷ pointer ∷ pointer ∷ []; stride = stride }
+
+shape_by : (f : Word) (more stride : ℕ) → more ≤ 2 → shape f more stride ≡ record { words = f ∷ replicate more pointer; stride = stride }
+shape_by f zero stride h = refl
+shape_by f (suc zero) stride h = refl
+shape_by f (suc (suc zero)) stride h = refl
+shape_by f (suc (suc (suc n))) stride h = absurd (omega arith)
+
+-- so is each `Shape`, which has two at most
+pub shape_is : (s : Shape) (stride : ℕ) → s.more ≤ 2 → shape s.first s.more stride ≡ shape_layout s stride
+shape_is s stride h = shape_by s.first s.more stride h
+
+-- more than two pointers count as two
+shape_least : (f : Word) (more stride : ℕ) → shape f (min more 2) stride ≡ shape f more stride
+shape_least f zero stride = refl
+shape_least f (suc zero) stride = refl
+shape_least f (suc (suc n)) stride = let two : min (suc (suc n)) 2 ≡ 2 = omega arith in ap (λ (j : ℕ). shape f j stride) two
+
 words_long : (ws : List Word) (a o : ℕ) (h : List ℕ) → length (words_from ws a o h) ≡ length ws
 words_long [] a o h = refl
 words_long (w ∷ ws) a o h = ap suc (words_long ws a (o + 4) h)
@@ -160,6 +184,24 @@ pub below_word : (a x more last : ℕ) → a ≡ x % 2 ^ 64 → x + last + (4 + 
 below_word a x more last e h =
     let f : a ≡ x = e ∙ mod-eq_of_lt (omega arith) in
     omega arith
+
+-- what an entry's words say
+pub numbered_word : (f : Word) (a x : ℕ) (h : List ℕ) → f ≡ number → x ≡ word_at number a 0 h → x ≡ word_at f a 0 h
+numbered_word f a x h t e = rw t e
+
+pub pointer_word : (f : Word) (a x : ℕ) (h : List ℕ) → f ≡ pointer → x ≡ relative_address a (signed_in 4 h 0) → x ≡ word_at f a 0 h
+pointer_word f a x h t e = rw t (e ∙ ap (λ (n : ℕ). relative_address n (signed_in 4 h 0)) (omega arith))
+
+-- a pointer's own address, which lies below 2^64
+later_word : (a o s x : ℕ) (h : List ℕ) → a + o < 2 ^ 64 → s ≡ (a + o) % 2 ^ 64 → x ≡ relative_address s (signed_in 4 h o) → x ≡ relative_address (a + o) (signed_in 4 h o)
+later_word a o s x h l es e = e ∙ ap (λ (n : ℕ). relative_address n (signed_in 4 h o)) (es ∙ mod-eq_of_lt l)
+
+pub words_are : (f : Word) (more a s t : ℕ) (h : List ℕ) (w : TableEntry) → more ≤ 2 → a + 4 * more < 2 ^ 64 → s ≡ (a + 4) % 2 ^ 64 → t ≡ (a + 8) % 2 ^ 64
+    → w.first ≡ word_at f a 0 h → w.second ≡ relative_address s (signed_in 4 h 4) → w.third ≡ relative_address t (signed_in 4 h 8)
+    → words_in more w ≡ words_from (shape f more 0).words a 0 h
+words_are f zero a s t h w m l es et e1 e2 e3 = ap (λ (x : ℕ). x ∷ []) e1
+words_are f (suc zero) a s t h w m l es et e1 e2 e3 = cc (e1, later_word a 4 s _ h (omega arith) es e2)
+words_are f (suc (suc n)) a s t h w m l es et e1 e2 e3 = cc (e1, later_word a 4 s _ h (omega arith) es e2, later_word a 8 t _ h (omega arith) et e3)
 
 -- ---- its numbers in the list
 
@@ -192,6 +234,14 @@ module _ (b : List ℕ) (at : ℕ) (w : TableEntry) where
 
     pub put_three : more ≡ 2 → slice_set (slice_set (slice_set (slice_set b at w.address) (at + 1) w.first) (at + 2) w.second) (at + 3) w.third ≡ pasted b at (w.address ∷ words_in more w)
     put_three e = rw e (three (omega arith)).holds
+
+-- an entry's numbers are those of its words
+pub put_words : (b b' bytes s : List ℕ) (at a more n o : ℕ) (f : Word) (w : TableEntry) → b' ≡ pasted b at (a ∷ words_in more w)
+    → words_in more w ≡ words_from (shape f more 0).words a 0 bytes → bytes ≡ take (o + n - o) (drop o s)
+    → b' ≡ pasted b at (entry_numbers (entry_of (shape f more 0) a (take n (drop o s))))
+put_words b b' bytes s at a more n o f w eb ew ep =
+    let len : o + n - o ≡ n = omega arith in
+    eb ∙ ap (λ (x : List ℕ). pasted b at (a ∷ x)) (ew ∙ ap (words_from (shape f more 0).words a 0) (ep ∙ ap (λ (j : ℕ). take j (drop o s)) len))
 
 -- ---- the entries of a run
 
@@ -578,7 +628,23 @@ module _ (image segments : List ℕ) (s : Shape) (stride base count : ℕ) (b₀
           (table_some k₀ 0 b₀ (start_going entry_numbers image segments l base count (width l) b₀ k₀) (omega arith) one_fits o a b' (opens_here image segments (4 + 4 * s.more) (at k₀) o last w) ea (rw (mul-zero (2 + s.more)) eb))
           (omega arith)
 
+-- a shape with more pointers than two is that with two
+pub lists_least : (image segments : List ℕ) (f : Word) (more r stride : ℕ) (c : EntryIter) (b b' : List ℕ) (x : Listed) → r ≡ min more 2
+    → Lists (table_in image segments (shape f r stride) c (length b)) b x b' → Lists (table_in image segments (shape f more stride) c (length b)) b x b'
+lists_least image segments f more r stride c b b' x e h =
+    subst (λ (l : Layout). Lists (table_in image segments l c (length b)) b x b') (ap (λ (n : ℕ). shape f n stride) e ∙ shape_least f more stride) h
+
 -- ---- the calls
+
+-- a call that lists into a buffer: its answer, and the numbers at the buffer's start
+module _ {A B : Type 0} (tell : A → B) (say : A → List ℕ) (segments : List ℕ) (r : A) (b : List ℕ) where
+  pub listed_refused : {n : ℕ} → Some n ≡ fault segments
+      → (refused n ≡ mapped tell (guarded segments (answered r))) × (b ≡ overwritten b (answer_of (mapped say (guarded segments (answered r)))))
+  listed_refused h = rw (sym (refused_list segments (answered r) h)) (refl, refl)
+
+  pub listed_accepted : (x : B) (b' : List ℕ) → (x ≡ tell r) × (b' ≡ at_start (say r) b) → None ≡ fault segments
+      → (answered x ≡ mapped tell (guarded segments (answered r))) × (b' ≡ overwritten b (answer_of (mapped say (guarded segments (answered r)))))
+  listed_accepted x b' e h = rw (sym (accepted_list segments (answered r) h)) (ap answered e.0, e.1)
 
 module _ (segments : List ℕ) (t₀ : WholeTable) (b : List ℕ) where
   abbrev G : Guarded WholeTable
