@@ -249,7 +249,7 @@ fn say_option(err: Stderr, word: &[u8]) {
     say(err, b" (list --help says more)\n");
 }
 
-// A word that begins with `-` is an option and not a file.
+// A word that begins with `-` is an option and not a file. A parser of words, as `clap`, takes an allocator, and memory is fixed.
 fn print_argument(rt: &HostRuntime, word: &[u8]) {
     match word {
         b"--help" => print_help(rt),
