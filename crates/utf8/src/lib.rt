@@ -120,6 +120,9 @@ fn plain_prefix(s: &[u8]) -> usize
     s.len() / 8 * 8
 }
 
+// The functions below go on from where a scan stands: the place is an argument, and what is known of it a `requires`. A struct of both would be no
+// plainer, since its invariant would have to name the bytes.
+
 // How many bytes from `at` on are sequences of one row of the table: a block of 12 bytes, which is a number of sequences of two, of three and of
 // four, or none. The row has lead bytes from `first` to `last`, and second bytes from `low` on.
 fn row_block(s: &[u8], at: usize, first: u8, last: u8, low: u8, more: usize) -> usize
@@ -176,14 +179,6 @@ fn blocks(s: &[u8], at: usize) -> usize
     }
 }
 
-// Where the next 16 bytes end, or all.
-fn stretch(at: usize, end: usize) -> usize
-    requires { at < end }
-    ensures { (at < result) × (result ≤ end) }
-{
-    at + (end - at).min(16)
-}
-
 // The scan from `at` on, where the first byte is that is not ASCII. Most texts have none, and stay out of it.
 fn scan_from(s: &[u8], at: usize) -> Option<usize>
     requires { (at ≤ length s.now) × ScanAt s.now at [] }
@@ -193,8 +188,8 @@ fn scan_from(s: &[u8], at: usize) -> Option<usize>
     // No `return` in place of `formed`: the exit from the walk over the continuation bytes is a form that the project keeps (docs/DECISIONS.md, "Forms").
     let mut formed = true;
     'scan: while i < s.len() {
-        // Sequence by sequence for a stretch; then blocks are tried again. No `for`: a sequence has up to four bytes.
-        let stop = stretch(i, s.len());
+        // Sequence by sequence for 16 bytes; then blocks are tried again. No `for`: a sequence has up to four bytes.
+        let stop = i + (s.len() - i).min(16);
         while i < stop {
             let b = s[i];
             if b < 0x80 {
