@@ -1,9 +1,9 @@
 -- What the readers' answers say about certainty, in the cases that the calls' tests leave.
 use Prim.Native.Nat.{ℕ, zero, suc, ◌+◌, ◌-◌, ◌^◌, ◌≤◌, ◌<◌}
 use Rattle.std.proofs.Math.Decide.{dec_le}
-use Rattle.std.proofs.Common.{arith, sym, ◌∙◌, length-take, length-drop, drop_of_length-le, take_all, le-ltb}
+use Rattle.std.proofs.Common.{add-one, arith, sym, ◌∙◌, length-take, length-drop, drop_of_length-le, drop-cons, take_all, le-ltb}
 use Rattle.std.specs.List.{list_any}
-use Rattle.std.specs.Prelude.{◌≡◌, Bool, ◌&&◌, eqb, ltb, leb, not, is_some, Option, Some, None}
+use Rattle.std.specs.Prelude.{◌≡◌, Bool, ◌&&◌, get_or, eqb, ltb, leb, not, is_some, Option, Some, None}
 use Rattle.std.proofs.Math.Path.{refl, ap}
 use mathlib.Core.List.{List, [], ◌∷◌}
 use Rattle.std.proofs.Math.Bool.{true, false, and-true, or-true}
@@ -41,6 +41,19 @@ module _ (image : List ℕ) (i : ℕ) where
   pub nul_within : (b : Bool) → b ≡ list_any (λ y. eqb y 0) (take (length image - i) (drop i image)) → b ≡ has_nul (drop i image)
   nul_within b e = e ∙ ap (list_any (λ y. eqb y 0)) (take_all (length image - i) (drop i image) (simp length-drop (omega arith))) ∙ nul_among (drop i image)
 
+  -- the same byte by byte
+  pub nul_here : get_or image i 0 ≡ 0 → i < length image → has_nul (drop i image) ≡ true
+  unfolding has_nul
+  nul_here e h = rw (drop-cons image i 0 h, e)
+
+  pub nul_later : (get_or image i 0 ≡ 0 → ⊥) → i < length image → has_nul (drop i image) ≡ has_nul (drop (i + 1) image)
+  unfolding has_nul
+  nul_later e h = rw (drop-cons image i 0 h, add-one) (go (get_or image i 0) e)
+    where
+      go : (b : ℕ) → (b ≡ 0 → ⊥) → has_nul (b ∷ drop (suc i) image) ≡ has_nul (drop (suc i) image)
+      go zero z = absurd (z refl)
+      go (suc b) z = refl
+
   pub nul_past : length image ≤ i → ltb i (length image) ≡ has_nul (drop i image)
   unfolding has_nul
   nul_past h = rw (drop_of_length-le image h, le-ltb i (length image) h)
@@ -60,6 +73,13 @@ module _ (segments : List ℕ) (a : ℕ) where
       go None false e = absurd (false≢true e)
       go (Some o) true e = absurd (false≢true (sym e))
       go (Some o) false e = refl
+
+  -- the same in its two cases
+  pub in_file_lem : (o : ℕ) → Some o ≡ file_offset (segments_of segments) a → false ≡ nowhere segments a
+  in_file_lem o e = rw (← e)
+
+  pub not_in_file : None ≡ file_offset (segments_of segments) a → true ≡ nowhere segments a
+  not_in_file e = rw (← e)
 
 module _ (image segments : List ℕ) (a : ℕ) where
   pub zero_text : a ≡ 0 → certain image segments (lookup a) ≡ true
@@ -226,6 +246,11 @@ module _ (image segments : List ℕ) (left a : ℕ) where
       go (suc n) = rw (chain_certain, ← e) (and-true (header_certain image segments a))
 
   module _ (h : Header) (e : Some h ≡ run image segments (header a)) where
+    -- a 257th context
+    pub chain_deep : left ≡ 0 → chain_certain image segments left a ≡ true
+    unfolding chain_certain
+    chain_deep z = rw z (header_there image segments a h e)
+
     chain_by : (n : ℕ) → left ≡ suc n
         → chain_certain image segments left a ≡ (certain image segments (name h.address h.flags) && chain_certain image segments n h.parent)
     unfolding chain_certain
