@@ -1,15 +1,16 @@
 -- What the code finds of a table of records with names is `named_table`: what a step says (`step_ended`, `step_found`), that a true mapping
 -- changes none of it (`named_mapped`), and record after record (`Naming`).
-use Rattle.std.specs.Prelude.{ℕ, suc, ◌+◌, ◌*◌, ◌/◌, ◌≤◌, ◌<◌, ◌≡◌, refl, List, length, Option, Some, None}
+use Rattle.std.specs.Prelude.{ℕ, suc, ◌+◌, ◌*◌, ◌/◌, ◌≤◌, ◌<◌, ◌≡◌, refl, List, ◌++◌, length, Option, Some, None}
 use Rattle.std.proofs.Math.Decide.{dec_lt}
-use Rattle.std.proofs.Common.{arith, sym, ap, subst, ◌∙◌, length-append}
+use Rattle.std.proofs.Common.{arith, sym, ap, subst, ◌∙◌, append_assoc, length-append}
 use Rattle.util.specs.Buffer.{pasted}
 use Rattle.util.specs.declared.cstr.Place.{Place}
 use Rattle.segment.specs.Mapping.{with_mapping, TrueMapping}
 use Rattle.segment.specs.declared.segment.Mapping.{Mapping}
 use Rattle.runtime.specs.Reads.{text_place, run}
 use Rattle.runtime.proofs.CallsLaws.{text_mapped, name_mapped}
-use Rattle.runtime.specs.FieldName.{NamePlace, in_image, in_strings, field_name}
+use Rattle.runtime.specs.FieldName.{NamePlace, in_image, in_strings, field_name, field_name_of}
+use Rattle.runtime.specs.declared.reflstr.FieldName.{FieldName}
 use Rattle.runtime.specs.PlaceNumbers.{text_numbers, field_numbers}
 use Rattle.vtable.specs.Entries.{Entry, entry_at}
 use Rattle.field.specs.declared.record.FieldRecord.{FieldRecord}
@@ -17,9 +18,9 @@ use Rattle.field.specs.declared.record.FieldRecordIter.{FieldRecordIter}
 use Rattle.field.specs.Records.{record_layout, RecordStep, record_step, of_record}
 use Rattle.field.proofs.RecordsLaws.{record_end, record_gives, record_mapped}
 use Rattle.entry_tables.specs.declared.list.Stop.{Stop}
-use Rattle.entry_tables.specs.Tables.{stop_number, stop_at, Lists}
+use Rattle.entry_tables.specs.Tables.{entry_numbers, stop_number, stop_at, Lists}
 use Rattle.entry_tables.proofs.TablesLaws.{Going, start_going, stops_end, stops_full, stops_none, goes_on_lem}
-use Rattle.entry_tables.proofs.PastedLaws.{pasted_as}
+use Rattle.entry_tables.proofs.PastedLaws.{pasted_then, pasted_as}
 use Rattle.named_records.specs.NamedRecords.{named_numbers, named_in}
 
 -- ---- a record's numbers
@@ -33,6 +34,13 @@ name_long None = refl
 name_long (Some (in_image p)) = refl
 name_long (Some (in_strings p)) = refl
 
+-- the case of a name
+pub text_known : (t u : Option Place) → t ≡ u → text_numbers u ≡ text_numbers t
+text_known t u e = ap (λ (x : Option Place). text_numbers x) (sym e)
+
+pub name_known : (t u : Option FieldName) → t ≡ u → field_numbers (field_name_of u) ≡ field_numbers (field_name_of t)
+name_known t u e = ap (λ (x : Option FieldName). field_numbers (field_name_of x)) (sym e)
+
 module _ (image segments strings : List ℕ) (start : ℕ) where
   abbrev numbers : Entry → List ℕ
   numbers = named_numbers image segments strings start
@@ -43,6 +51,17 @@ module _ (image segments strings : List ℕ) (start : ℕ) where
       let n : Option NamePlace = field_name image segments strings start r.field_name_va in
       let six : length (text_numbers t) + length (field_numbers n) ≡ 6 = omega (arith, text_long t, name_long n) in
       ap (λ (j : ℕ). suc (suc (suc (suc j)))) (length-append (text_numbers t) (field_numbers n) ∙ six)
+
+  -- a record's numbers in the list: its own four, and then those of its two names
+  pub names_put : (r : FieldRecord) (x : Option Place) (y : Option NamePlace) (b b₁ b₂ b₃ : List ℕ) (at : ℕ) → at + 10 ≤ length b
+      → b₁ ≡ pasted b at (entry_numbers (of_record r)) → x ≡ text_place image segments r.mangled_type_name_va → b₂ ≡ pasted b₁ (at + 4) (text_numbers x)
+      → y ≡ field_name image segments strings start r.field_name_va → b₃ ≡ pasted b₂ (at + 7) (field_numbers y) → b₃ ≡ pasted b at (numbers (of_record r))
+  names_put r x y b b₁ b₂ b₃ at h e₁ ex e₂ ey e₃ =
+      let own : List ℕ = entry_numbers (of_record r) in
+      let two : b₂ ≡ pasted b at (own ++ text_numbers x) = pasted_then b own (text_numbers x) b₁ b₂ at 4 e₁ refl e₂ (omega arith) in
+      let seven : length (own ++ text_numbers x) ≡ 7 = ap (λ (j : ℕ). suc (suc (suc (suc j)))) (text_long x) in
+      let same : (own ++ text_numbers x) ++ field_numbers y ≡ numbers (of_record r) = append_assoc own (text_numbers x) (field_numbers y) ∙ rw (ex, ey) in
+      pasted_then b (own ++ text_numbers x) (field_numbers y) b₂ b₃ at 7 two seven e₃ (omega arith) ∙ ap (pasted b at) same
 
   -- a true mapping changes none
   pub named_mapped : (m : Mapping) → TrueMapping segments m → (e : Entry) → named_numbers image (with_mapping m segments) strings start e ≡ numbers e
