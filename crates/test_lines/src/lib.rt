@@ -4,9 +4,7 @@
 mod hex;
 mod input;
 mod line;
-mod output;
 
 pub use hex::{digit, parse_bytes, parse_list, parse_number, parse_numbers};
 pub use input::read_full;
 pub use line::{after_line, field, find, first, line_at};
-pub use output::{bad_line, count, write};

@@ -1,5 +1,5 @@
 // Lines and their fields.
-ghost use Rattle.std.specs.Prelude.{◌≡◌};
+ghost use Rattle.std.specs.Prelude.{◌≡◌, ◌<◌, length};
 ghost use Rattle.test_lines.specs.Lines.{find_from, line_at_offset, after_line, field_of, first_of};
 
 // The first place of `stop` from `at` on, or the slice's length; `at` itself if it is past the end.
@@ -19,7 +19,8 @@ pub fn line_at(s: &[u8], at: usize) -> &[u8]
 
 // Where the next line starts; at the end or past it if there is none.
 pub fn after_line(s: &[u8], at: usize) -> usize
-    ensures { result ≡ after_line s.now at }
+    ensures value { result ≡ after_line s.now at }
+    ensures further { at < length s.now → at < result }
 {
     let end = find(s, at, b'\n');
     if end < s.len() { end + 1 } else { end }

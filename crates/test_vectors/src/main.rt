@@ -8,7 +8,6 @@
 use bundle::{Layout, Section};
 use runtime::{FieldName, SwiftRuntime, SwiftSection};
 use std::io::Stdout;
-use test_lines::{bad_line, count, write};
 use util::Place;
 
 // The numbers from the sixth field to the line's end.
@@ -25,6 +24,18 @@ fn parse_numbers(line: &[u8], out: &mut [u64]) -> Option<usize> {
 }
 
 // A call each, and its whole answer on a line.
+
+// These parts of lines are each test program's own: a public function of a crate promises something, and no clause speaks of what is printed.
+
+// What could not be written is missing where the output is compared.
+fn write(out: Stdout, text: &[u8]) {
+    let _ = out.write_all(text);
+}
+
+// A line that is never expected: for an input line that cannot be read, or an answer that no call may give.
+fn bad_line(out: Stdout) {
+    write(out, b"bad line\n");
+}
 
 fn nothing(out: Stdout) {
     write(out, b"nothing\n");
@@ -246,6 +257,15 @@ fn answer<'a>(
         || bundle_call(out, name, runtime.image)
 }
 
+// How many bytes or numbers a field has; if it cannot be read, 0, and a bad line.
+fn count(out: Stdout, read: Option<usize>) -> usize {
+    if read.is_none() {
+        bad_line(out);
+    }
+    read.unwrap_or(0)
+}
+
+// The buffers here and in the functions that call it have a fixed size, and what is filled is counted beside: the project has no heap.
 fn run_line(out: Stdout, line: &[u8], a: u64, b: u64) {
     let mut image = [0u8; 1024];
     let mut strings = [0u8; 1024];
@@ -284,11 +304,13 @@ fn answer_line(out: Stdout, line: &[u8]) {
     run_line(out, line, given[0], given[1]);
 }
 
+// Each test program has this walk of its own: one function for all would take the work on a line as a closure.
 fn answer_lines(out: Stdout, input: &[u8]) {
-    for line in input.split(|b| *b == b'\n') {
-        if !line.is_empty() {
-            answer_line(out, line);
-        }
+    let mut at = 0;
+    // No `split`: it gives an empty piece after the last newline too.
+    while at < input.len() {
+        answer_line(out, test_lines::line_at(input, at));
+        at = test_lines::after_line(input, at);
     }
 }
 
