@@ -147,7 +147,7 @@ fn generic_address(image: &[u8], segments: &[u64]) -> Result<Option<u64>, Refusa
     Ok(found.and_then(block_address))
 }
 
-// The last word of an entry of each kind of table.
+// The last word of an entry of each kind of table. A match: a kind's entries have as many words as the format says.
 fn last_word(kind: EntryKind, entry: TableEntry) -> u64 {
     match kind {
         EntryKind::Method => entry.second,
@@ -230,6 +230,7 @@ fn try_buffer(
     write(out, buffer);
 }
 
+// The buffer has a fixed size, and how much of it is handed on is an argument beside: the project has no heap.
 fn try_name(out: Stdout, image: &[u8], segments: &[u64], parent: u64, size: usize) {
     head(out, b"name", segments);
     number(out, parent);

@@ -1,10 +1,9 @@
 // The first entries of a table of each kind.
 ghost use Rattle.std.specs.Prelude.{◌≡◌, ◌-◌, ◌^◌, min, leb};
 
-use crate::{SHOWN, after_shown, number_field, refused, three, two};
+use crate::{SHOWN, after_shown, number_field, refused, three, two, write};
 use runtime::SwiftRuntime;
 use std::io::Stdout;
-use test_lines::write;
 use vtable::{EntryIter, EntryKind, EntryStep, TableEntry};
 
 // How many entries of each kind are read at a row's own address.

@@ -2,12 +2,13 @@
 ghost use Rattle.std.specs.Prelude.{◌≡◌};
 ghost use Rattle.test_replay_full.specs.Shown.{walk_end};
 
-use crate::{SHOWN, after_shown, done, nothing, number_field, one, text_line, three};
+use crate::{
+    SHOWN, after_shown, bad_line, done, nothing, number_field, one, text_line, three, write,
+};
 use context::FieldDescriptorKind;
 use field::{FieldDescriptor, FieldIter, FieldRecord, FieldRecordStep, FieldStep};
 use runtime::{FieldName, SwiftRuntime, SwiftSection};
 use std::io::Stdout;
-use test_lines::{bad_line, write};
 use util::Place;
 
 // The kind's number. The call for C adds 256 to the number of a kind that has no name. No `From`: only the crate of the kind may write that.

@@ -44,13 +44,24 @@ use crate::rows::all_rows;
 use refusal::Refusal;
 use runtime::{SwiftRuntime, SwiftSection};
 use std::io::Stdout;
-use test_lines::{bad_line, count, write};
 use util::Place;
 
 // Parts of lines, here for all modules.
 
 // How many entries of a table, records of a descriptor and offsets of a struct are written.
 const SHOWN: u32 = 12;
+
+// These parts of lines are each test program's own: a public function of a crate promises something, and no clause speaks of what is printed.
+
+// What could not be written is missing where the output is compared.
+fn write(out: Stdout, text: &[u8]) {
+    let _ = out.write_all(text);
+}
+
+// A line that is never expected: for an input line that cannot be read, or an answer that no call may give.
+fn bad_line(out: Stdout) {
+    write(out, b"bad line\n");
+}
 
 // A space and a number.
 fn number_field(out: Stdout, n: u64) {
@@ -111,7 +122,16 @@ fn after_shown(out: Stdout, count: u32) {
 
 // Lines of the input.
 
+// How many bytes or numbers a field has; if it cannot be read, 0, and a bad line.
+fn count(out: Stdout, read: Option<usize>) -> usize {
+    if read.is_none() {
+        bad_line(out);
+    }
+    read.unwrap_or(0)
+}
+
 // The line's image, segments and sections, and all its answers.
+// The buffers here and in the functions that call it have a fixed size, and what is filled is counted beside: the project has no heap.
 fn run_line(out: Stdout, line: &[u8], types_va: u64, fields_va: u64, strings_va: u64) {
     let mut image = [0u8; 1024];
     let mut types = [0u8; 256];
@@ -168,11 +188,13 @@ fn answer_line(out: Stdout, line: &[u8]) {
     run_line(out, line, addresses[0], addresses[1], addresses[2]);
 }
 
+// Each test program has this walk of its own: one function for all would take the work on a line as a closure.
 fn answer_lines(out: Stdout, input: &[u8]) {
-    for line in input.split(|b| *b == b'\n') {
-        if !line.is_empty() {
-            answer_line(out, line);
-        }
+    let mut at = 0;
+    // No `split`: it gives an empty piece after the last newline too.
+    while at < input.len() {
+        answer_line(out, test_lines::line_at(input, at));
+        at = test_lines::after_line(input, at);
     }
 }
 

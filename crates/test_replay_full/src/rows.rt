@@ -3,12 +3,13 @@ ghost use Rattle.std.specs.Prelude.{◌≡◌};
 ghost use Rattle.test_replay_full.specs.Shown.{rows_shown};
 
 use crate::entries::{at_row, entries};
-use crate::{SHOWN, newline, nothing, number_field, one, refused, text_line, three, two};
+use crate::{
+    SHOWN, bad_line, newline, nothing, number_field, one, refused, text_line, three, two, write,
+};
 use classtrailers::{Block, BlockBody, BlockKind, BlockStep};
 use field_offsets::FieldOffsets;
 use runtime::{SwiftRuntime, SwiftSection};
 use std::io::Stdout;
-use test_lines::{bad_line, write};
 use type_body::{ClassBody, ClassSizes, SingletonMetadataInit, TypeBody};
 use typedescriptor::{Row, TypeIter, TypeStep};
 use vtable::EntryKind;
