@@ -138,13 +138,13 @@ pub extern "C" fn hodrupec_listing(
     ensures tells { Tells (mapped listing_numbers (guarded segments.now (answered (listing_from image.now segments.now types.now vmaddr start (length buffer.old))))) out.old result out.new }
     ensures buffer_after { buffer.new ≡ overwritten buffer.old (answer_of (mapped listing_bytes (guarded segments.now (answered (listing_from image.now segments.now types.now vmaddr start (length buffer.old)))))) }
 {
-    if let Err(refusal) = refusal::find_fault(segments) {
-        return u64::from(refusal);
-    }
     let types = SwiftSection {
         body: types,
         vmaddr,
     };
+    if let Err(refusal) = refusal::find_fault(segments) {
+        return u64::from(refusal);
+    }
     *out = put_rows(image, segments, types, start, buffer);
     ANSWERED
 }
