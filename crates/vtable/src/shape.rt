@@ -29,10 +29,9 @@ impl Shape {
         4 + 4 * self.more
     }
 
-    // What an entry's bytes say. Its words lie below 2^64.
+    // What an entry's bytes say, if its words lie below 2^64.
     pub fn entry(self, bytes: &[u8], address: u64) -> TableEntry
-        requires { address + 4 * self.more < 2 ^ 64 }
-        ensures { result ≡ table_entry (entry_of (packed (shape_words self)) address bytes.now) }
+        ensures { address + 4 * self.more < 2 ^ 64 → result ≡ table_entry (entry_of (packed (shape_words self)) address bytes.now) }
     {
         let first = match self.first {
             Word::Number => util::u32_at(bytes, 0) as u64,
@@ -41,12 +40,12 @@ impl Shape {
         let second = if self.more < 1 {
             0
         } else {
-            util::address_in(bytes, 4, address + 4)
+            util::address_in(bytes, 4, address.wrapping_add(4))
         };
         let third = if self.more < 2 {
             0
         } else {
-            util::address_in(bytes, 8, address + 8)
+            util::address_in(bytes, 8, address.wrapping_add(8))
         };
         TableEntry {
             address,

@@ -10,12 +10,10 @@ pub returns-then-is_empty : goal.returns-then-is_empty
 returns-then-is_empty c =
     kind_unreadable _ _ c.args.kind c.args.self _ (shape_sized _ c.shape-shape.result c.shape-shape.ensures _ c.size-size.ensures) _ c.entry_bytes-bytes.ensures _ c.moved-next.ensures (omega arith) (search rules)
 
-pub entry-requires : goal.entry-requires
-entry-requires c =
-    shape_below _ c.shape-shape.result c.shape-shape.ensures _
-    (kind_below _ _ c.args.kind c.args.self _ (shape_sized _ c.shape-shape.result c.shape-shape.ensures _ c.size-size.ensures) _ c.entry_bytes-bytes.ensures (λ z. search rules) _ c.entry_address-address.ensures)
-
 pub returns : goal.returns
 returns c =
     kind_entry _ _ c.args.kind c.args.self _ (shape_sized _ c.shape-shape.result c.shape-shape.ensures _ c.size-size.ensures) _ c.entry_bytes-bytes.ensures _ c.moved-next.ensures (omega arith) (λ z. search rules) _ _ c.entry_address-address.ensures
-    (shape_entry _ c.shape-shape.result c.shape-shape.ensures _ _ _ c.entry.ensures)
+    (shape_entry _ c.shape-shape.result c.shape-shape.ensures _ _ _
+      (c.entry.ensures
+        (shape_below _ c.shape-shape.result c.shape-shape.ensures _
+          (kind_below _ _ c.args.kind c.args.self _ (shape_sized _ c.shape-shape.result c.shape-shape.ensures _ c.size-size.ensures) _ c.entry_bytes-bytes.ensures (λ z. search rules) _ c.entry_address-address.ensures))))
