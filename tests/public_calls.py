@@ -27,7 +27,7 @@ from kit import Work, sum_of  # noqa: E402
 LISTED = TOP / "target" / "calls"
 
 ITEM = re.compile(
-    r"^(?:impl(?:<[^>]*>)? (?:[\w:]+(?:<[^>]*>)? for )?(?P<type>\w+)|(?P<close>\})|(?P<export>#\[unsafe\(no_mangle\)\])"
+    r"^(?:impl(?:<[^>]*>)? (?:(?P<trait>[\w:]+(?:<[^>]*>)?) for )?(?P<type>\w+)|(?P<close>\})|(?P<export>#\[unsafe\(no_mangle\)\])"
     r'|\s*(?P<pub>pub )?(?:pub\(\w+\) )?(?:const )?(?:extern "\w*" )?fn (?P<name>\w+))',
     re.M,
 )
@@ -78,18 +78,30 @@ def clauses_of(text, at):
         clauses.append((word[1], text[opening:at]))
 
 
+def module_of(crate, file):
+    inner = file.relative_to(TOP / "crates" / crate / "src").with_suffix("").parts
+    return "::".join((crate, *(() if inner in (("lib",), ("main",)) else inner)))
+
+
 def functions_of(crate):
     """The functions of a crate, from its source in the formatter's layout."""
-    source = TOP / "crates" / crate / "src"
+    source, homes = TOP / "crates" / crate / "src", {}
+    for file in sorted(source.rglob("*.rt")):
+        for name in re.findall(r"^(?:pub )?(?:enum|struct) (\w+)", file.read_text(encoding="utf-8"), re.M):
+            homes[name] = module_of(crate, file)
     for file in sorted(source.rglob("*.rt")):
         # A brace in a literal is no block's.
         text = re.sub(r'"(?:[^"\\]|\\.)*"|\'(?:[^\'\\]|\\.)\'', '""', re.sub(r"//[^\n]*", "", file.read_text(encoding="utf-8")))
-        inner = file.relative_to(source).with_suffix("").parts
-        module = "::".join((crate, *(() if inner in (("lib",), ("main",)) else inner)))
+        module = module_of(crate, file)
         inside, exported = module, False
         for item in ITEM.finditer(text):
             if item["type"]:
-                inside = f"{module}::{item['type']}"
+                # The compiler names an impl by the module of its type, and that of a trait by its words: `U64FromRefusal` is
+                # `impl From<Refusal> for u64`.
+                words = [item["type"], *re.findall(r"\w+", item["trait"].split("::")[-1])] if item["trait"] else []
+                inside = f"{module}::{''.join(word[0].upper() + word[1:] for word in words)}"
+                if not words:
+                    inside = f"{homes.get(item['type'], module)}::{item['type']}"
             elif item["close"]:
                 inside = module
             elif item["export"]:
@@ -99,6 +111,15 @@ def functions_of(crate):
                 path = f"{inside}::{item['name']}"
                 yield Function(path, file, line, bool(item["pub"]), exported, *clauses_of(text, item.end()))
                 exported = False
+
+
+def derived(crate):
+    """The impls that a crate's derives write, as the compiler names them: `StopPartialEq` is that of `#[derive(PartialEq)] enum Stop`."""
+    source = TOP / "crates" / crate / "src"
+    for file in sorted(source.rglob("*.rt")):
+        module = module_of(crate, file)
+        for traits, name in re.findall(r"#\[derive\(([^)]*)\)\]\s*(?:pub )?(?:enum|struct) (\w+)", file.read_text(encoding="utf-8")):
+            yield from (f"{module}::{name}{trait.strip()}" for trait in traits.split(","))
 
 
 def stop(what, said):
@@ -168,7 +189,9 @@ def calls_of(crate, own, work):
         for path, code in json.loads(library.read_text(encoding="utf-8")):
             calls.setdefault(owner(path), set()).update(map(owner, named_in(code)))
         compiled = set(calls)
-    read = {function.path for function in own}
+    read, written = {function.path for function in own}, set(derived(crate))
+    # (nor has the text what the compiler writes for a closure's end, as `Destruct++none::drop`)
+    compiled = {path for path in compiled if path.rpartition("::")[0] not in written and "+" not in path}
     if read != compiled:
         stop(f"its reading of crates/{crate}/src is not the compiler's", str(sorted(read ^ compiled)))
     return calls

@@ -3,7 +3,7 @@ ghost use Rattle.std.specs.Prelude.{◌≡◌, ◌<◌};
 ghost use Rattle.context.specs.Bits.{bit, bits};
 
 // Whether bit `k` is set.
-pub fn bit(word: u32, k: u32) -> bool
+pub(super) fn bit(word: u32, k: u32) -> bool
     requires { k < 32 }
     ensures { result ≡ bit k word }
 {
@@ -11,7 +11,7 @@ pub fn bit(word: u32, k: u32) -> bool
 }
 
 // The number in the `n` bits from bit `k` on.
-pub fn bits(word: u32, k: u32, n: u32) -> u32
+pub(super) fn bits(word: u32, k: u32, n: u32) -> u32
     requires k_in { k < 32 }
     requires n_in { n < 32 }
     ensures { result ≡ bits k n word }

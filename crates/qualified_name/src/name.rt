@@ -113,6 +113,7 @@ fn write_hops(
         }
         return Ok(0);
     }
+    // Memory is fixed: eight names at a time, and how many of them there are.
     let mut names = [Place { start: 0, size: 0 }; 8];
     let walk = collect(rt, descriptor_va, left, rest, &mut names)?;
     match walk {

@@ -1,4 +1,5 @@
-// The product's calls over an image, its segments and its sections, with their refusals.
+// The product's calls over an image, its segments and its sections, with their refusals. They take these one by one, as a caller in C hands
+// them over and docs/CALLS.md names them; each makes a `SwiftRuntime` of them for the readers.
 #![tactic(auto, unfolding(refusal::specs::Guarded::guarded))]
 
 mod blocks;

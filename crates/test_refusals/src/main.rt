@@ -65,6 +65,7 @@ fn context_address(image: &[u8], segments: &[u64]) -> Result<Option<u64>, Refusa
 
 fn line_length(image: &[u8], segments: &[u64]) -> Result<Option<u64>, Refusal> {
     let types = b"\x00\xf0\xff\xff";
+    // Memory is fixed: room for the longest line, of which the call tells the length.
     let mut line = [0u8; LINE_BYTES];
     let given = type_lines::next_line(image, segments, types, 0x2000, LineIter::new(), &mut line)?;
     Ok(given.map(|line| line.length as u64))

@@ -148,6 +148,7 @@ fn row_line(out: Stdout, slot: usize, row: Row) {
 }
 
 fn row_lines(out: Stdout, rt: &SwiftRuntime, slot: usize, row: Row) {
+    // Memory is fixed: room for a name, of which the call tells the length.
     let mut buffer = [0u8; 1024];
     row_line(out, slot, row);
     context_lines(out, rt, row.parent);

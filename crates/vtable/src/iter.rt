@@ -54,7 +54,7 @@ impl EntryIter {
         }
         let next = self.moved();
         let shape = kind.shape();
-        let size = shape.size();
+        let size = kind.size();
         let bytes = entry_bytes(rt, self.base_va, size, size, self.next);
         if bytes.is_empty() {
             return EntryStep::Unreadable { next };

@@ -1,6 +1,6 @@
 -- `vtable::iter::EntryIter::next` meets its contract: each `return` is a case of `entryStep`.
 use Rattle.std.proofs.Common.{arith, rules}
-use Rattle.vtable.proofs.EntriesLaws.{shape_sized, shape_below, shape_entry, kind_end, kind_unreadable, kind_below, kind_entry}
+use Rattle.vtable.proofs.EntriesLaws.{shape_below, shape_entry, kind_end, kind_unreadable, kind_below, kind_entry}
 use Rattle.vtable.proofs.iter.EntryIter.next.Goals as goal
 
 pub returns-then-self : goal.returns-then-self
@@ -8,12 +8,12 @@ returns-then-self c = kind_end _ _ c.args.kind c.args.self (omega arith)
 
 pub returns-then-is_empty : goal.returns-then-is_empty
 returns-then-is_empty c =
-    kind_unreadable _ _ c.args.kind c.args.self _ (shape_sized _ c.shape-shape.result c.shape-shape.ensures _ c.size-size.ensures) _ c.entry_bytes-bytes.ensures _ c.moved-next.ensures (omega arith) (search rules)
+    kind_unreadable _ _ c.args.kind c.args.self _ c.size-size.ensures _ c.entry_bytes-bytes.ensures _ c.moved-next.ensures (omega arith) (search rules)
 
 pub returns : goal.returns
 returns c =
-    kind_entry _ _ c.args.kind c.args.self _ (shape_sized _ c.shape-shape.result c.shape-shape.ensures _ c.size-size.ensures) _ c.entry_bytes-bytes.ensures _ c.moved-next.ensures (omega arith) (λ z. search rules) _ _ c.entry_address-address.ensures
+    kind_entry _ _ c.args.kind c.args.self _ c.size-size.ensures _ c.entry_bytes-bytes.ensures _ c.moved-next.ensures (omega arith) (λ z. search rules) _ _ c.entry_address-address.ensures
     (shape_entry _ c.shape-shape.result c.shape-shape.ensures _ _ _
-      (c.entry.ensures
-        (shape_below _ c.shape-shape.result c.shape-shape.ensures _
-          (kind_below _ _ c.args.kind c.args.self _ (shape_sized _ c.shape-shape.result c.shape-shape.ensures _ c.size-size.ensures) _ c.entry_bytes-bytes.ensures (λ z. search rules) _ c.entry_address-address.ensures))))
+    (c.entry.ensures
+    (shape_below _ c.shape-shape.result c.shape-shape.ensures _
+    (kind_below _ _ c.args.kind c.args.self _ c.size-size.ensures _ c.entry_bytes-bytes.ensures (λ z. search rules) _ c.entry_address-address.ensures))))
