@@ -149,8 +149,8 @@ module _ (s : List ℕ) (image : Bool) (last at : ℕ) where
       go zero m f = absurd (omega (arith, w.low))
       go (suc n) m f = ap (λ (c : Result Kept Rule). turn at c (λ kind next. walk n s (eqb kind 1 || image) kind next)) e ∙ sym (turned n h) ∙ f
 
-  walked_on : (k n : ℕ) → RulesWalked s image last at → at < length s → keeps k n ≡ check_at s last at → RulesWalked s (eqb k 1 || image) k n
-  walked_on k n w h e = go w.turns w.enough w.same
+  pub walked_keeps : (k n : ℕ) → RulesWalked s image last at → at < length s → keeps k n ≡ check_at s last at → RulesWalked s (eqb k 1 || image) k n
+  walked_keeps k n w h e = go w.turns w.enough w.same
     where
       go : (m : ℕ) → 6 ≤ m + last → walk m s image last at ≡ broken_rule s → RulesWalked s (eqb k 1 || image) k n
       go zero m f = absurd (omega (arith, w.low))
@@ -163,8 +163,8 @@ module _ (s : List ℕ) (image : Bool) (last at : ℕ) where
           }
 
   -- whether there was an image, as the code has it after a record that obeyed the rules
-  pub walked_keeps : (k n : ℕ) → RulesWalked s image last at → at < length s → keeps k n ≡ check_at s last at → RulesWalked s (image || eqb k 1) k n
-  walked_keeps k n w h e = subst (λ (b : Bool). RulesWalked s b k n) (or_comm (eqb k 1) image) (walked_on k n w h e)
+  pub walked_seen : (k n : ℕ) → RulesWalked s image last at → at < length s → keeps k n ≡ check_at s last at → RulesWalked s (image || eqb k 1) k n
+  walked_seen k n w h e = subst (λ (b : Bool). RulesWalked s b k n) (or_comm (eqb k 1) image) (walked_keeps k n w h e)
 
   walked_ended : RulesWalked s image last at → length s ≤ at → at_end s image ≡ broken_rule s
   walked_ended w h = go w.turns w.enough w.same

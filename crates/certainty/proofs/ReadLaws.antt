@@ -54,9 +54,13 @@ module _ (image : List ℕ) (i : ℕ) where
       go zero z = absurd (z refl)
       go (suc b) z = refl
 
-  pub nul_past : length image ≤ i → ltb i (length image) ≡ has_nul (drop i image)
+  pub nul_past : length image ≤ i → has_nul (drop i image) ≡ false
   unfolding has_nul
-  nul_past h = rw (drop_of_length-le image h, le-ltb i (length image) h)
+  nul_past h = rw (drop_of_length-le image h)
+
+  -- as a test of the place says it
+  pub nul_tested : length image ≤ i → ltb i (length image) ≡ has_nul (drop i image)
+  nul_tested h = rw (le-ltb i (length image) h) (sym (nul_past h))
 
 -- ---- a text
 

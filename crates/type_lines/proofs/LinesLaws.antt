@@ -158,9 +158,17 @@ module _ (l l₁ l₂ ds : List ℕ) (a r₁ r₂ : ℕ) (ed : ds ≡ hex 16 a) 
       omega (arith, u.ends, put_length l _ l₂ 0 r₂ u (omega arith))
 
   -- and the kind, with a space
-  pub head_put : (l₃ l₄ word : List ℕ) (f r₃ r₄ : ℕ) → word ≡ kind_word f → r₃ ≡ put_end l₂ r₂ word → l₃ ≡ put_into l₂ r₂ word → r₄ ≡ put_end l₃ r₃ (32 ∷ []) → l₄ ≡ put_into l₃ r₃ (32 ∷ [])
+  pub head_put : (l₃ l₄ : List ℕ) (f r₃ r₄ : ℕ) → Put l₂ r₂ (kind_word f) r₃ l₃ → r₄ ≡ put_end l₃ r₃ (32 ∷ []) → l₄ ≡ put_into l₃ r₃ (32 ∷ [])
       → Put l 0 (hex 16 a ++ space ++ kind_word f ++ space) r₄ l₄
-  head_put l₃ l₄ word f r₃ r₄ ew e₃ m₃ e₄ m₄ =
+  head_put l₃ l₄ f r₃ r₄ u₃ e₄ m₄ =
+      let size : length (hex 16 a ++ space) ≡ 17 = length-append (hex 16 a) space ∙ omega (arith, hex_length a) in
+      let u : Put l 0 (hex 16 a ++ space ++ kind_word f) r₃ l₃ = put_then l (hex 16 a ++ space) (kind_word f) l₂ l₃ 0 r₂ r₃ head_address u₃ (omega arith) in
+      put_more l (hex 16 a ++ space ++ kind_word f) space l₃ l₄ 0 r₃ r₄ u e₄ m₄ (omega (arith, kind_length f, length-append (hex 16 a ++ space) (kind_word f)))
+
+  -- the same by the equations of a piece
+  pub head_word_put : (l₃ l₄ word : List ℕ) (f r₃ r₄ : ℕ) → word ≡ kind_word f → r₃ ≡ put_end l₂ r₂ word → l₃ ≡ put_into l₂ r₂ word → r₄ ≡ put_end l₃ r₃ (32 ∷ []) → l₄ ≡ put_into l₃ r₃ (32 ∷ [])
+      → Put l 0 (hex 16 a ++ space ++ kind_word f ++ space) r₄ l₄
+  head_word_put l₃ l₄ word f r₃ r₄ ew e₃ m₃ e₄ m₄ =
       let u₃ : Put l₂ r₂ (kind_word f) r₃ l₃ = put_as l₂ word (kind_word f) l₃ r₂ r₃ (sym ew) e₃ m₃ (omega (arith, head_room, kind_length f, ap length ew)) in
       let size : length (hex 16 a ++ space) ≡ 17 = length-append (hex 16 a) space ∙ omega (arith, hex_length a) in
       let u : Put l 0 (hex 16 a ++ space ++ kind_word f) r₃ l₃ = put_then l (hex 16 a ++ space) (kind_word f) l₂ l₃ 0 r₂ r₃ head_address u₃ (omega arith) in

@@ -1,7 +1,7 @@
 use Rattle.std.proofs.Common.{◌≡◌, Bool, true, false, arith, sym, ◌∙◌}
 use borrow.Author.Tests.{eqb-true, eqb-false}
 use Rattle.util.proofs.AnswersLaws.{known}
-use Rattle.bundle_rules.proofs.RuleLaws.{too_long_whole, walked_none, walked_breaks, walked_keeps, walked_whole, walked_empty, walked_missing, kept_by_check}
+use Rattle.bundle_rules.proofs.RuleLaws.{too_long_whole, walked_none, walked_breaks, walked_seen, walked_whole, walked_empty, walked_missing, kept_by_check}
 use Rattle.bundle_rules.proofs.rules.broken_rule.Goals as goal
 use Rattle.bundle_rules.proofs.rules.broken_rule.Goals.{then-image, else-image}
 
@@ -18,7 +18,7 @@ pub loop-at-smaller : goal.loop-at-smaller
 loop-at-smaller c = omega (arith, (kept_by_check _ _ _ _ _ (known c.check_record.ensures c.in-Ok.is)).next)
 
 pub loop-at-preserved : goal.loop-at-preserved
-loop-at-preserved c = walked_keeps _ _ _ _ _ _ c.loop-at.invariant (omega arith) (known c.check_record.ensures c.in-Ok.is)
+loop-at-preserved c = walked_seen _ _ _ _ _ _ c.loop-at.invariant (omega arith) (known c.check_record.ensures c.in-Ok.is)
 
 pub returns-then-is_empty : goal.returns-then-is_empty
 returns-then-is_empty c =
