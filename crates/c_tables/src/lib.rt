@@ -29,7 +29,7 @@ pub fn cursor_at(base_va: u64, count: u32, next: u32) -> EntryIter
 
 // 1, the next entry's number, the entry's address and what its words say; 2, the next entry's number and zeros for an entry that cannot be
 // read; zeros at the end.
-fn step_numbers(step: EntryStep) -> [u64; 6]
+pub fn step_numbers(step: EntryStep) -> [u64; 6]
     ensures { result ≡ step_numbers step }
 {
     match step {

@@ -34,7 +34,7 @@ use Rattle.vtable.specs.declared.shape.Word.TheVariants.{Number as number, Point
 use Rattle.entry_tables.specs.declared.list.Listed.{Listed}
 use Rattle.entry_tables.specs.declared.list.Stop.{Stop}
 use Rattle.entry_tables.specs.declared.window.Window.{Window}
-use Rattle.entry_tables.specs.Tables.{entry_numbers, WholeTable, Counts, empty_table, stop_number, stop_at, entry_then, table_by, table_from, table_in, width, counts, table_numbers, buffer_with, GivesTable, shape_layout, entry_place, Opens, words_in, run_numbers, PutRun, Lists}
+use Rattle.entry_tables.specs.Tables.{entry_numbers, WholeTable, Counts, empty_table, stop_number, stop_at, entry_then, table_by, table_from, table_in, width, counts, table_numbers, table_answer, buffer_with, GivesTable, shape_layout, entry_place, Opens, words_in, run_numbers, PutRun, Lists}
 
 -- ---- where an entry lies
 
@@ -103,10 +103,10 @@ module _ (image segments : List ℕ) (size a : ℕ) (w : a + (size - 4) < 2 ^ 64
         let e : file_offset (segments_of segments) (a + i) ≡ Some (m.fileoff + past + i) = f.2.offset (a + i) has ∙ ap Some far in
         place_as image segments size (a + i) (Some (m.fileoff + past + i)) (omega (arith, below)) (bytes_at_lem image segments (a + i) size (m.fileoff + past + i) (sym e) (omega (arith, inside)))
 
-    pub opens_least : (last : ℕ) → m.fileoff ≤ length image → past ≤ length image - m.fileoff → size ≤ length image - (m.fileoff + past)
-        → last ≡ min (m.size - past - 1) (min (length image - (m.fileoff + past) - size) (18446744073709551615 - (size - 4) - a))
+    pub opens_least : (u last : ℕ) → m.fileoff ≤ length image → past ≤ length image - m.fileoff → size ≤ length image - (m.fileoff + past)
+        → u ≡ min (length image - (m.fileoff + past) - size) (18446744073709551615 - (size - 4) - a) → last ≡ min (m.size - past - 1) u
         → Opens image segments size a (Some (record { place = m.fileoff + past; last = last }))
-    opens_least last hf hp hs el = opens_all _ last hf hp hs (lesser _ _ _ refl) (lesser last _ _ el)
+    opens_least u last hf hp hs eu el = opens_all u last hf hp hs (lesser u _ _ eu) (lesser last _ _ el)
 
 -- the same answer by another name, and at an address by another name
 pub opens_same : (image segments : List ℕ) (size a : ℕ) (x y : Option Window) → x ≡ y → Opens image segments size a y → Opens image segments size a x
@@ -650,14 +650,21 @@ module _ (segments : List ℕ) (t₀ : WholeTable) (b : List ℕ) where
   abbrev G : Guarded WholeTable
   G = guarded segments (answered t₀)
 
+  pub table_refused : (x : Result Listed Refusal) {n : ℕ} → refused n ≡ table_answer x → Some n ≡ fault segments → GivesTable G b x b
+  table_refused x e h = record { answers = sym e ∙ ap (mapped counts) (refused_list segments (answered t₀) h); holds = ap (λ (g : Guarded WholeTable). buffer_with g b) (refused_list segments (answered t₀) h) }
+
+  pub table_accepted : (x : Listed) (b' : List ℕ) → Lists t₀ b x b' → None ≡ fault segments → GivesTable G b (Ok x) b'
+  table_accepted x b' e h =
+      record { answers = ap answered e.0 ∙ ap (mapped counts) (accepted_list segments (answered t₀) h); holds = e.1 ∙ ap (λ (g : Guarded WholeTable). buffer_with g b) (accepted_list segments (answered t₀) h) }
+
   -- from what the test of the segments returned, at its `?`
-  pub table_refused : {r : Result ⊤ Refusal} {e : Refusal} → fault_of r ≡ fault segments → r ≡ Err e → GivesTable G b (Err e) b
-  table_refused f t =
+  pub fault_refused : {r : Result ⊤ Refusal} {e : Refusal} → fault_of r ≡ fault segments → r ≡ Err e → GivesTable G b (Err e) b
+  fault_refused f t =
       let h = refused_list segments (answered t₀) (sym (ap fault_of t) ∙ f) in
       record { answers = ap (mapped counts) h; holds = ap (λ (g : Guarded WholeTable). buffer_with g b) h }
 
-  pub table_accepted : {r : Result ⊤ Refusal} {u : ⊤} (x : Listed) (b' : List ℕ) → Lists t₀ b x b' → fault_of r ≡ fault segments → r ≡ Ok u → GivesTable G b (Ok x) b'
-  table_accepted x b' e f t =
+  pub fault_accepted : {r : Result ⊤ Refusal} {u : ⊤} (x : Listed) (b' : List ℕ) → Lists t₀ b x b' → fault_of r ≡ fault segments → r ≡ Ok u → GivesTable G b (Ok x) b'
+  fault_accepted x b' e f t =
       let h = accepted_list segments (answered t₀) (sym (ap fault_of t) ∙ f) in
       record { answers = ap answered e.0 ∙ ap (mapped counts) h; holds = e.1 ∙ ap (λ (g : Guarded WholeTable). buffer_with g b) h }
 

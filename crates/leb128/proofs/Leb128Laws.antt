@@ -249,9 +249,9 @@ module _ (s : List ℕ) (bits weight last count : ℕ) (r : Chunk s bits weight 
   unfolding sleb_of
   sleb_found z e f = rw (r.is, short, ← r.low, e, eq-eqb (sign_bits bits) (sign_bits bits) refl, chunk_length) (ap (λ (y : ℤ). Some (y, count)) f)
 
-  pub sleb_refused : count ≡ 11 → (b : ℕ) → b ≡ sign_bits bits → (last ≡ b → ⊥) → None ≡ sleb128 s
+  pub sleb_unsigned : count ≡ 11 → (b : ℕ) → b ≡ sign_bits bits → (last ≡ b → ⊥) → None ≡ sleb128 s
   unfolding sleb_of
-  sleb_refused c b f h = rw (r.is, short, ← r.low, eleventh (sign_bits bits) (omega arith), ne_eqb last (sign_bits bits) (λ e. h (e ∙ sym f)))
+  sleb_unsigned c b f h = rw (r.is, short, ← r.low, eleventh (sign_bits bits) (omega arith), ne_eqb last (sign_bits bits) (λ e. h (e ∙ sym f)))
 
   -- up to nine bytes: the weight of the last one, and the bits below it
   module _ (h : count < 10) where
@@ -333,3 +333,6 @@ module _ (s : List ℕ) (bits weight last count : ℕ) (r : Chunk s bits weight 
     pub sleb_eleven : (z : ℤ) (b : ℕ) → b ≡ sign_bits bits → last ≡ b → z ≡ twos_complement 64 bits → Some (z, 11) ≡ sleb128 s
     sleb_eleven z b f e d =
         ap (λ (k : ℕ). Some (z, k)) (sym eleven) ∙ sleb_kept z (λ c. e ∙ f) (λ c. absurd (omega arith)) d
+
+    pub sleb_refused : (b : ℕ) → b ≡ sign_bits bits → (last ≡ b → ⊥) → None ≡ sleb128 s
+    sleb_refused b f h = sleb_unsigned eleven b f h

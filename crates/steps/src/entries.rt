@@ -22,9 +22,10 @@ pub fn next_entry(
     Ok(cursor.next(&rt, kind))
 }
 
-// The next method.
+// The next method, by a walk that carries the image.
 pub fn next_method(image: &[u8], segments: &[u64], cursor: EntryIter) -> Result<EntryStep, Refusal>
     ensures { outcome result ≡ guarded segments.now (answered (step_answer (entry_step image.now segments.now method cursor))) }
 {
-    next_entry(image, segments, cursor, EntryKind::Method)
+    refusal::find_fault(segments)?;
+    Ok(vtable::method_step(cursor, image, segments))
 }

@@ -1,5 +1,5 @@
 -- `entry_tables::window::window_of_all` meets its contract.
-use Rattle.std.proofs.Common.{arith}
+use Rattle.std.proofs.Common.{arith, refl}
 use Rattle.entry_tables.proofs.TablesLaws.{opens_nowhere, opens_past, opens_least, opens_same}
 use Rattle.entry_tables.proofs.window.window_of_all.Goals as goal
 use Rattle.entry_tables.proofs.window.window_of_all.Goals.{then-image-from-via-then-image-from, then-image-from-via-else-image-from+then-image-from-2}
@@ -28,4 +28,4 @@ pub overflow_sub-mapping-2 : goal.overflow_sub-mapping-2
 overflow_sub-mapping-2 c = let found = c.in_ok-mapping.ensures in omega (arith, found.1.from, found.1.to)
 
 pub returns : goal.returns
-returns c = opens_least _ _ _ _ c.requires.1 _ c.in_ok-mapping.ensures _ c.if-image-from.false c.if-image-from-2.false c.if-left-size.false c.reach-last.ensures
+returns c = opens_least _ _ _ _ c.requires.1 _ c.in_ok-mapping.ensures _ _ c.if-image-from.false c.if-image-from-2.false c.if-left-size.false refl c.reach-last.ensures

@@ -3,7 +3,7 @@ use Rattle.std.proofs.Common.{◌≡◌, ◌<◌, ◌^◌, ap, ◌∙◌, arith,
 use Rattle.util.specs.LittleEndian.{twos_complement}
 use Rattle.util.proofs.Signed.{signed_bits}
 use Rattle.leb128.specs.Leb128.{read_value, sign_bits}
-use Rattle.leb128.proofs.Leb128Laws.{sleb_longer, sign_room, sleb_negative, sleb_kept, sleb_refused}
+use Rattle.leb128.proofs.Leb128Laws.{sleb_longer, sign_room, sleb_negative, sleb_kept, sleb_unsigned}
 use Rattle.leb128.proofs.leb128.read_sleb128.Goals as goal
 use Rattle.leb128.proofs.leb128.read_sleb128.Goals.{else-count-eq11-via-then-count-eq11+else-last-sign_bits, else-count-eq11-via-else-count-eq11, then-count-lt10+then-last-ge64, else-count-lt10, else-count-lt10-via-then-count-lt10+else-last-ge64, else-count-lt10-via-else-count-lt10}
 
@@ -12,7 +12,7 @@ returns-in_err-bits c = ap read_value c.from_residual.ensures ∙ sleb_longer _ 
 
 pub returns-then-last-sign_bits : goal.returns-then-last-sign_bits
 returns-then-last-sign_bits c =
-    sleb_refused _ _ _ _ _ c.in_ok-bits.ensures c.if-count-eq11.true _ c.sign_bits.ensures c.if-last-sign_bits.true
+    sleb_unsigned _ _ _ _ _ c.in_ok-bits.ensures c.if-count-eq11.true _ c.sign_bits.ensures c.if-last-sign_bits.true
 
 pub overflow_add-filled : goal.overflow_add-filled
 overflow_add-filled c = record { fits = omega (arith, sign_room _ _ _ _ _ c.in_ok-bits.ensures c.if-count-lt10.true) }

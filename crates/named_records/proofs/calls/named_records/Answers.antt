@@ -1,14 +1,14 @@
 -- `named_records::calls::named_records` meets its contract.
 use Rattle.std.proofs.lemmas.Result.{err_from_is_err_and}
-use Rattle.entry_tables.proofs.TablesLaws.{table_refused, table_accepted}
+use Rattle.entry_tables.proofs.TablesLaws.{fault_refused, fault_accepted}
 use Rattle.named_records.proofs.calls.named_records.Goals as goal
 
 pub returns-in_err-find_fault : goal.returns-in_err-find_fault
 returns-in_err-find_fault c =
     let p = err_from_is_err_and c.from_residual.result c.from_residual.ensures.1 in
-    rw (p.1, p.2) (table_refused _ _ _ c.find_fault.ensures c.in_err-find_fault.was)
+    rw (p.1, p.2) (fault_refused _ _ _ c.find_fault.ensures c.in_err-find_fault.was)
 
 pub returns : goal.returns
 returns c =
     let listed = rw c.new-rt.ensures at c.list_records.ensures in
-    table_accepted _ _ _ _ _ listed c.find_fault.ensures c.in_ok-find_fault.was
+    fault_accepted _ _ _ _ _ listed c.find_fault.ensures c.in_ok-find_fault.was
