@@ -18,7 +18,8 @@ import sys
 import tempfile
 from collections import Counter, OrderedDict
 
-KIT = os.environ.get("RATTLE_KIT", "/opt/rattle")
+# The kit's folder: `rt doc` prints the path of a page in it.
+KIT = pathlib.Path(subprocess.run(["rt", "doc"], check=True, capture_output=True, text=True).stdout.strip()).parent
 WORD = r"[^\s(){}.;,@\"«»]+"
 HEAD = re.compile(r"^( *)(pub )?(" + WORD + r") :(?:\s|$)")
 SPELLED = {"Some": "some", "None": "none", "option_map": "map", "unwrap_or": "get_or", "slice_get": "get_elem?"}
