@@ -172,6 +172,13 @@ def calls_in_text(function, own):
         else:
             free = [path for path in named if not path.split("::")[-2][0].isupper()]
             yield from [path for path in free if path.split("::")[-2] == module] or free
+    yield from handed_on(function, own)
+
+
+def handed_on(function, own):
+    """The functions of a crate that a function's body hands on by their names, as in `map(row_numbers)`."""
+    names = set(re.findall(r"(?<=[(,\s])(\w+)(?=\s*[,)])", function.body))
+    yield from (other.path for other in own if other.path.split("::")[-1] in names and not other.path.split("::")[-2][0].isupper())
 
 
 def calls_of(crate, own, work):
@@ -189,6 +196,8 @@ def calls_of(crate, own, work):
         for path, code in json.loads(library.read_text(encoding="utf-8")):
             calls.setdefault(owner(path), set()).update(map(owner, named_in(code)))
         compiled = set(calls)
+        for function in own:
+            calls.setdefault(function.path, set()).update(handed_on(function, own))
     read, written = {function.path for function in own}, set(derived(crate))
     # (nor has the text what the compiler writes for a closure's end, as `Destruct++none::drop`)
     compiled = {path for path in compiled if path.rpartition("::")[0] not in written and "+" not in path}
