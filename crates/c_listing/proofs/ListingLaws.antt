@@ -7,7 +7,6 @@ use native.Mathlib.Omega.{arith}
 use Rattle.std.proofs.Math.Path.{◌≡◌, refl}
 use Rattle.std.proofs.Common.{sym, ◌∙◌, ap, length-drop, take_all, take-take, drop_at, length-take-le, lt-ltb, le-ltb}
 use mathlib.Core.List.{List, [], ◌∷◌, ◌++◌, append_assoc}
-use Rattle.std.specs.Prelude.{Some, None}
 use Rattle.std.proofs.Math.Bool.{true, false, cond}
 use Rattle.std.proofs.Math.ListN.{length, length-append}
 use Rattle.std.proofs.Math.Seq.{take-length}
@@ -15,8 +14,6 @@ use Rattle.std.proofs.lemmas.List.{take-append-le}
 use borrow.Rule.Slice.PartMut.{put_mid, mid_of, put_same}
 use Rattle.refusal.specs.Refusal.{Guarded, answered, refused, mapped, answer_of, refusal_number}
 use Rattle.refusal.specs.declared.Refusal.{Refusal}
-use Rattle.refusal.specs.Guarded.{fault, guarded}
-use Rattle.refusal.proofs.GuardedLaws.{refused_list, accepted_list}
 use Rattle.util.specs.Buffer.{pasted, at_start, overwritten, put_end, put_into, Put}
 use Rattle.util.proofs.BufferLaws.{put_in, put_fits, put_more, fits_end, fits_into, past_end, past_into}
 use Rattle.util.specs.LittleEndian.{little_endian}
@@ -24,7 +21,6 @@ use Rattle.typedescriptor.specs.Row.{TypeRow}
 use Rattle.typedescriptor.proofs.GivenLaws.{Done}
 use Rattle.qualified_name.specs.Name.{too_deep, qualified_name, name_answer}
 use Rattle.qualified_name.proofs.NameLaws.{name_length}
-use Rattle.c_rows.specs.Numbers.{Tells}
 use Rattle.c_listing.specs.Listing.{eight_bytes, two_numbers, head_bytes, row_bytes, listing_from, listing_numbers, listing_bytes}
 
 -- ---- a record
@@ -160,22 +156,6 @@ module _ (b p b' : List ℕ) (at n : ℕ) (en : n ≡ put_end b at p) (eb : b' �
 pub listing_told : (image segments types : List ℕ) (start i₀ at i : ℕ) (e : Bool) (b₀ b : List ℕ) → Done (row_bytes image segments) image segments types start i₀ b₀ at i e b
     → (at ∷ (i ∷ (cond e 1 0 ∷ [])) ≡ listing_numbers (listing_from image segments types start i₀ (length b₀))) × (b ≡ at_start (listing_bytes (listing_from image segments types start i₀ (length b₀))) b₀)
 listing_told image segments types start i₀ at i e b₀ b d = (cc (d.wrote, d.next, d.whole), d.holds)
-
--- a call that tests the segments itself, and writes a text into a buffer
-module _ {A : Type 0} (segments : List ℕ) (a : A) where
-  module _ (numbers : A → List ℕ) (out : List ℕ) where
-    pub tells_accepted : (l : List ℕ) → l ≡ numbers a → None ≡ fault segments → Tells (mapped numbers (guarded segments (answered a))) out 0 l
-    tells_accepted l el h = rw (el, ← accepted_list segments (answered a) h) (record { gives = refl; writes = refl })
-
-    pub tells_refused : (r : ℕ) {n : ℕ} → Some n ≡ fault segments → r ≡ n → Tells (mapped numbers (guarded segments (answered a))) out r out
-    tells_refused r h er = rw (← refused_list segments (answered a) h) (record { gives = er; writes = refl })
-
-  module _ (text : A → List ℕ) (b : List ℕ) where
-    pub writes_accepted : (b' : List ℕ) → b' ≡ at_start (text a) b → None ≡ fault segments → b' ≡ overwritten b (answer_of (mapped text (guarded segments (answered a))))
-    writes_accepted b' e h = e ∙ ap (λ (x : Guarded A). overwritten b (answer_of (mapped text x))) (accepted_list segments (answered a) h)
-
-    pub keeps_refused : {n : ℕ} → Some n ≡ fault segments → b ≡ overwritten b (answer_of (mapped text (guarded segments (answered a))))
-    keeps_refused h = ap (λ (x : Guarded A). overwritten b (answer_of (mapped text x))) (refused_list segments (answered a) h)
 
 -- ---- the layout
 

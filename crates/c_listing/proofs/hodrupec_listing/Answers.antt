@@ -2,7 +2,7 @@
 use Rattle.util.proofs.AnswersLaws.{told}
 use Rattle.refusal.specs.Guarded.{fault_of}
 use Rattle.c_listing.specs.Listing.{listing_numbers, listing_bytes}
-use Rattle.c_listing.proofs.ListingLaws.{tells_accepted, tells_refused, writes_accepted, keeps_refused}
+use Rattle.c_rows.proofs.NumbersLaws.{tells_accepted, tells_refused, writes_accepted, keeps_refused}
 use Rattle.c_listing.proofs.hodrupec_listing.Goals as goal
 
 pub returns-in-Err : goal.returns-in-Err
