@@ -1,5 +1,6 @@
 -- Which rule of docs/SPECIFICATION.md, "Bundles", a bundle breaks first, and where: the records in the order of the file, each against the rules in one order.
 use Rattle.std.specs.Prelude.{ℕ, zero, suc, ◌+◌, List, Bool, false, cond, ◌&&◌, ◌||◌, length, leb, ltb, eqb, Option, Some, None, Result, Ok, Err}
+use Rattle.util.specs.Letters.{letters}
 use Rattle.bundle.specs.Bundle.{body_fits}
 use Rattle.bundle.specs.Open.{size_at, kind_at, bundle_most}
 use Rattle.bundle_rules.specs.declared.rules.Rule.{Rule}
@@ -56,3 +57,12 @@ walk (suc n) s image last at =
 -- at most five records can obey the rules, so the sixth turn ends; a bundle that is too long is not refused for a rule
 unfoldable pub broken_rule : List ℕ → Option Broken
 broken_rule s = cond (ltb bundle_most (length s)) None (walk 6 s false 0 0)
+
+-- a rule in words, as the listing program says it
+abbrev pub rule_text : Rule → List ℕ
+rule_text Rule.CutShort = letters "a record is cut short"
+rule_text Rule.KindRange = letters "a kind is not 1 to 5"
+rule_text Rule.KindOrder = letters "a kind does not rise"
+rule_text Rule.SegmentBody = letters "a segment body is not of whole segments of 32 bytes"
+rule_text Rule.LedBody = letters "a section body has no room for its address of 8 bytes"
+rule_text Rule.NoImage = letters "there is no image"

@@ -1,6 +1,6 @@
 // Which rule a bundle breaks first, and where.
-ghost use Rattle.std.specs.Prelude.{◌≡◌};
-ghost use Rattle.bundle_rules.specs.Rule.{check_at, broken_rule};
+ghost use Rattle.std.specs.Prelude.{◌≡◌, Some};
+ghost use Rattle.bundle_rules.specs.Rule.{check_at, broken_rule, rule_text};
 
 use bundle::{BUNDLE_BYTES, IMAGE, SEGMENTS, body_fits};
 use std::fmt;
@@ -22,6 +22,8 @@ pub enum Rule {
 }
 
 impl fmt::Display for Rule {
+    ghost output = { λ rule. Some (rule_text rule) };
+
     fn fmt<W: fmt::Write>(&self, f: &mut fmt::Formatter<W>) -> fmt::Result {
         f.write_str(match self {
             Rule::CutShort => "a record is cut short",

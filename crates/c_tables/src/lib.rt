@@ -2,7 +2,7 @@
 // in an archive, the compiler makes the step and the loop for that kind.
 #![tactic(auto)]
 
-ghost use Rattle.std.specs.Prelude.{◌≡◌, ◌≤◌, take};
+ghost use Rattle.std.specs.Prelude.{◌≡◌, ◌≤◌, ◌-◌, ◌++◌, take, replicate};
 ghost use Rattle.refusal.specs.Refusal.{mapped, outcome};
 ghost use Rattle.entry_tables.specs.Tables.{table_answer, listed_counts};
 ghost use Rattle.c_rows.specs.Numbers.{Tells};
@@ -47,18 +47,24 @@ pub fn step_numbers(step: EntryStep) -> [u64; 6]
 }
 
 fn first_numbers<const N: usize>(step: EntryStep) -> [u64; N]
-    ensures { N ≤ 6 → result ≡ take N (step_numbers step) }
+    ensures first { N ≤ 6 → result ≡ take N (step_numbers step) }
+    ensures beyond { 6 ≤ N → result ≡ step_numbers step ++ replicate (N - 6) 0 }
 {
-    let mut first = [0; N];
-    if N <= 6 {
-        first.copy_from_slice(&step_numbers(step)[..N]);
+    let numbers = step_numbers(step);
+    // No `copy_from_slice`: it tests whether the lists overlap, and reads in pairs what was just written one by one, which makes the
+    // processor wait (docs/DECISIONS.md, "Bodies, blocks, entries").
+    if let Some(first) = numbers.first_chunk() {
+        return *first;
     }
-    first
+    let mut longer = [0; N];
+    longer[..6].copy_from_slice(&numbers);
+    longer
 }
 
-// Tells as many of a step's numbers as its kind of entry has, which are six at most.
+// Tells as many of a step's numbers as its kind of entry has, which are six at most; a longer list has zeros behind them.
 pub fn tell_step<const N: usize>(answer: Result<EntryStep, Refusal>, out: &mut [u64; N]) -> u64
-    ensures { N ≤ 6 → Tells (mapped (λ step. take N (step_numbers step)) (outcome answer)) out.old result out.new }
+    ensures first { N ≤ 6 → Tells (mapped (λ step. take N (step_numbers step)) (outcome answer)) out.old result out.new }
+    ensures beyond { 6 ≤ N → Tells (mapped (λ step. step_numbers step ++ replicate (N - 6) 0) (outcome answer)) out.old result out.new }
 {
     c_rows::tell(answer.map(first_numbers), out)
 }

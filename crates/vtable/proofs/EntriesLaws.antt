@@ -2,15 +2,15 @@
 -- (`entry_of_lem`, `no_entry`, `an_entry`), a step's answers (`step_end`, `step_gives`, `step-moves`), and that a true mapping changes none
 -- (`step-mapped`); and the same for a step over the entries of a kind (`kind-end`, `kind-unreadable`, `kind-entry`), whose answer has the
 -- entry's words (`words-in`).
-use Rattle.std.specs.Prelude.{◌≡◌, ℕ, ◌+◌, ◌-◌, ◌*◌, ◌%◌, ◌^◌, ◌<◌, ◌≤◌, List, [], ◌∷◌, length, take, ◌≢◌, refl, Option, Some, None}
+use Rattle.std.specs.Prelude.{◌≡◌, ℕ, zero, suc, ℤ, pos, negsuc, ◌+◌, ◌-◌, ◌*◌, ◌%◌, ◌^◌, ◌<◌, ◌≤◌, List, [], ◌∷◌, length, take, ◌≢◌, refl, Option, Some, None}
 use Rattle.std.proofs.Math.Nat.{mod-eq_of_lt}
 use Rattle.std.proofs.Common.{mul-le-mul_left, mul-lt-mul_of_pos_right, lt_of_le_of_lt, le_of_lt, sym, ap, ◌∙◌, length-take, length-drop}
-use Rattle.std.proofs.Math.Decide.{dec_le}
+use Rattle.std.proofs.Math.Decide.{dec_le, dec_lt}
 use Rattle.std.proofs.lemmas.List.{length-replicate}
 use native.Mathlib.Omega.{arith}
 use borrow.Author.Tests.{le-leb, lt-leb, lt-ltb, le-ltb}
 use Rattle.util.specs.LittleEndian.{signed_in}
-use Rattle.util.specs.Pointer.{relative_address}
+use Rattle.util.specs.Pointer.{relative_pointer, relative_address}
 use Rattle.segment.specs.Mapping.{with_mapping, TrueMapping}
 use Rattle.segment.specs.declared.segment.Mapping.{Mapping}
 use Rattle.runtime.specs.Reads.{Reads, bytes_place, run, done}
@@ -79,6 +79,24 @@ entry_of_lem layout a h xs e = ap (λ (l : List ℕ). record { address = a; word
 -- a pointer that is an entry's first word
 pub first_word : (a x : ℕ) (h : List ℕ) → x ≡ relative_address a (signed_in 4 h 0) → x ≡ word_at pointer a 0 h
 first_word a x h e = e ∙ ap (λ (n : ℕ). relative_address n (signed_in 4 h 0)) (omega arith)
+
+-- an address modulo 2^64 gives a pointer the same target
+pub wrapped_pointer : (a : ℕ) (z : ℤ) → relative_pointer (a % 2 ^ 64) z ≡ relative_pointer a z
+unfolding relative_pointer
+wrapped_pointer a (pos n) = omega arith
+wrapped_pointer a (negsuc n) = go (dec_lt a (suc n)) (dec_lt (a % 2 ^ 64) (suc n))
+  where
+    go : Dec (a < suc n) → Dec (a % 2 ^ 64 < suc n) → relative_pointer (a % 2 ^ 64) (negsuc n) ≡ relative_pointer a (negsuc n)
+    go (yes l) (yes m) = rw (lt-ltb a (suc n) l) (rw (lt-ltb (a % 2 ^ 64) (suc n) m) (omega arith))
+    go (yes l) (no m) = absurd (omega arith)
+    go (no l) (yes m) = rw (le-ltb a (suc n) (omega arith)) (rw (lt-ltb (a % 2 ^ 64) (suc n) m) (omega arith))
+    go (no l) (no m) = rw (le-ltb a (suc n) (omega arith)) (rw (le-ltb (a % 2 ^ 64) (suc n) (omega arith)) (omega arith))
+
+pub wrapped_address : (a : ℕ) (z : ℤ) → relative_address (a % 2 ^ 64) z ≡ relative_address a z
+unfolding relative_address
+wrapped_address a (pos zero) = refl
+wrapped_address a (pos (suc n)) = wrapped_pointer a (pos (suc n))
+wrapped_address a (negsuc n) = wrapped_pointer a (negsuc n)
 
 -- ---- an entry's bytes
 

@@ -19,7 +19,7 @@ pub struct Shape {
 }
 
 impl Shape {
-    ghost use Rattle.std.specs.Prelude.{◌≡◌, ◌+◌, ◌*◌, ◌^◌, ◌<◌};
+    ghost use Rattle.std.specs.Prelude.{◌≡◌, ◌+◌, ◌*◌};
     ghost use Rattle.vtable.specs.Entries.{packed, shape_words, entry_of, table_entry};
 
     // How many bytes an entry has.
@@ -29,9 +29,10 @@ impl Shape {
         4 + 4 * self.more
     }
 
-    // What an entry's bytes say, if its words lie below 2^64.
+    // What an entry's bytes say.
+    #[tactic(auto, using(crate::proofs::EntriesLaws::wrapped_address))]
     pub fn entry(self, bytes: &[u8], address: u64) -> TableEntry
-        ensures { address + 4 * self.more < 2 ^ 64 → result ≡ table_entry (entry_of (packed (shape_words self)) address bytes.now) }
+        ensures { result ≡ table_entry (entry_of (packed (shape_words self)) address bytes.now) }
     {
         let first = match self.first {
             Word::Number => util::u32_at(bytes, 0) as u64,

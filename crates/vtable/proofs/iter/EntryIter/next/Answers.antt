@@ -1,6 +1,6 @@
 -- `vtable::iter::EntryIter::next` meets its contract: each `return` is a case of `entryStep`.
 use Rattle.std.proofs.Common.{arith, rules}
-use Rattle.vtable.proofs.EntriesLaws.{shape_below, shape_entry, kind_end, kind_unreadable, kind_below, kind_entry}
+use Rattle.vtable.proofs.EntriesLaws.{shape_entry, kind_end, kind_unreadable, kind_entry}
 use Rattle.vtable.proofs.iter.EntryIter.next.Goals as goal
 
 pub returns-then-self : goal.returns-then-self
@@ -14,6 +14,4 @@ pub returns : goal.returns
 returns c =
     kind_entry _ _ c.args.kind c.args.self _ c.size-size.ensures _ c.entry_bytes-bytes.ensures _ c.moved-next.ensures (omega arith) (λ z. search rules) _ _ c.entry_address-address.ensures
     (shape_entry _ c.shape-shape.result c.shape-shape.ensures _ _ _
-    (c.entry.ensures
-    (shape_below _ c.shape-shape.result c.shape-shape.ensures _
-    (kind_below _ _ c.args.kind c.args.self _ c.size-size.ensures _ c.entry_bytes-bytes.ensures (λ z. search rules) _ c.entry_address-address.ensures))))
+    c.entry.ensures)
