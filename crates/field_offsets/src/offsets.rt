@@ -36,7 +36,8 @@ fn struct_offsets(
 }
 
 // The offsets of the fields of a struct whose metadata is at an address. There are none for any other body, and none unless all of them
-// are in the image.
+// are in the image. By itself it would read the body from memory, in pieces of another size than it was written in.
+#[inline(always)]
 pub fn field_offsets(
     rt: &SwiftRuntime,
     body: Option<TypeBody>,

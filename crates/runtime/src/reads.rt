@@ -51,7 +51,9 @@ impl<'a, 's> SwiftRuntime<'a, 's> {
         }
     }
 
-    // The text at an address. There is none at address 0.
+    // The text at an address. There is none at address 0. By itself it would read the runtime from memory, which its callers have just put together
+    // (docs/BENCHMARKS.md, "A call for each table, and for each step").
+    #[inline(always)]
     pub fn read_cstr(&self, vmaddr: u64) -> Option<Place>
         ensures { result ≡ text_place self.now.image.now (tried self.now) vmaddr }
     {
