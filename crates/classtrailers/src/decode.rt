@@ -1,5 +1,6 @@
 // Blocks at an address. A header is read once, as a part of the image.
 ghost use Rattle.std.specs.Prelude.{◌≡◌, false, ◌+◌, ◌*◌, ◌≤◌};
+ghost use Rattle.runtime.specs.Bytes.{bytes_read};
 ghost use Rattle.runtime.specs.Reads.{run};
 ghost use Rattle.runtime.specs.Runtime.{tried};
 ghost use Rattle.classtrailers.specs.Blocks.{placed_block, listed, row_at, row_number, below, block_at};
@@ -35,11 +36,31 @@ fn plain_at(kind: BlockKind, at: u64, size: u64) -> Ended
     }
 }
 
+// A function by itself: compiled into the readers below, its walk would set what `None` says of a block anew for each segment passed
+// (docs/DECISIONS.md, "Bodies, blocks, entries").
+#[inline(never)]
+fn read_far<'a>(rt: &SwiftRuntime<'a, '_>, at: u64, len: usize) -> &'a [u8]
+    ensures { result.now ≡ bytes_read rt.now.image.now (tried rt.now) at len }
+{
+    rt.read_bytes(at, len)
+}
+
+// The bytes of a header. Those among the mapping's addresses need no walk over the segments.
+fn read_bytes<'a>(rt: &SwiftRuntime<'a, '_>, at: u64, len: usize) -> &'a [u8]
+    ensures { result.now ≡ bytes_read rt.now.image.now (tried rt.now) at len }
+{
+    if rt.mapping.vmaddr <= at && at - rt.mapping.vmaddr < rt.mapping.size {
+        rt.read_bytes(at, len)
+    } else {
+        read_far(rt, at, len)
+    }
+}
+
 // A generic header: its parameters take a byte each, their number rounded up to a multiple of four, its requirements 12 bytes each.
 fn generic_at(rt: &SwiftRuntime, at: u64) -> Option<Ended>
     ensures { result ≡ run rt.now.image.now (tried rt.now) (block_at (row_at 0) at) }
 {
-    let header = rt.read_bytes(at, 16);
+    let header = read_bytes(rt, at, 16);
     if header.len() < 16 {
         return None;
     }
@@ -58,7 +79,7 @@ fn generic_at(rt: &SwiftRuntime, at: u64) -> Option<Ended>
 fn vtable_at(rt: &SwiftRuntime, at: u64) -> Option<Ended>
     ensures { result ≡ run rt.now.image.now (tried rt.now) (block_at (row_at 4) at) }
 {
-    let header = rt.read_bytes(at, 8);
+    let header = read_bytes(rt, at, 8);
     if header.len() < 8 {
         return None;
     }
@@ -82,7 +103,7 @@ fn entries_at(rt: &SwiftRuntime, kind: BlockKind, at: u64, entry: u64) -> Option
     requires { entry ≤ 12 }
     ensures { result ≡ run rt.now.image.now (tried rt.now) (block_at (listed kind (λ _. false) entry) at) }
 {
-    let header = rt.read_bytes(at, 4);
+    let header = read_bytes(rt, at, 4);
     if header.len() < 4 {
         return None;
     }
@@ -105,7 +126,7 @@ fn entries_at(rt: &SwiftRuntime, kind: BlockKind, at: u64, entry: u64) -> Option
 fn invertible_at(rt: &SwiftRuntime, at: u64) -> Option<Ended>
     ensures { result ≡ run rt.now.image.now (tried rt.now) (block_at (row_at 8) at) }
 {
-    let header = rt.read_bytes(at, 2);
+    let header = read_bytes(rt, at, 2);
     if header.len() < 2 {
         return None;
     }
