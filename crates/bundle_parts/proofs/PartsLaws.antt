@@ -83,10 +83,10 @@ pub filled_none : (body list : List ℕ) → list ≡ filled body 0 list
 unfolding numbers
 filled_none body list = refl
 
--- one number more
-pub filled_more : (body list list' : List ℕ) (i n : ℕ) → list' ≡ filled body i list → i < length list → n ≡ u64_in body (8 * i) → set list' i n ≡ filled body (i + 1) list
-filled_more body list list' i n holds inside e =
-    rw (add-one, holds, drop-cons list i 0 inside, e)
+-- one number more, wherever a test says that it lies
+pub filled_more : (body list list' : List ℕ) (i n at : ℕ) → list' ≡ filled body i list → i < length list → n ≡ u64_in body at → at ≡ 8 * i → set list' i n ≡ filled body (i + 1) list
+filled_more body list list' i n at holds inside e here =
+    rw (add-one, holds, drop-cons list i 0 inside, e, here)
     (set_at (numbers i body) (get_or list i 0) (drop (suc i) list) (u64_in body (8 * i)) i (numbers_length i body)
     ∙ sym (append_assoc (numbers i body) (u64_in body (8 * i) ∷ []) (drop (suc i) list))
     ∙ ap (λ (l : List ℕ). l ++ drop (suc i) list) (sym (numbers_snoc i body)))

@@ -7,4 +7,4 @@ loop-k-init c = (refl, filled_none _ _)
 
 pub loop-k-preserved : goal.loop-k-preserved
 loop-k-preserved c =
-    (simp length-set c.loop-k.invariant.0, filled_more _ _ _ _ _ c.loop-k.invariant.1 (omega arith) c.u64_in.ensures)
+    (simp length-set c.loop-k.invariant.0, filled_more _ _ _ _ _ _ c.loop-k.invariant.1 (omega arith) c.u64_in.ensures (omega arith))
