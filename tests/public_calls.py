@@ -9,8 +9,9 @@ the compiler's own account, whose names are whole paths, so that two functions o
 its build wrote, each function with those that it names; of a program and of a static library, which no crate stands on, the functions of
 other crates that `rt check --list-calls` lists for all of it. Which functions of such a crate call one another is read from its text; a
 listed call counts as run where one of its functions does, and any of them that nothing runs is said below. A public function has an
-`ensures`, and no `requires`: it asks nothing of its caller. A call is a function that a crate above the readers (in crates.txt, from `steps`
-on) offers to other crates or to C; one that takes segments tests them, so every `ensures` of it cites `guarded`.
+`ensures`, and no `requires`: it asks nothing of its caller. An impl of a trait, whose functions are public without the word, says by a `ghost`
+item of the trait what they promise. A call is a function that a crate above the readers (in crates.txt, from `steps` on) offers to other crates
+or to C; one that takes segments, by themselves or in a `SwiftRuntime`, tests them, so every `ensures` of it cites `guarded`.
 Prints a line for each function that breaks this; exit status 1 if there is one.
 """
 import json
@@ -35,9 +36,9 @@ ITEM = re.compile(
 
 class Function:
     def __init__(self, path, file, line, public, exported, signature, clauses, body):
-        self.path, self.file, self.line, self.body = path, file, line, body
+        self.path, self.file, self.line, self.signature, self.body = path, file, line, signature, body
         self.public, self.exported, self.clauses = public, exported, [word for word, _ in clauses]
-        self.takes_segments = re.search(r"\bsegments: &(?:'\w+ )?\[u64\]", signature) is not None
+        self.takes_segments = re.search(r"\bsegments: &(?:'\w+ )?\[u64\]|\bSwiftRuntime\b", signature) is not None
         self.guarded = all("guarded" in said for word, said in clauses if word == "ensures")
 
     def offered(self):
@@ -122,6 +123,16 @@ def derived(crate):
             yield from (f"{module}::{name}{trait.strip()}" for trait in traits.split(","))
 
 
+def lawless(crate):
+    """The impls of traits that say nothing of what their functions promise, as `FILE:LINE: HEAD`."""
+    for file in sorted((TOP / "crates" / crate / "src").rglob("*.rt")):
+        text = re.sub(r'"(?:[^"\\]|\\.)*"', '""', re.sub(r"//[^\n]*", "", file.read_text(encoding="utf-8")))
+        for head in re.finditer(r"^(?:unsafe )?impl\b[^{;]*?\bfor\b[^{;]*(?=\{)", text, re.M):
+            inside = text[head.end() : end_of_block(text, head.end())]
+            if not any(said not in ("λ _. None", "λ _ _. None") for said in re.findall(r"^    ghost \w+[^=]*= \{ (.*) \};", inside, re.M)):
+                yield f"{file.relative_to(TOP)}:{text.count(chr(10), 0, head.start()) + 1}: {' '.join(head[0].split())}"
+
+
 def stop(what, said):
     sys.exit(f"public_calls.py: {what}: {said.strip()[-600:]}")
 
@@ -176,8 +187,11 @@ def calls_in_text(function, own):
 
 
 def handed_on(function, own):
-    """The functions of a crate that a function's body hands on by their names, as in `map(row_numbers)`."""
+    """The functions of a crate that a function's body hands on by their names, as in `map(row_numbers)`. A parameter is a value, and so is what
+    `let`, `for` or a closure's head names first."""
     names = set(re.findall(r"(?<=[(,\s])(\w+)(?=\s*[,)])", function.body))
+    names -= set(re.findall(r"(\w+): ", function.signature))
+    names -= set(re.findall(r"(?:\b(?:let|mut|for) |[(|])(\w+)(?= =|: | in |\||\) =)", function.body))
     yield from (other.path for other in own if other.path.split("::")[-1] in names and not other.path.split("::")[-2][0].isupper())
 
 
@@ -249,6 +263,9 @@ def main():
         for what in said:
             wrong += 1
             print(f"{function}: {what}")
+    for where in (where for crate in crates for where in lawless(crate)):
+        wrong += 1
+        print(f"{where}: an impl, without a `ghost` item that says what it promises")
     if wrong == 0:
         public = sum(function.public for function in functions)
         print(f"public calls: {len(functions)} functions, {public} of them public, are run from {len(roots)} programs and compared exports")
