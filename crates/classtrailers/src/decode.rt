@@ -45,11 +45,11 @@ fn read_far<'a>(rt: &SwiftRuntime<'a, '_>, at: u64, len: usize) -> &'a [u8]
     rt.read_bytes(at, len)
 }
 
-// The bytes of a header. Those among the mapping's addresses need no walk over the segments.
-fn read_bytes<'a>(rt: &SwiftRuntime<'a, '_>, at: u64, len: usize) -> &'a [u8]
+// The bytes of a header. `MAPPED`, which changes no answer, says that the mapping has them as a rule, so that the segments are seldom walked.
+fn read_bytes<'a, const MAPPED: bool>(rt: &SwiftRuntime<'a, '_>, at: u64, len: usize) -> &'a [u8]
     ensures { result.now ≡ bytes_read rt.now.image.now (tried rt.now) at len }
 {
-    if rt.mapping.vmaddr <= at && at - rt.mapping.vmaddr < rt.mapping.size {
+    if MAPPED {
         rt.read_bytes(at, len)
     } else {
         read_far(rt, at, len)
@@ -57,10 +57,10 @@ fn read_bytes<'a>(rt: &SwiftRuntime<'a, '_>, at: u64, len: usize) -> &'a [u8]
 }
 
 // A generic header: its parameters take a byte each, their number rounded up to a multiple of four, its requirements 12 bytes each.
-fn generic_at(rt: &SwiftRuntime, at: u64) -> Option<Ended>
+fn generic_at<const MAPPED: bool>(rt: &SwiftRuntime, at: u64) -> Option<Ended>
     ensures { result ≡ run rt.now.image.now (tried rt.now) (block_at (row_at 0) at) }
 {
-    let header = read_bytes(rt, at, 16);
+    let header = read_bytes::<MAPPED>(rt, at, 16);
     if header.len() < 16 {
         return None;
     }
@@ -76,10 +76,10 @@ fn generic_at(rt: &SwiftRuntime, at: u64) -> Option<Ended>
     })
 }
 
-fn vtable_at(rt: &SwiftRuntime, at: u64) -> Option<Ended>
+fn vtable_at<const MAPPED: bool>(rt: &SwiftRuntime, at: u64) -> Option<Ended>
     ensures { result ≡ run rt.now.image.now (tried rt.now) (block_at (row_at 4) at) }
 {
-    let header = read_bytes(rt, at, 8);
+    let header = read_bytes::<MAPPED>(rt, at, 8);
     if header.len() < 8 {
         return None;
     }
@@ -99,11 +99,16 @@ fn vtable_at(rt: &SwiftRuntime, at: u64) -> Option<Ended>
 }
 
 // A table whose header is the number of its entries, each of `entry` bytes.
-fn entries_at(rt: &SwiftRuntime, kind: BlockKind, at: u64, entry: u64) -> Option<Ended>
+fn entries_at<const MAPPED: bool>(
+    rt: &SwiftRuntime,
+    kind: BlockKind,
+    at: u64,
+    entry: u64,
+) -> Option<Ended>
     requires { entry ≤ 12 }
     ensures { result ≡ run rt.now.image.now (tried rt.now) (block_at (listed kind (λ _. false) entry) at) }
 {
-    let header = read_bytes(rt, at, 4);
+    let header = read_bytes::<MAPPED>(rt, at, 4);
     if header.len() < 4 {
         return None;
     }
@@ -123,10 +128,10 @@ fn entries_at(rt: &SwiftRuntime, kind: BlockKind, at: u64, entry: u64) -> Option
 }
 
 // Two bytes are read, and the next block starts four bytes on.
-fn invertible_at(rt: &SwiftRuntime, at: u64) -> Option<Ended>
+fn invertible_at<const MAPPED: bool>(rt: &SwiftRuntime, at: u64) -> Option<Ended>
     ensures { result ≡ run rt.now.image.now (tried rt.now) (block_at (row_at 8) at) }
 {
-    let header = read_bytes(rt, at, 2);
+    let header = read_bytes::<MAPPED>(rt, at, 2);
     if header.len() < 2 {
         return None;
     }
@@ -146,20 +151,31 @@ fn invertible_at(rt: &SwiftRuntime, at: u64) -> Option<Ended>
 
 // The block of a kind at an address. The kind chooses the reader: a reader's constants stand in its arm, as they would in a table of kinds.
 // The mapping is tried before the segments; a true mapping changes no answer.
-pub fn block_at(rt: &SwiftRuntime, kind: BlockKind, at: u64) -> Option<Ended>
+pub(super) fn read_block<const MAPPED: bool>(
+    rt: &SwiftRuntime,
+    kind: BlockKind,
+    at: u64,
+) -> Option<Ended>
     ensures { result ≡ run rt.now.image.now (tried rt.now) (block_at (row_at (row_number kind)) at) }
 {
     match kind {
-        BlockKind::Generic => generic_at(rt, at),
+        BlockKind::Generic => generic_at::<MAPPED>(rt, at),
         BlockKind::ResilientSuperclass => Some(plain_at(kind, at, 4)),
         BlockKind::ForeignMetadataInit => Some(plain_at(kind, at, 4)),
         BlockKind::SingletonMetadataInit => Some(plain_at(kind, at, 12)),
-        BlockKind::VTable => vtable_at(rt, at),
-        BlockKind::OverrideTable => entries_at(rt, kind, at, OVERRIDE),
+        BlockKind::VTable => vtable_at::<MAPPED>(rt, at),
+        BlockKind::OverrideTable => entries_at::<MAPPED>(rt, kind, at, OVERRIDE),
         BlockKind::ObjcResilientClassStub => Some(plain_at(kind, at, 4)),
-        BlockKind::Prespecializations => entries_at(rt, kind, at, PRESPECIALIZATION),
-        BlockKind::InvertibleProtocolSet => invertible_at(rt, at),
+        BlockKind::Prespecializations => entries_at::<MAPPED>(rt, kind, at, PRESPECIALIZATION),
+        BlockKind::InvertibleProtocolSet => invertible_at::<MAPPED>(rt, at),
         BlockKind::SingletonMetadataPointer => Some(plain_at(kind, at, 4)),
-        BlockKind::DefaultOverrideTable => entries_at(rt, kind, at, DEFAULT_OVERRIDE),
+        BlockKind::DefaultOverrideTable => entries_at::<MAPPED>(rt, kind, at, DEFAULT_OVERRIDE),
     }
+}
+
+// The same for a caller whose mapping is around the descriptor, and so has its blocks as a rule.
+pub fn block_at(rt: &SwiftRuntime, kind: BlockKind, at: u64) -> Option<Ended>
+    ensures { result ≡ run rt.now.image.now (tried rt.now) (block_at (row_at (row_number kind)) at) }
+{
+    read_block::<true>(rt, kind, at)
 }

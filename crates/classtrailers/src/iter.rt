@@ -5,7 +5,7 @@ ghost use Rattle.runtime.specs.Runtime.{tried};
 ghost use Rattle.classtrailers.specs.Blocks.{row_at, row_number, passed, after, step_at, next_block, block};
 
 use crate::block::{Block, BlockKind};
-use crate::decode::block_at;
+use crate::decode::read_block;
 use crate::trailing::{Trailing, has_block, kind_there, number_of};
 use runtime::SwiftRuntime;
 
@@ -56,7 +56,7 @@ fn step_at(
     requires { (row < 11) × (row ≡ row_number kind) }
     ensures { result ≡ step_at rt.now.image.now (tried rt.now) trailing row address }
 {
-    let found = block_at(rt, kind, address)?;
+    let found = read_block::<false>(rt, kind, address)?;
     Some(BlockStep {
         block: found.block,
         next: after(trailing, row + 1, found.end),
@@ -95,7 +95,7 @@ fn pass(rt: &SwiftRuntime, trailing: Trailing, row: u32, address: u64) -> Option
     let Some(kind) = kind_there(trailing, row) else {
         return Some(address);
     };
-    block_at(rt, kind, address)?.end
+    read_block::<false>(rt, kind, address)?.end
 }
 
 // The block of a kind, for a descriptor whose blocks start at an address. Only the headers of the blocks before it are read.
@@ -114,6 +114,6 @@ pub fn block_of_kind(
     for row in 0..number_of(kind) {
         address = pass(rt, trailing, row, address)?;
     }
-    let found = block_at(rt, kind, address)?;
+    let found = read_block::<false>(rt, kind, address)?;
     Some(found.block)
 }

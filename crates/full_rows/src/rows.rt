@@ -187,22 +187,23 @@ fn put_blocks(rt: &SwiftRuntime, trailing: Trailing, start: u64, buffer: &mut [u
     ensures { buffer.new ≡ pasted buffer.old at (block_fours rt.now.image.now (tried rt.now) (Some (record { trailing = trailing; start = start }))) }
 {
     let mut address = start;
+    // Both cases reach the loop's end: with a `continue` the compiler made a loop of its own of the kinds that are not there.
     for row in 0..KINDS {
         let here = at + 4 * (row as usize);
-        let Some(kind) = classtrailers::kind_there(trailing, row) else {
+        if let Some(kind) = classtrailers::kind_there(trailing, row) {
+            let Some(found) = classtrailers::block_at(rt, kind, address) else {
+                put_zeros(44 - 4 * (row as usize), buffer, here);
+                return;
+            };
+            put_block(found.block, buffer, here);
+            let Some(end) = found.end else {
+                put_zeros(40 - 4 * (row as usize), buffer, here + 4);
+                return;
+            };
+            address = end;
+        } else {
             put_zeros(4, buffer, here);
-            continue;
-        };
-        let Some(found) = classtrailers::block_at(rt, kind, address) else {
-            put_zeros(44 - 4 * (row as usize), buffer, here);
-            return;
-        };
-        put_block(found.block, buffer, here);
-        let Some(end) = found.end else {
-            put_zeros(40 - 4 * (row as usize), buffer, here + 4);
-            return;
-        };
-        address = end;
+        }
     }
 }
 

@@ -7,8 +7,8 @@ use Rattle.classtrailers.proofs.iter.pass.Goals as goal
 pub returns-in_default : goal.returns-in_default
 returns-in_default c = pass_none _ _ _ _ _ (known c.kind_there.ensures c.in_default.is)
 
-pub returns-in_err-block_at : goal.returns-in_err-block_at
-returns-in_err-block_at c = c.from_residual.ensures ∙ pass_kind _ _ _ _ _ _ _ (known c.kind_there.ensures c.in-Some.is) c.in_err-block_at.ensures
+pub returns-in_err-read_block : goal.returns-in_err-read_block
+returns-in_err-read_block c = c.from_residual.ensures ∙ pass_kind _ _ _ _ _ _ _ (known c.kind_there.ensures c.in-Some.is) c.in_err-read_block.ensures
 
 pub returns : goal.returns
-returns c = pass_kind _ _ _ _ _ _ _ (known c.kind_there.ensures c.in-Some.is) c.in_ok-block_at.ensures
+returns c = pass_kind _ _ _ _ _ _ _ (known c.kind_there.ensures c.in-Some.is) c.in_ok-read_block.ensures
