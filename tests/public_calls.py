@@ -79,6 +79,11 @@ def clauses_of(text, at):
         clauses.append((word[1], text[opening:at]))
 
 
+def code_of(file):
+    """The text of a file without comments, and without what stands in literals: a brace or a quote there is none."""
+    return re.sub(r'//[^\n]*|"(?:[^"\\]|\\.)*"|\'(?:[^\'\\]|\\.)\'', lambda found: "" if found[0][0] == "/" else '""', file.read_text(encoding="utf-8"))
+
+
 def module_of(crate, file):
     inner = file.relative_to(TOP / "crates" / crate / "src").with_suffix("").parts
     return "::".join((crate, *(() if inner in (("lib",), ("main",)) else inner)))
@@ -91,8 +96,7 @@ def functions_of(crate):
         for name in re.findall(r"^(?:pub )?(?:enum|struct) (\w+)", file.read_text(encoding="utf-8"), re.M):
             homes[name] = module_of(crate, file)
     for file in sorted(source.rglob("*.rt")):
-        # A brace in a literal is no block's.
-        text = re.sub(r'"(?:[^"\\]|\\.)*"|\'(?:[^\'\\]|\\.)\'', '""', re.sub(r"//[^\n]*", "", file.read_text(encoding="utf-8")))
+        text = code_of(file)
         module = module_of(crate, file)
         inside, exported = module, False
         for item in ITEM.finditer(text):
@@ -126,10 +130,11 @@ def derived(crate):
 def lawless(crate):
     """The impls of traits that say nothing of what their functions promise, as `FILE:LINE: HEAD`."""
     for file in sorted((TOP / "crates" / crate / "src").rglob("*.rt")):
-        text = re.sub(r'"(?:[^"\\]|\\.)*"', '""', re.sub(r"//[^\n]*", "", file.read_text(encoding="utf-8")))
-        for head in re.finditer(r"^(?:unsafe )?impl\b[^{;]*?\bfor\b[^{;]*(?=\{)", text, re.M):
+        text = code_of(file)
+        for head in re.finditer(r"^(?:unsafe )?impl\b[^{]*?\bfor\b(?!<)[^{]*(?=\{)", text, re.M):
             inside = text[head.end() : end_of_block(text, head.end())]
-            if not any(said not in ("λ _. None", "λ _ _. None") for said in re.findall(r"^    ghost \w+[^=]*= \{ (.*) \};", inside, re.M)):
+            items = re.findall(r"^    ghost (?!can_)\w+[^=;]*= \{\s(.*?)\s\};$", inside, re.M | re.S)
+            if re.search(r"\bfn ", inside) and all(re.fullmatch(r"(?:λ[^.]*\. )?(?:None|⊤|Unit \{0\})", said.strip()) for said in items):
                 yield f"{file.relative_to(TOP)}:{text.count(chr(10), 0, head.start()) + 1}: {' '.join(head[0].split())}"
 
 
@@ -187,11 +192,12 @@ def calls_in_text(function, own):
 
 
 def handed_on(function, own):
-    """The functions of a crate that a function's body hands on by their names, as in `map(row_numbers)`. A parameter is a value, and so is what
-    `let`, `for` or a closure's head names first."""
+    """The functions of a crate that a function's body hands on by their names, as in `map(row_numbers)`. A parameter is a value, and so is what a
+    `let`, a `for`, a closure's head or an arm's pattern names."""
     names = set(re.findall(r"(?<=[(,\s])(\w+)(?=\s*[,)])", function.body))
     names -= set(re.findall(r"(\w+): ", function.signature))
-    names -= set(re.findall(r"(?:\b(?:let|mut|for) |[(|])(\w+)(?= =|: | in |\||\) =)", function.body))
+    heads = r"\blet ([^=;]+)|\bfor ([^{}]+?) in |\|([^|\n]*)\||([^\n]*) =>|\{([^{}]*)\} =>"
+    names -= set(re.findall(r"\w+", " ".join(map(" ".join, re.findall(heads, function.body)))))
     yield from (other.path for other in own if other.path.split("::")[-1] in names and not other.path.split("::")[-2][0].isupper())
 
 
