@@ -128,13 +128,13 @@ def derived(crate):
 
 
 def lawless(crate):
-    """The impls of traits that say nothing of what their functions promise, as `FILE:LINE: HEAD`."""
+    """The impls of traits that say nothing of what their functions promise, as `FILE:LINE: HEAD`. An item `can_…` says what they ask."""
     for file in sorted((TOP / "crates" / crate / "src").rglob("*.rt")):
         text = code_of(file)
         for head in re.finditer(r"^(?:unsafe )?impl\b[^{]*?\bfor\b(?!<)[^{]*(?=\{)", text, re.M):
             inside = text[head.end() : end_of_block(text, head.end())]
             items = re.findall(r"^    ghost (?!can_)\w+[^=;]*= \{\s(.*?)\s\};$", inside, re.M | re.S)
-            if re.search(r"\bfn ", inside) and all(re.fullmatch(r"(?:λ[^.]*\. )?(?:None|⊤|Unit \{0\})", said.strip()) for said in items):
+            if re.search(r"\bfn ", inside) and all(re.fullmatch(r"(?:λ[^.]*\.\s+)*(?:None|⊤|Unit \{0\})", said.strip()) for said in items):
                 yield f"{file.relative_to(TOP)}:{text.count(chr(10), 0, head.start()) + 1}: {' '.join(head[0].split())}"
 
 
@@ -196,7 +196,7 @@ def handed_on(function, own):
     `let`, a `for`, a closure's head or an arm's pattern names."""
     names = set(re.findall(r"(?<=[(,\s])(\w+)(?=\s*[,)])", function.body))
     names -= set(re.findall(r"(\w+): ", function.signature))
-    heads = r"\blet ([^=;]+)|\bfor ([^{}]+?) in |\|([^|\n]*)\||([^\n]*) =>|\{([^{}]*)\} =>"
+    heads = r"\blet ([^=;]+)|\bfor ([^{}]+?) in |\|([^|\n]*)\||([^\n]*?)(?: if [^\n]*)? =>|\{([^{}]*)\}[\s),]*=>"
     names -= set(re.findall(r"\w+", " ".join(map(" ".join, re.findall(heads, function.body)))))
     yield from (other.path for other in own if other.path.split("::")[-1] in names and not other.path.split("::")[-2][0].isupper())
 

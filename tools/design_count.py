@@ -171,6 +171,7 @@ TABLE = [
     (6, "qualified_name", "collect put_hops", r"lengths", "two parallel lists of places and lengths"),
     (6, "typedescriptor", "Row", r"name_length", "a place with a length beside it"),
     (7, "classtrailers", "block_at", r"match kind", "a switch on which reader to run"),
+    (7, "classtrailers", "read_block", r"match kind", "a switch on which reader to run"),
     (7, "vtable", "table_entry", r"match kind", "a switch on which words to read"),
     (7, "vtable", "EntryKind::size", r"match self", "a table of sizes"),
     (7, "entry_tables", "first_word", r"if numbered", "a flag for which word to read"),
@@ -186,7 +187,7 @@ TABLE = [
 
 
 # Places that stand under another name now.
-MOVED = {(6, "bundle_parts", "with_segments"): "accept_bundle", (6, "test_refusals", "try_line"): "line_length"}
+MOVED = {(7, "classtrailers", "block_at"): "read_block", (6, "bundle_parts", "with_segments"): "accept_bundle", (6, "test_refusals", "try_line"): "line_length"}
 
 
 class Places:

@@ -45,7 +45,8 @@ fn read_far<'a>(rt: &SwiftRuntime<'a, '_>, at: u64, len: usize) -> &'a [u8]
     rt.read_bytes(at, len)
 }
 
-// The bytes of a header. `MAPPED`, which changes no answer, says that the mapping has them as a rule, so that the segments are seldom walked.
+// The bytes of a header. `MAPPED`, which changes no answer, says that the mapping has them as a rule, so that the segments are seldom walked;
+// without it a function by itself walks them.
 fn read_bytes<'a, const MAPPED: bool>(rt: &SwiftRuntime<'a, '_>, at: u64, len: usize) -> &'a [u8]
     ensures { result.now ≡ bytes_read rt.now.image.now (tried rt.now) at len }
 {
@@ -173,7 +174,7 @@ pub(super) fn read_block<const MAPPED: bool>(
     }
 }
 
-// The same for a caller whose mapping is around the descriptor, and so has its blocks as a rule.
+// The block of a kind at an address, compiled for a caller whose mapping, around a descriptor, has that descriptor's blocks as a rule.
 pub fn block_at(rt: &SwiftRuntime, kind: BlockKind, at: u64) -> Option<Ended>
     ensures { result ≡ run rt.now.image.now (tried rt.now) (block_at (row_at (row_number kind)) at) }
 {

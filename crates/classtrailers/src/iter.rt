@@ -1,4 +1,4 @@
-// Block after block, and the block of a kind.
+// Block after block, and the block of a kind. The calls that walk so have no mapping, so a header is not read as `MAPPED`.
 ghost use Rattle.std.specs.Prelude.{◌≡◌, ◌<◌};
 ghost use Rattle.runtime.specs.Reads.{run};
 ghost use Rattle.runtime.specs.Runtime.{tried};

@@ -187,7 +187,8 @@ fn put_blocks(rt: &SwiftRuntime, trailing: Trailing, start: u64, buffer: &mut [u
     ensures { buffer.new ≡ pasted buffer.old at (block_fours rt.now.image.now (tried rt.now) (Some (record { trailing = trailing; start = start }))) }
 {
     let mut address = start;
-    // Both cases reach the loop's end: with a `continue` the compiler made a loop of its own of the kinds that are not there.
+    // No `continue` for a kind that is not there: with it the compiler made a second loop, of such kinds (docs/DECISIONS.md, "Bodies, blocks,
+    // entries").
     for row in 0..KINDS {
         let here = at + 4 * (row as usize);
         if let Some(kind) = classtrailers::kind_there(trailing, row) {
