@@ -26,14 +26,15 @@ u64 hodrupec_descriptor_type_name(IMAGE, const u64 descriptor[6], u64 out[3]);
 u64 hodrupec_descriptor_superclass_name(IMAGE, const u64 descriptor[6], u64 out[3]);
 u64 hodrupec_record_type_name(IMAGE, const u64 record[4], u64 out[3]);
 u64 hodrupec_record_field_name(IMAGE, SECTION, const u64 record[4], u64 out[3]);
+u64 hodrupec_next_row(IMAGE, SECTION, size_t slot, u64 out[8]);
 u64 hodrupec_row_certain(IMAGE, SECTION, size_t slot, u64 out[1]);
 u64 hodrupec_name_certain(IMAGE, SECTION, size_t slot, u64 out[1]);
 
-enum { BYTES = 8192, ROWS = 512, SIZE = 200, RECORD = 58, SLOTS = 60, MOST = 64 };
+enum { BYTES = 8192, ROWS = 512, SIZE = 200, RECORD = 58, SLOTS = 60, MOST = 200 };
 #define BASE 0x100000000u
 #define TYPES (BASE + 0x40000000ull)
 #define NOWHERE 0x777777000000u
-static u8 image[ROWS * (SIZE + 9)], types[4 * ROWS];
+static u8 image[(ROWS + MOST) * (SIZE + 9)], types[4 * ROWS];
 static size_t image_bytes, types_bytes, segment_numbers, room;
 static u64 segments[4 * (MOST + 4)], types_va, list[ROWS * RECORD];
 static u64 descriptors[MOST], out[8];
@@ -57,7 +58,7 @@ static u64 any(void) {
 }
 static u32 below(u64 n) { return n ? (u32)((any() >> 33) % n) : 0; }
 
-/* ---- what a job reads: `ROWS` rows, the image in the last segment */
+/* ---- what a job reads: `ROWS` rows, the image in the last segment, or in as many pieces, with neighbouring rows in different ones */
 
 #define CLASS_WITH_ALL_BLOCKS 0xe04900b0u
 static u32 flags_for(char rows) {
@@ -71,20 +72,23 @@ static u32 flags_for(char rows) {
     return (r < 5 ? 0x51 : r < 8 ? 0x80000050 | below(2) << 30 : 0x52) | below(4) / 3 << 7;
 }
 
-static void make_rows(char rows, int count) {
+static void make_rows(char job, char rows, int count) {
     state = 88172645463325252u;
+    int pieces = job == 'P' ? count : 1, each = (ROWS + pieces - 1) / pieces;
+    u64 bytes = (u64)each * (SIZE + 9), apart = 0x100000;
     for (int i = 0; i < ROWS; i++) {
-        size_t at = i * SIZE, text = ROWS * SIZE + 9 * i;
+        u64 start = bytes * (i % pieces), at = start + i / pieces * SIZE, text = start + each * SIZE + i / pieces * 9;
         u32 flags = flags_of[i] = flags_for(rows);
         put(at, flags, 4), put(at + 8, text - (at + 8), 4);
         if (flags == CLASS_WITH_ALL_BLOCKS) put(at + 28, 1, 4);
         memset(image + text, 'a' + i % 26, 8);
-        u32 to = (u32)(BASE + at - (TYPES + 4 * i));
+        u64 address = job == 'W' ? BASE + 0x38000000 : BASE + apart * (i % pieces) + (at - start);
+        u32 to = (u32)(address - (TYPES + 4 * i));
         memcpy(types + 4 * i, &to, 4);
     }
-    segment(0, BASE, 0, 0);
-    for (int i = 2; i < count; i++) segment(BASE + 0x10000000ull * i, 0x100000, 0, 0x100000);
-    segment(BASE, sizeof image, 0, sizeof image);
+    if (pieces == 1) segment(0, BASE, 0, 0);
+    for (int i = 2; pieces == 1 && i < count; i++) segment(BASE + 0x100000000ull * i, apart, 0, apart);
+    for (int i = 0; i < pieces; i++) segment(BASE + apart * i, bytes, bytes * i, bytes);
     image_bytes = sizeof image, types_bytes = sizeof types, types_va = TYPES, room = ROWS * RECORD;
 }
 
@@ -95,6 +99,8 @@ static long pass(const char *job) {
     long calls = ROWS;
     u64 name = job[1] == '-' ? NOWHERE : BASE + ROWS * SIZE, six[6] = {BASE, 0, name, name, name, name};
     switch (job[0]) {
+    case 'W': hodrupec_next_row(I, T, 0, out); break;
+    case 'P':
     case 'R': hodrupec_full_rows(I, T, 0, list, room, out); break;
     case 'K': for (int i = 0; i < ROWS; i++) hodrupec_block_of_kind(I, BASE + i * SIZE, flags_of[i], 10, out); break;
     case 'N':
@@ -259,12 +265,12 @@ static void answers(u64 seed, long rounds) {
     for (Told *t = told; t->name; t++) printf("%s %" PRIu64 " %" PRIu64 " %016" PRIx64 " %d\n", t->name, t->calls, t->there, t->answers, t->stack);
 }
 
-/* A job: what is called (R rows with all blocks, K the block of the last kind, N each step over blocks, D S F names), on which rows (a classes with
-   all blocks, c and s classes and structs without one, v classes with a vtable, m a mixture; of a name + in the image, - nowhere), and in how
-   many segments, as in Ra4. */
+/* A job: what is called (R rows with all blocks, P the same with the rows spread over all segments, K the block of the last kind, N each step over
+   blocks, D S F names, W the next row where no slot leads anywhere), on which rows (a classes with all blocks, c and s classes and structs without one,
+   v classes with a vtable, m a mixture; of a name + in the image, - nowhere), and in how many segments, as in Ra4. */
 int main(int count, char **words) {
     if (count == 4) stacks = !strcmp(words[1], "answers-and-stacks"), answers(strtoull(words[2], 0, 10), atol(words[3]));
-    else if (count == 3 && strlen(words[1]) > 2 && atoi(words[1] + 2) <= MOST) make_rows(words[1][1], atoi(words[1] + 2)), time_job(words[1], atof(words[2]));
+    else if (count == 3 && strlen(words[1]) > 2 && atoi(words[1] + 2) <= MOST) make_rows(words[1][0], words[1][1], atoi(words[1] + 2)), time_job(words[1], atof(words[2]));
     else return 2;
     return 0;
 }

@@ -15,7 +15,7 @@ import sys
 import tempfile
 
 TOOLS = pathlib.Path(__file__).resolve().parent
-ARCHIVES = ("full_rows", "block_of_kind", "blocks", "bodies", "fields")
+ARCHIVES = ("full_rows", "block_of_kind", "blocks", "bodies", "fields", "rows")
 PLACES = 4
 
 
