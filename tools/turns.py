@@ -3,10 +3,10 @@
 
 usage: tools/turns.py OLD NEW answers SEED ROUNDS [stack]  every status, number and list; how deep the calls write the stack
        tools/turns.py OLD NEW count JOB...                 instructions of a pass over 512 rows, by valgrind
-       tools/turns.py OLD NEW time SECONDS TURNS JOB...    nanoseconds of a call: medians, lowest and highest, ratio; at four places of the program
+       tools/turns.py OLD NEW time SECONDS TURNS JOB...    nanoseconds of a call, row or slot: medians, lowest and highest, ratio; at four places of the program
 
 OLD and NEW are checkouts whose target/staticlib has the archives that scripts/archives builds. tools/turns.c says what a JOB is. Where a call stands
-in the program, its time changes by up to a third on some processors: so each build is linked four times, 16 bytes further on each time.
+in the program, its time may change by half and more: so each build is linked four times, 16 bytes further on each time.
 """
 import pathlib
 import statistics
@@ -20,7 +20,7 @@ PLACES = 4
 
 
 def link(folder, checkout, name, place):
-    """The program over a checkout's archives, with the calls of its first archive so many times 16 bytes further on."""
+    """The program over a checkout's archives, with their calls so many times 16 bytes further on."""
     made, pad = folder / f"{name}{place}", folder / f"pad{place}.s"
     pad.write_text(f'.section .note.GNU-stack,"",@progbits\n.text\n.p2align 6\n.skip {16 * place + 1}, 0x90\n')
     archives = [pathlib.Path(checkout) / "target" / "staticlib" / f"libc_{archive}.a" for archive in ARCHIVES]
